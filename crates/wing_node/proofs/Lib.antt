@@ -1,0 +1,15 @@
+pub mod Below
+pub mod Numbers
+pub mod Signs
+pub mod Placed
+pub mod Rows
+pub mod Fronts
+pub mod LeadBytes
+pub mod Chars
+pub mod Grammar
+pub mod Spelled
+pub mod Arrays
+pub mod Answers
+pub mod Cases
+pub mod Fields
+pub mod Eight

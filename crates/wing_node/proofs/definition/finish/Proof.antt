@@ -1,0 +1,16 @@
+use borrow.Author.Tests.{eq-eqb, ne-eqb}
+use Rattle.wing_node.proofs.definition.finish.Statement.{statement}
+use Rattle.wing_node.proofs.definition.finish.Tie as tie
+use Rattle.wing_node.proofs.definition.finish.Reads as reads
+use Rattle.wing_node.proofs.definition.finish.Lts as lts
+
+-- src/definition.rt:246:9
+returns : tie.Need-returns
+returns c = simp (ne-eqb _ _ (c .if1 .taken))
+
+-- src/definition.rt:242:1
+returns-2 : tie.Need-returns-2
+returns-2 c = simp (eq-eqb _ _ (c .if1 .left))
+
+pub finish-spec : {M : Type 1} → statement M
+finish-spec = tie.close (tie.spec returns returns-2)

@@ -1,0 +1,31 @@
+use Rattle.wing_node.specs.Cursor.{reads, after}
+use Rattle.wing_node.specs.Definition.{itemAt}
+use borrow.Author.Needs.{needs}
+use Rattle.wing_node.proofs.definition.float_item.Statement.{statement}
+use Rattle.wing_node.proofs.definition.float_item.Tie as tie
+use Rattle.wing_node.proofs.definition.float_item.Reads as reads
+use Rattle.wing_node.proofs.definition.float_item.Lts as lts
+use Rattle.wing_node.proofs.cursor.read_32.Reads as read-32-reads
+use Rattle.wing_node.proofs.cursor.read_string.Reads as read-string-reads
+use Rattle.wing_node.proofs.definition.span_of.Reads as span-of-reads
+
+-- src/definition.rt:99:9
+read-32-requires : tie.Need-read-32-requires
+read-32-requires c κs = search needs
+
+-- src/definition.rt:101:9
+read-string-requires : tie.Need-read-string-requires
+read-string-requires c κs = search needs
+
+-- src/definition.rt:103:9
+span-of-requires : tie.Need-span-of-requires
+span-of-requires c κs = search needs
+
+-- src/definition.rt:96:1
+returns : tie.Need-returns
+unfolding itemAt reads after
+returns c = simp (c .before .before .before .before .read-32 .ensures, c .before .before .read-string .ensures, c .span-of .ensures)
+
+pub float-item-spec : {M : Type 1} → statement M
+float-item-spec =
+    tie.close (tie.spec read-32-requires read-string-requires span-of-requires returns)

@@ -1,0 +1,24 @@
+use Rattle.wing_node.specs.Definition.{listedAt}
+use borrow.Author.Needs.{needs}
+use Rattle.wing_node.proofs.definition.listed.Statement.{statement}
+use Rattle.wing_node.proofs.definition.listed.Tie as tie
+use Rattle.wing_node.proofs.definition.listed.Reads as reads
+use Rattle.wing_node.proofs.definition.listed.Lts as lts
+use Rattle.wing_node.proofs.cursor.read_16.Reads as read-16-reads
+use Rattle.wing_node.proofs.definition.past_items.Reads as past-items-reads
+
+-- src/definition.rt:194:9
+read-16-requires : tie.Need-read-16-requires
+read-16-requires c κs = search needs
+
+-- src/definition.rt:196:9
+past-items-requires : tie.Need-past-items-requires
+past-items-requires c κs = search needs
+
+-- src/definition.rt:191:1
+returns : tie.Need-returns
+unfolding listedAt
+returns c = simp (c .past-items .ensures, c .before .before .read-16 .ensures)
+
+pub listed-spec : {M : Type 1} → statement M
+listed-spec = tie.close (tie.spec read-16-requires past-items-requires returns)

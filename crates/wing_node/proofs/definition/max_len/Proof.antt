@@ -1,0 +1,20 @@
+use Rattle.wing_node.specs.Cursor.{reads, after}
+use Rattle.wing_node.specs.Definition.{detailsAt, times}
+use borrow.Author.Needs.{needs}
+use Rattle.wing_node.proofs.definition.max_len.Statement.{statement}
+use Rattle.wing_node.proofs.definition.max_len.Tie as tie
+use Rattle.wing_node.proofs.definition.max_len.Reads as reads
+use Rattle.wing_node.proofs.definition.max_len.Lts as lts
+use Rattle.wing_node.proofs.cursor.read_16.Reads as read-16-reads
+
+-- src/definition.rt:209:9
+read-16-requires : tie.Need-read-16-requires
+read-16-requires c κs = search needs
+
+-- src/definition.rt:206:1
+returns : tie.Need-returns
+unfolding detailsAt reads after times
+returns c = simp (c .before .read-16 .ensures)
+
+pub max-len-spec : {M : Type 1} → statement M
+max-len-spec = tie.close (tie.spec read-16-requires returns)

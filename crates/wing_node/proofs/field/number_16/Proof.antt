@@ -1,0 +1,25 @@
+use mathlib.Core.Path.{_≡_}
+use Prim.Native.Nat.{_+_, _*_}
+use native.Mathlib.Omega.{arith}
+use Rattle.wing_node.specs.Digits.{numberIn, numberFrom}
+use borrow.Author.Needs.{needs}
+use Rattle.wing_node.proofs.field.number_16.Statement.{statement}
+use Rattle.wing_node.proofs.field.number_16.Tie as tie
+use Rattle.wing_node.proofs.field.number_16.Reads as reads
+use Rattle.wing_node.proofs.field.number_16.Lts as lts
+
+-- src/field.rt:20:5
+mul-result : tie.Need-mul-result
+mul-result c = search needs
+
+-- src/field.rt:20:5
+add-result : tie.Need-add-result
+add-result c = search needs
+
+-- src/field.rt:17:1
+returns : tie.Need-returns
+unfolding numberIn numberFrom
+returns c = let first : 0 * 256 + c .args .a ≡ c .args .a = omega arith in rw first
+
+pub number-16-spec : {M : Type 1} → statement M
+number-16-spec = tie.close (tie.spec mul-result add-result returns)

@@ -1,0 +1,42 @@
+-- `field::of_i16` meets its contract. Assumes nothing.
+use mathlib.Core.Path.{refl}
+use native.Mathlib.Omega.{arith}
+use mir.Facts.{toZ-ofZ}
+use mir.Syntax.{w16}
+use Rattle.wing_node.proofs.Signs.{turned, bits-below, bits-above}
+use Rattle.wing_node.proofs.field.of_i16.Statement.{statement}
+use Rattle.wing_node.proofs.field.of_i16.Tie as tie
+
+cast-result : tie.Need-cast-result
+cast-result c =
+    let f = c .before .fits .x in
+    let t = rw (toZ-ofZ f) at (c .if1 .taken) in
+    rw (turned w16 refl (c .before .args .x) f t) (tt, record { fits = omega (arith, f .sfits) })
+
+sub-result : tie.Need-sub-result
+sub-result c =
+    let f = c .before .fits .x in
+    let t = rw (toZ-ofZ f) at (c .if1 .taken) in
+    rw (turned w16 refl (c .before .args .x) f t) (omega (arith, f .sfits))
+
+cast-result-2 : tie.Need-cast-result-2
+cast-result-2 c =
+    let f = c .before .fits .x in
+    let t = rw (toZ-ofZ f) at (c .if1 .left) in
+    let a = bits-above w16 refl (c .before .args .x) f t in
+    rw (toZ-ofZ f) (a .0, record { fits = a .2 })
+
+returns : tie.Need-returns
+returns c =
+    let f = c .before .fits .x in
+    let t = rw (toZ-ofZ f) at (c .if1 .taken) in
+    rw (turned w16 refl (c .before .args .x) f t) (bits-below w16 refl (c .before .args .x) f refl t)
+
+returns-2 : tie.Need-returns-2
+returns-2 c =
+    let f = c .before .fits .x in
+    let t = rw (toZ-ofZ f) at (c .if1 .left) in
+    rw (toZ-ofZ f) (bits-above w16 refl (c .before .args .x) f t .1)
+
+pub of-i16-spec : {M : Type 1} → statement M
+of-i16-spec = tie.close (tie.spec cast-result sub-result cast-result-2 returns returns-2)

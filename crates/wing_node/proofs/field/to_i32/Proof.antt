@@ -1,0 +1,30 @@
+-- `field::to_i32` meets its contract. Assumes nothing.
+use mathlib.Core.Path.{_≡_, refl}
+use Prim.Native.Nat.{_-_}
+use native.Mathlib.Omega.{arith}
+use borrow.Author.Needs.{needs}
+use mir.Syntax.{w32}
+use Rattle.wing_node.proofs.Signs.{reads}
+use Rattle.wing_node.proofs.field.to_i32.Statement.{statement}
+use Rattle.wing_node.proofs.field.to_i32.Tie as tie
+
+cast-result : tie.Need-cast-result
+cast-result c = search needs
+
+sub-result : tie.Need-sub-result
+sub-result c = search needs
+
+cast-result-2 : tie.Need-cast-result-2
+cast-result-2 c = search needs
+
+returns : tie.Need-returns
+returns c = reads w32 refl (c .before .args .u)
+
+returns-2 : tie.Need-returns-2
+returns-2 c =
+    let u = c .before .args .u in
+    let e : 4294967295 - (4294967295 - u) ≡ u = omega (arith, c .before .fits .u .fits) in
+    rw e (reads w32 refl u)
+
+pub to-i32-spec : {M : Type 1} → statement M
+to-i32-spec = tie.close (tie.spec cast-result sub-result cast-result-2 returns returns-2)

@@ -1,0 +1,89 @@
+use Prim.Native.Nat.{_<_, _+_}
+use mathlib.Core.Path.{refl, sym, _∙_}
+use native.Mathlib.Omega.{arith}
+use borrow.Author.Tests.{lt-ltb, le-ltb}
+use lib.ListN.{getD, drop-of-length-le}
+use Rattle.wing_node.specs.Utf8.{begins, charLength, firstThat}
+use Rattle.wing_node.proofs.Fronts.{begins-inside}
+use Rattle.wing_node.proofs.Chars.{char-at}
+use borrow.Author.Needs.{needs}
+use Rattle.wing_node.proofs.utf8.char_length.Statement.{statement}
+use Rattle.wing_node.proofs.utf8.char_length.Tie as tie
+
+shared-slice-read-lead : tie.Need-shared-slice-read-lead
+shared-slice-read-lead c = search needs
+
+lead-length-requires : tie.Need-lead-length-requires
+lead-length-requires c κs = search needs
+
+returns : tie.Need-returns
+returns c =
+    let s = c .before .before .before .before .before .args .s .now in
+    let i = c .before .before .before .before .before .args .i in
+    let h : getD s i 0 < 256 = omega (arith, c .before .before .shared-slice-known2 .given i) in
+    rw (char-at s i _ (c .before .before .before .if1 .taken) refl h, ← c .before .lead-length .ensures) (simp (lt-ltb _ _ (c .if2 .taken)))
+
+add-held : tie.Need-add-held
+add-held c = search needs
+
+second-low-requires : tie.Need-second-low-requires
+second-low-requires c κs = search needs
+
+second-high-requires : tie.Need-second-high-requires
+second-high-requires c κs = search needs
+
+held-requires : tie.Need-held-requires
+held-requires c κs = search needs
+
+add-tails : tie.Need-add-tails
+add-tails c =
+    omega (arith, begins-inside _ (c .before .before .before .before .before .before .before .before .before .args .s .now) (c .before .before .before .before .before .before .before .before .before .args .i + 1) (sym (c .before .held .ensures) ∙ c .if3 .taken))
+
+tails-requires : tie.Need-tails-requires
+tails-requires c κs = search needs
+
+returns-2 : tie.Need-returns-2
+returns-2 c =
+    let s = c .before .before .before .before .before .before .before .before .before .before .before .args .s .now in
+    let i = c .before .before .before .before .before .before .before .before .before .before .before .args .i in
+    let h : getD s i 0 < 256 = omega (arith, c .before .before .before .before .before .before .before .before .shared-slice-known2 .given i) in
+    let e = rw (c .before .before .before .before .before .second-low .ensures, c .before .before .before .before .second-high .ensures) at (c .before .before .before .held .ensures) in
+    rw (char-at s i _ (c .before .before .before .before .before .before .before .before .before .if1 .taken) refl h, ← c .before .before .before .before .before .before .before .lead-length .ensures) (simp (le-ltb _ _ (c .before .before .before .before .before .before .if2 .left), sym e ∙ c .before .before .if3 .taken, ← c .before .tails .ensures, c .if4 .taken))
+
+returns-3 : tie.Need-returns-3
+returns-3 c =
+    let s = c .before .before .before .before .before .before .before .before .before .before .before .args .s .now in
+    let i = c .before .before .before .before .before .before .before .before .before .before .before .args .i in
+    let h : getD s i 0 < 256 = omega (arith, c .before .before .before .before .before .before .before .before .shared-slice-known2 .given i) in
+    let e = rw (c .before .before .before .before .before .second-low .ensures, c .before .before .before .before .second-high .ensures) at (c .before .before .before .held .ensures) in
+    rw (char-at s i _ (c .before .before .before .before .before .before .before .before .before .if1 .taken) refl h, ← c .before .before .before .before .before .before .before .lead-length .ensures) (simp (le-ltb _ _ (c .before .before .before .before .before .before .if2 .left), sym e ∙ c .before .before .if3 .taken, ← c .before .tails .ensures, c .if4 .left))
+
+returns-4 : tie.Need-returns-4
+returns-4 c =
+    let s = c .before .before .before .before .before .before .before .before .before .args .s .now in
+    let i = c .before .before .before .before .before .before .before .before .before .args .i in
+    let h : getD s i 0 < 256 = omega (arith, c .before .before .before .before .before .before .shared-slice-known2 .given i) in
+    let e = rw (c .before .before .before .second-low .ensures, c .before .before .second-high .ensures) at (c .before .held .ensures) in
+    rw (char-at s i _ (c .before .before .before .before .before .before .before .if1 .taken) refl h, ← c .before .before .before .before .before .lead-length .ensures) (simp (le-ltb _ _ (c .before .before .before .before .if2 .left), sym e ∙ c .if3 .left))
+
+returns-5 : tie.Need-returns-5
+unfolding charLength firstThat begins
+returns-5 c = rw (drop-of-length-le _ (c .if1 .left))
+
+pub char-length-spec : {M : Type 1} → statement M
+char-length-spec =
+    tie.close
+    (tie.spec
+    shared-slice-read-lead
+    lead-length-requires
+    returns
+    add-held
+    second-low-requires
+    second-high-requires
+    held-requires
+    add-tails
+    tails-requires
+    returns-2
+    returns-3
+    returns-4
+    returns-5)

@@ -1,0 +1,29 @@
+use borrow.Author.Needs.{needs}
+use borrow.Author.Tests.{le-leb, lt-leb}
+use lib.ListN.{drop-of-length-le}
+use Rattle.wing_node.proofs.Fronts.{begins-at}
+use Rattle.wing_node.specs.Utf8.{holds, begins}
+use Rattle.wing_node.proofs.utf8.held.Statement.{statement}
+use Rattle.wing_node.proofs.utf8.held.Tie as tie
+
+shared-slice-read-if2 : tie.Need-shared-slice-read-if2
+shared-slice-read-if2 c = search needs
+
+shared-slice-read-result : tie.Need-shared-slice-read-result
+shared-slice-read-result c = search needs
+
+returns : tie.Need-returns
+unfolding holds
+returns c = rw (begins-at _ _ _ (c .before .before .before .if1 .taken)) (simp (le-leb _ _ (c .before .if2 .taken)))
+
+returns-2 : tie.Need-returns-2
+unfolding holds
+returns-2 c = rw (begins-at _ _ _ (c .before .before .if1 .taken)) (simp (lt-leb _ _ (c .if2 .left)))
+
+returns-3 : tie.Need-returns-3
+unfolding begins
+returns-3 c = rw (drop-of-length-le _ (c .if1 .left))
+
+pub held-spec : {M : Type 1} → statement M
+held-spec =
+    tie.close (tie.spec shared-slice-read-if2 shared-slice-read-result returns returns-2 returns-3)

@@ -1,0 +1,21 @@
+use borrow.Author.Tests.{eq-eqb, ne-eqb}
+use borrow.Author.Needs.{needs}
+use Rattle.wing_node.proofs.LeadBytes.{lead}
+use Rattle.wing_node.proofs.utf8.second_low.Statement.{statement}
+use Rattle.wing_node.proofs.utf8.second_low.Tie as tie
+
+returns : tie.Need-returns
+returns c = rw (← lead (c .before .args .lead) (search needs) .lowest) (simp (eq-eqb _ _ (c .if1 .taken)))
+
+returns-2 : tie.Need-returns-2
+returns-2 c =
+    rw (← lead (c .before .before .args .lead) (search needs) .lowest)
+    (simp (ne-eqb _ _ (c .before .if1 .left), eq-eqb _ _ (c .if2 .taken)))
+
+returns-3 : tie.Need-returns-3
+returns-3 c =
+    rw (← lead (c .before .before .args .lead) (search needs) .lowest)
+    (simp (ne-eqb _ _ (c .before .if1 .left), ne-eqb _ _ (c .if2 .left)))
+
+pub second-low-spec : {M : Type 1} → statement M
+second-low-spec = tie.close (tie.spec returns returns-2 returns-3)

@@ -1,0 +1,12 @@
+-- What writes into an array leave in it.
+use Prim.Native.Nat.{ℕ, _+_, _-_}
+use mathlib.Core.List.{List, _++_}
+use lib.ListN.{length, take, drop, replicate}
+
+-- d with s in the place of its elements from `from` on
+unfoldable pub placed : List ℕ → ℕ → List ℕ → List ℕ
+placed d from s = take from d ++ (s ++ drop (from + length s) d)
+
+-- d with zeros from `from` on
+unfoldable pub zeroed : List ℕ → ℕ → List ℕ
+zeroed d from = take from d ++ replicate (length d - from) 0

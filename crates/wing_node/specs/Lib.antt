@@ -1,0 +1,11 @@
+pub mod Bool
+pub mod Digits
+pub mod Bytes
+pub mod Signed
+pub mod Field
+pub mod Utf8
+pub mod Decimal
+pub mod Value
+pub mod Cursor
+pub mod Types
+pub mod Definition

@@ -1,0 +1,7 @@
+// The node library: what a node's bytes say.
+pub mod cursor;
+pub mod definition;
+pub mod field;
+pub mod node_type;
+pub mod utf8;
+pub mod value;

@@ -1,0 +1,115 @@
+// UTF-8 (RFC 3629): whether lent bytes are whole characters, one after the other.
+// 01: "a lead byte's class is its count of leading one bits".
+ghost use mathlib.Core.Path.{_≡_};
+ghost use mathlib.Core.List.{_∷_, []};
+ghost use lib.ListN.{drop, replicate};
+ghost use Rattle.wing_node.specs.Utf8.{_to_, tail, begins, leadLength, second, charLength, utf8, Octets, Decides};
+
+// The length of the sequence that a lead byte begins, 0 where it begins none.
+// Its leading one bits are the leading zeros of 255 minus it. C0 and C1 would begin a character that one byte holds, F5 to F7 one past U+10FFFF.
+fn lead_length(lead: u8) -> usize
+    ensures { λ r. ⌜ r ≡ leadLength lead ⌝ }
+{
+    let ones = u8::leading_zeros(255 - lead);
+    match ones {
+        0 => 1,
+        2 => if lead < 0xc2 { 0 } else { 2 },
+        3 => 3,
+        4 => if lead < 0xf5 { 4 } else { 0 },
+        _ => 0,
+    }
+}
+
+// After E0 and F0 a lower second byte would spell a character that a shorter sequence holds.
+fn second_low(lead: u8) -> u8
+    ensures { λ r. ⌜ r ≡ second lead .low ⌝ }
+{
+    if lead == 0xe0 {
+        return 0xa0;
+    }
+    if lead == 0xf0 {
+        return 0x90;
+    }
+    0x80
+}
+
+// After ED a higher second byte would spell a surrogate, after F4 a character past U+10FFFF.
+fn second_high(lead: u8) -> u8
+    ensures { λ r. ⌜ r ≡ second lead .high ⌝ }
+{
+    if lead == 0xed {
+        return 0x9f;
+    }
+    if lead == 0xf4 {
+        return 0x8f;
+    }
+    0xbf
+}
+
+// Whether a byte from low to high stands at i.
+fn held(s: &[u8], i: usize, low: u8, high: u8) -> bool
+    ensures { λ r. ⌜ r ≡ begins ((low to high) ∷ []) (drop i (now (s .entry))) ⌝ }
+{
+    if i < s.len() {
+        if low <= s[i] {
+            return s[i] <= high;
+        }
+    }
+    false
+}
+
+// Whether n tail bytes stand at i.
+fn tails(s: &[u8], i: usize, n: usize) -> bool
+    ensures { λ r. ⌜ r ≡ begins (replicate n tail) (drop i (now (s .entry))) ⌝ }
+{
+    let mut at = i;
+    let mut left = n;
+    while left > 0 {
+        if held(s, at, 0x80, 0xbf) {
+            at += 1;
+            left -= 1;
+        } else {
+            return false;
+        }
+    }
+    true
+}
+
+// The length of the character at i, 0 where none stands there.
+fn char_length(s: &[u8], i: usize) -> usize
+    ensures { λ r. ⌜ r ≡ charLength (drop i (now (s .entry))) ⌝ }
+{
+    if i < s.len() {
+        let lead = s[i];
+        let length = lead_length(lead);
+        if length < 2 {
+            return length;
+        }
+        if held(s, i + 1, second_low(lead), second_high(lead)) {
+            if tails(s, i + 2, length - 2) {
+                return length;
+            }
+        }
+    }
+    0
+}
+
+pub fn is_utf8(s: &[u8]) -> bool
+    ensures { λ r. ⌜ r ≡ utf8 (now (s .entry)) ⌝ }
+    ensures { λ r. ⌜ Decides r (Octets (now (s .entry))) ⌝ }
+{
+    let mut i = 0;
+    while i < s.len() {
+        // ASCII, the common case, is passed without a call.
+        if s[i] < 0x80 {
+            i += 1;
+        } else {
+            let length = char_length(s, i);
+            if length == 0 {
+                return false;
+            }
+            i += length;
+        }
+    }
+    true
+}

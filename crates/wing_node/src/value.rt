@@ -1,0 +1,129 @@
+// Node values and their getters (libwing's WingNodeData).
+ghost use mathlib.Core.Path.{_≡_};
+ghost use Prim.Native.Nat.{_+_, _≤_};
+ghost use lib.ListN.{length, take};
+ghost use lib.IntN.{natAbs};
+ghost use Rattle.wing_node.specs.Bytes.{placed, zeroed};
+ghost use Rattle.wing_node.specs.Decimal.{digits, lastDigits};
+ghost use Rattle.wing_node.specs.Decimal.{decimal as decimalOf};
+ghost use Rattle.wing_node.specs.Value.{meant, intIn, stringIn, answerOf, some};
+
+// A node's value. A string's bytes stand beside it, in an array of 256; the number is its length.
+pub enum Value {
+    Integer(i32),
+    Float(u32),
+    String(u16),
+}
+
+// What the string getter gives: no string, or one of this length in the array beside.
+pub enum StringAnswer {
+    None,
+    String(u16),
+}
+
+pub struct StringRead {
+    pub answer: StringAnswer,
+    pub bytes: [u8; 256],
+}
+
+pub fn get_int(v: Value) -> i32
+    ensures { λ r. ⌜ r ≡ intIn v ⌝ }
+{
+    match v {
+        Value::Integer(x) => x,
+        Value::Float(_) => 0,
+        Value::String(_) => 0,
+    }
+}
+
+pub fn get_string(v: Value, bytes: [u8; 256]) -> StringRead
+    ensures { λ r. ⌜ r ≡ answerOf (stringIn (meant v bytes)) ⌝ }
+{
+    match v {
+        Value::Integer(x) => decimal(x),
+        Value::Float(_) => StringRead {
+            answer: StringAnswer::None,
+            bytes: [0u8; 256],
+        },
+        Value::String(n) => first(n, bytes),
+    }
+}
+
+// The first n of the bytes, or all where n is over 256; what stood past them is not given.
+fn first(n: u16, bytes: [u8; 256]) -> StringRead
+    ensures { λ r. ⌜ r ≡ answerOf (some (take n bytes)) ⌝ }
+{
+    let mut kept = bytes;
+    zero_from(n as usize, &mut kept);
+    let len = if n < 256 { n } else { 256 };
+    StringRead {
+        answer: StringAnswer::String(len),
+        bytes: kept,
+    }
+}
+
+fn zero_from(from: usize, out: &mut [u8])
+    ensures { λ _. ⌜ now (out .exit) ≡ zeroed (now (out .entry)) from ⌝ }
+{
+    let mut i = from;
+    while i < out.len() {
+        out[i] = 0;
+        i += 1;
+    }
+}
+
+// The decimal of x, at most eleven bytes: a minus sign and ten digits.
+fn decimal(x: i32) -> StringRead
+    ensures { λ r. ⌜ r ≡ answerOf (some (decimalOf x)) ⌝ }
+{
+    let n = magnitude(x);
+    let k = places(n);
+    let mut bytes = [0u8; 256];
+    if x < 0 {
+        bytes[0] = 0x2d;
+        put_digits(n, 1, k, &mut bytes);
+        return StringRead {
+            answer: StringAnswer::String(k as u16 + 1),
+            bytes,
+        };
+    }
+    put_digits(n, 0, k, &mut bytes);
+    StringRead {
+        answer: StringAnswer::String(k as u16),
+        bytes,
+    }
+}
+
+// x without its sign; that of the least i32 is no i32, so by its bits.
+fn magnitude(x: i32) -> u32
+    ensures { λ r. ⌜ r ≡ natAbs x ⌝ }
+{
+    if x < 0 { (!x) as u32 + 1 } else { x as u32 }
+}
+
+// How many digits n has.
+fn places(n: u32) -> usize
+    ensures { λ r. ⌜ r ≡ length (digits n) ⌝ }
+{
+    let mut k = 1;
+    let mut rest = n;
+    while rest >= 10 {
+        rest /= 10;
+        k += 1;
+    }
+    k
+}
+
+// Puts the last k digits of n into out, the first of them at `from`.
+fn put_digits(n: u32, from: usize, k: usize, out: &mut [u8])
+    requires { ⌜ from + k ≤ length (now out) ⌝ }
+    ensures { λ _. ⌜ now (out .exit) ≡ placed (now (out .entry)) from (lastDigits k n) ⌝ }
+{
+    let mut i = k;
+    let mut rest = n;
+    while i > 0 {
+        i -= 1;
+        out[from + i] = 0x30 + (rest % 10) as u8;
+        rest /= 10;
+    }
+}
