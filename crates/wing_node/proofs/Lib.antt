@@ -13,3 +13,7 @@ pub mod Answers
 pub mod Cases
 pub mod Fields
 pub mod Eight
+pub mod Round
+pub mod Whole
+pub mod Flags
+pub mod Anew

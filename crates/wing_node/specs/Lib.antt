@@ -9,3 +9,5 @@ pub mod Value
 pub mod Cursor
 pub mod Types
 pub mod Definition
+pub mod Laid
+pub mod Items

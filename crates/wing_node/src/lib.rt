@@ -2,6 +2,7 @@
 pub mod cursor;
 pub mod definition;
 pub mod field;
+pub mod items;
 pub mod node_type;
 pub mod utf8;
 pub mod value;

@@ -1,0 +1,57 @@
+-- Fields laid in bytes, and the two facts that tie this to reading: what is laid reads back, and what was read is laid anew as it was.
+use Prim.Native.Nat.{ℕ, zero, suc, _+_, _/_, _%_, _<_}
+use mathlib.Core.Path.{_≡_}
+use mathlib.Core.Bool.{Bool, true}
+use mathlib.Core.List.{List, [], _∷_, _++_}
+use lib.ListN.{length, take, drop}
+use Rattle.wing_node.specs.Utf8.{utf8}
+use Rattle.wing_node.specs.Field.{big, bytesOf}
+use Rattle.wing_node.specs.Cursor.{Field, number, string, content, begins, from, cursor, fieldRead, readAt}
+use Rattle.wing_node.specs.declared.cursor.Cursor.{Cursor}
+use Rattle.wing_node.specs.declared.cursor.FieldRead.{FieldRead}
+
+-- the bytes of a field that holds v
+unfoldable pub laid : Field → List ℕ → List ℕ
+laid (number w) v = v
+laid string v = length v ∷ v
+
+unfoldable pub laidAll : List Field → List (List ℕ) → List ℕ
+laidAll [] vs = []
+laidAll (f ∷ fs) [] = []
+laidAll (f ∷ fs) (v ∷ vs) = laid f v ++ laidAll fs vs
+
+-- a field can hold v
+abbrev pub Fits : Field → List ℕ → Type 0
+Fits (number w) v = length v ≡ w
+Fits string v = utf8 v ≡ true
+
+pub data FitsAll : List Field → List (List ℕ) → Type 0 where
+  none : FitsAll [] []
+  more : {f : Field} {v : List ℕ} {fs : List Field} {vs : List (List ℕ)} → Fits f v → FitsAll fs vs → FitsAll (f ∷ fs) (v ∷ vs)
+
+-- its number
+unfoldable pub numberOf : Field → List ℕ → ℕ
+numberOf (number w) v = big v
+numberOf string v = length v
+
+-- what fields that hold vs read as, from a place on
+unfoldable pub readings : List Field → List (List ℕ) → ℕ → List FieldRead
+readings [] vs at = []
+readings (f ∷ fs) [] at = []
+readings (f ∷ fs) (v ∷ vs) at =
+    fieldRead (numberOf f v) (begins f at) (cursor (at + length (laid f v)) 0) ∷ readings fs vs (at + length (laid f v))
+
+-- what fields hold in a body
+unfoldable pub contents : List Field → List ℕ → Cursor → List (List ℕ)
+contents [] body c = []
+contents (f ∷ fs) body c = content f (from body c) ∷ contents fs body (readAt f body c .next)
+
+-- what a field that was read held, from what the reading says: a number's bytes, a string's place and length
+abbrev pub held : List ℕ → Field → FieldRead → List ℕ
+held body (number w) r = bytesOf w (r .value)
+held body string r = take (r .value) (drop (r .start) body)
+
+abbrev pub heldAll : List ℕ → List Field → List FieldRead → List (List ℕ)
+heldAll body [] rs = []
+heldAll body (f ∷ fs) [] = []
+heldAll body (f ∷ fs) (r ∷ rs) = held body f r ∷ heldAll body fs rs

@@ -1,0 +1,130 @@
+// The items of a definition, one after the other or by number, on a plain slice with numbers.
+ghost use mathlib.Core.Path.{_≡_};
+ghost use Rattle.wing_node.specs.Items.{walk, walkFrom, beginOf, stayed, stepAt, numberedFrom, itemNumbered};
+use crate::cursor::Cursor;
+use crate::definition::Details;
+use crate::definition::Item;
+use crate::definition::Parsed;
+use crate::definition::from_bytes;
+use crate::definition::past_items;
+use crate::definition::read_item;
+use crate::node_type::NodeType;
+use crate::node_type::has_items;
+
+// Where a walk over the items stands: the place reached, the items left and the type.
+pub struct Walk {
+    pub at: usize,
+    pub left: u16,
+    pub kind: NodeType,
+}
+
+// A walk at the first item, or the parser's 4 or 5.
+pub enum Begun {
+    Good(Walk),
+    Refused(u8),
+}
+
+pub struct Step {
+    pub item: Item,
+    pub next: Walk,
+}
+
+fn walk_of(at: usize, left: u16, kind: NodeType) -> Walk
+    ensures { λ r. ⌜ r ≡ walk at left kind ⌝ }
+{
+    Walk {
+        at: at,
+        left: left,
+        kind: kind,
+    }
+}
+
+fn first_of(kind: NodeType, details: Details) -> Walk
+    ensures { λ r. ⌜ r ≡ walkFrom kind details ⌝ }
+{
+    match details {
+        Details::Items { count, first } => walk_of(first, count, kind),
+        Details::None => walk_of(0, 0, kind),
+        Details::Floats {
+            min: _,
+            max: _,
+            steps: _,
+        } => walk_of(0, 0, kind),
+        Details::Integers { min: _, max: _ } => walk_of(0, 0, kind),
+        Details::String { max_len: _ } => walk_of(0, 0, kind),
+    }
+}
+
+pub fn items_begin(body: &[u8]) -> Begun
+    ensures { λ r. ⌜ r ≡ beginOf (now (body .entry)) ⌝ }
+{
+    let parsed = from_bytes(body);
+    match parsed {
+        Parsed::Good(d) => {
+            let kind = d.node_type;
+            let details = d.details;
+            let first = first_of(kind, details);
+            Begun::Good(first)
+        }
+        Parsed::Refused(why) => Begun::Refused(why),
+    }
+}
+
+fn stay(item: Item, at: usize, left: u16, kind: NodeType) -> Step
+    ensures { λ r. ⌜ r ≡ stayed item at left kind ⌝ }
+{
+    Step {
+        item: item,
+        next: Walk {
+            at: at,
+            left: left,
+            kind: kind,
+        },
+    }
+}
+
+// The item at a place, with where the walk then stands. A refused step leaves the walk as it was.
+pub fn item_step(body: &[u8], at: usize, left: u16, kind: NodeType) -> Step
+    ensures { λ r. ⌜ r ≡ stepAt (now (body .entry)) at left kind ⌝ }
+{
+    if left == 0 {
+        return stay(Item::None, at, left, kind);
+    }
+    if has_items(kind) {
+        let read = read_item(body, kind, Cursor { at: at, refused: 0 });
+        let next = read.next;
+        let refused = next.refused;
+        if refused != 0 {
+            return stay(Item::Refused(refused), at, left, kind);
+        }
+        let item = read.item;
+        return stay(item, next.at, left - 1, kind);
+    }
+    stay(Item::None, at, left, kind)
+}
+
+fn numbered(body: &[u8], number: usize, first: Walk) -> Item
+    ensures { λ r. ⌜ r ≡ numberedFrom (now (body .entry)) number first ⌝ }
+{
+    let at = first.at;
+    let left = first.left;
+    let kind = first.kind;
+    if left as usize <= number {
+        return Item::Refused(14);
+    }
+    let before = number as u16;
+    let c = past_items(body, kind, before, Cursor { at: at, refused: 0 });
+    let there = item_step(body, c.at, left - before, kind);
+    there.item
+}
+
+// The item of a number, from 0. A body that the parser refuses gives its 4 or 5 before 14.
+pub fn item_by_number(body: &[u8], number: usize) -> Item
+    ensures { λ r. ⌜ r ≡ itemNumbered (now (body .entry)) number ⌝ }
+{
+    let begun = items_begin(body);
+    match begun {
+        Begun::Good(first) => numbered(body, number, first),
+        Begun::Refused(why) => Item::Refused(why),
+    }
+}
