@@ -3,14 +3,16 @@
 use mathlib.Core.Path.{_≡_, refl, _∙_, ap, sym}
 use mathlib.Core.Bool.{Bool, true, false}
 use mathlib.Core.List.{List, [], _∷_, _++_, append-assoc}
-use Prim.Native.Nat.{ℕ, suc, _+_, _-_, _*_, _≤_, _<_}
+use Prim.Native.Nat.{ℕ, suc, _+_, _-_, _*_, _^_, _≤_, _<_}
 use native.Mathlib.Omega.{arith}
 use native.Mathlib.Numerals.{add-one}
-use lib.ListN.{length, take, drop, getD, set}
-use lib.Seq.{drop-cons, sets, sets-eq}
-use borrow.Author.Tests.{lt-ltb, le-ltb}
+use lib.Dec.{ltb}
+use lib.ListN.{length, take, drop, getD, set, length-append, length-drop, take-append-drop}
+use lib.Seq.{drop-cons, sets, sets-eq, drop-at, drop-drop, length-take-le, take-append-seam}
+use borrow.Author.Tests.{lt-ltb, le-ltb, ltb-false}
 use Rattle.wing_node.specs.Bytes.{placed}
-use Rattle.wing_node.specs.Field.{big, fieldAt, put, putAt}
+use Rattle.wing_node.specs.Field.{big, bytesOf, fieldAt, put, putAt}
+use Rattle.wing_node.proofs.Numbers.{Digits, digits-take, digits-drop, digits-number, number-digits, length-digitsIn}
 
 module _ (w : ℕ) (s : List ℕ) (at : ℕ) where
   pub field-short : length s - at < w → fieldAt w s at ≡ 0
@@ -55,3 +57,40 @@ stores-four a b c d at s h =
     let two : at + 2 ≡ suc (suc at) = omega arith in
     let three : at + 3 ≡ suc (suc (suc at)) = omega arith in
     sym (put-whole (a ∷ b ∷ c ∷ d ∷ []) at s (omega arith) h ∙ rw (one, two, three))
+
+-- the bytes written from a place on, read from there
+placed-read : (s : List ℕ) (at : ℕ) (bs : List ℕ) → at ≤ length s → take (length bs) (drop at (placed s at bs)) ≡ bs
+unfolding placed
+placed-read s at bs h =
+    rw (drop-at (take at s) (bs ++ drop (at + length bs) s) at (length-take-le at s h)) (take-append-seam bs (drop (at + length bs) s))
+
+placed-length : (s : List ℕ) (at : ℕ) (bs : List ℕ) → at + length bs ≤ length s → length (placed s at bs) ≡ length s
+unfolding placed
+placed-length s at bs h = simp (length-append, length-take-le at s (omega arith), length-drop) (omega arith)
+
+-- a field that was written reads as the number that was written, at any width
+pub field-put : (w n at : ℕ) (s : List ℕ) → 0 < w → n < 256 ^ w → w ≤ length s - at → fieldAt w (putAt (bytesOf w n) at s .bytes) at ≡ n
+unfolding putAt
+field-put w n at s some below room =
+    let wide : length (bytesOf w n) ≡ w = length-digitsIn 256 w n in
+    let there : length s - at < length (bytesOf w n) → ⊥ = λ h. omega arith in
+    let long : length (placed s at (bytesOf w n)) ≡ length s = placed-length s at (bytesOf w n) (omega arith) in
+    rw (le-ltb (length s - at) (length (bytesOf w n)) (omega arith))
+    (field-whole w (placed s at (bytesOf w n)) at (omega arith) ∙
+    ap big (rw wide at (placed-read s at (bytesOf w n) (omega arith))) ∙ number-digits 256 w n (omega arith) below)
+
+-- bytes that were read as a number are that number's: writing it anew leaves them as they were
+pub put-field : (w at : ℕ) (s : List ℕ) → Digits 256 s → putAt (bytesOf w (fieldAt w s at)) at s .bytes ≡ s
+unfolding putAt placed
+put-field w at s b = go (ltb (length s - at) w) refl
+  where
+    wide : (n : ℕ) → length (bytesOf w n) ≡ w
+    wide n = length-digitsIn 256 w n
+
+    go : (q : Bool) → ltb (length s - at) w ≡ q → putAt (bytesOf w (fieldAt w s at)) at s .bytes ≡ s
+    go true e = rw (wide (fieldAt w s at), e)
+    go false e =
+        let room : w ≤ length s - at = ltb-false (length s - at) w e in
+        let read : bytesOf w (fieldAt w s at) ≡ take w (drop at s) =
+        ap (bytesOf w) (field-whole w s at room) ∙ digits-number 256 w (take w (drop at s)) (length-take-le w (drop at s) (omega (arith, length-drop at s))) (digits-take 256 w (drop at s) (digits-drop 256 at s b)) in
+        rw (wide (fieldAt w s at), e, read, ← drop-drop w at s, take-append-drop w (drop at s), take-append-drop at s)

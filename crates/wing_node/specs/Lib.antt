@@ -11,3 +11,4 @@ pub mod Types
 pub mod Definition
 pub mod Laid
 pub mod Items
+pub mod Cases

@@ -1,0 +1,62 @@
+use Prim.Native.Nat.{_≤_, _-_}
+use lib.ListN.{length}
+use borrow.Author.Needs.{needs}
+use Rattle.node_cases.proofs.definitions.cuts.Statement.{statement}
+use Rattle.node_cases.proofs.definitions.cuts.Tie as tie
+
+abbrev Inv-loop : tie.InvT-loop
+Inv-loop body r₀ len₀ r len = 0 ≤ len
+
+abbrev μ-loop : tie.MeasureT-loop
+μ-loop body r₀ len₀ r len = length body - len
+
+part-requires : tie.Need-part-requires Inv-loop μ-loop
+part-requires c κs = search needs
+
+refusal-requires : tie.Need-refusal-requires Inv-loop μ-loop
+refusal-requires c κs = search needs
+
+loop-holds : tie.Need-loop-holds Inv-loop μ-loop
+loop-holds c = search needs
+
+add-len : tie.Need-add-len Inv-loop μ-loop
+add-len c = search needs
+
+part-requires-2 : tie.Need-part-requires-2 Inv-loop μ-loop
+part-requires-2 c κs = search needs
+
+refusal-requires-2 : tie.Need-refusal-requires-2 Inv-loop μ-loop
+refusal-requires-2 c κs = search needs
+
+longer-requires : tie.Need-longer-requires Inv-loop μ-loop
+longer-requires c κs = search needs
+
+loop-less : tie.Need-loop-less Inv-loop μ-loop
+loop-less c = search needs
+
+loop-again : tie.Need-loop-again Inv-loop μ-loop
+loop-again c = search needs
+
+show-run-requires : tie.Need-show-run-requires Inv-loop μ-loop
+show-run-requires c κs = search needs
+
+returns : tie.Need-returns Inv-loop μ-loop
+returns c = search needs
+
+pub cuts-spec : {M : Type 1} → statement M
+cuts-spec =
+    tie.close
+    (tie.spec
+    Inv-loop
+    μ-loop
+    part-requires
+    refusal-requires
+    loop-holds
+    add-len
+    part-requires-2
+    refusal-requires-2
+    longer-requires
+    loop-less
+    loop-again
+    show-run-requires
+    returns)
