@@ -1,0 +1,17 @@
+pub mod Nine
+pub mod Columns
+pub mod Zeros
+pub mod Powers
+pub mod Underway
+pub mod Clears
+pub mod Turns
+pub mod Overs
+pub mod Pieces
+pub mod Steps
+pub mod Sound
+pub mod Ranges
+pub mod Handled
+pub mod Beside
+pub mod Few
+pub mod ByUnits
+pub mod Worked

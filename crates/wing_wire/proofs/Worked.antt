@@ -1,0 +1,27 @@
+-- The worked cases, one joint proof: the whole table is computed at once.
+use mathlib.Core.Path.{_≡_, refl}
+use mathlib.Core.List.{List, [], _∷_, map, List·Memᴰ, List·Memᴰ·not-nil, List·Memᴰ·head, List·Memᴰ·tail}
+use Rattle.wing_node.specs.Utf8.{holds, begins, firstThat, charLength, charsFrom, utf8}
+use Rattle.wing_wire.specs.Token.{ruleIn, ruleOf, widthOf}
+use Rattle.wing_wire.specs.State.{zeros, soundPending, soundEscape, soundCounts, storedBy, soundToken, soundState, freshState}
+use Rattle.wing_wire.specs.Escape.{otherOf, escapedOf, plainOf, decodeOf}
+use Rattle.wing_wire.specs.Unit.{singleOf, isString, tokenOf, beginOf, countOf, numberOf, numberUnit, stringDone, stringUnit, keeps, bodyDone, bodyNext, bodyUnit, unitOf}
+use Rattle.wing_wire.specs.Stream.{settleOf, firstOf, followOf, runOf, advanceOf}
+use Rattle.wing_wire.specs.Reader.{eventOf, stringBeside, bodyBeside, nextOf}
+use Rattle.wing_wire.specs.Units.{unitsOf}
+use Rattle.wing_wire.specs.Cases.{Case, gives, channelIs, reads, cases}
+
+-- what the definitions give in every case is what 01 wants
+pub worked : map (λ (c : Case). c .got) cases ≡ map (λ (c : Case). c .wanted) cases
+unfolding cases gives channelIs reads unitsOf nextOf eventOf stringBeside bodyBeside advanceOf runOf followOf firstOf settleOf unitOf bodyUnit bodyNext bodyDone keeps stringUnit stringDone numberUnit numberOf countOf beginOf tokenOf isString singleOf decodeOf plainOf escapedOf otherOf freshState soundState soundToken soundCounts storedBy soundEscape soundPending zeros widthOf ruleOf ruleIn utf8 charsFrom charLength firstThat begins holds
+worked = refl
+
+-- what holds of the whole table holds in each case
+pub each-of : (cs : List Case) (c : Case) → List·Memᴰ c cs → map (λ (c : Case). c .got) cs ≡ map (λ (c : Case). c .wanted) cs → c .got ≡ c .wanted
+each-of [] c m e = absurd (List·Memᴰ·not-nil m)
+each-of (x ∷ xs) c (List·Memᴰ·head p) e = let q : x .got ≡ x .wanted = cc in rw p q
+each-of (x ∷ xs) c (List·Memᴰ·tail m) e = each-of xs c m (cc)
+
+-- 01's cases, each
+pub each-worked : (c : Case) → List·Memᴰ c cases → c .got ≡ c .wanted
+each-worked c m = each-of cases c m worked

@@ -1,0 +1,89 @@
+use mathlib.Core.Path.{_≡_, refl, _∙_, ap, sym}
+use mathlib.Core.List.{List}
+use Prim.Native.Nat.{ℕ, _≤_, _<_, _-_, min}
+use native.Mathlib.Omega.{arith}
+use lib.ListN.{length, take, getD, set}
+use borrow.Author.Needs.{needs}
+use Rattle.wing_wire.specs.Reader.{over}
+use Rattle.wing_wire.proofs.Overs.{over-turn, length-over, over-least}
+use Rattle.wing_wire.proofs.reader.copy_front.Statement.{statement}
+use Rattle.wing_wire.proofs.reader.copy_front.Tie as tie
+use Rattle.wing_wire.proofs.reader.copy_front.Reads as reads
+use Rattle.wing_wire.proofs.reader.copy_front.Lts as lts
+use Rattle.wing_wire.proofs.reader.least.Reads as least-reads
+
+abbrev Inv-loop : tie.InvT-loop
+Inv-loop out₀ s n most i₀ out i = (i ≤ most) × (most ≡ min (min n (length s)) (length out₀)) × (out ≡ over (take i s) out₀)
+
+abbrev μ-loop : tie.MeasureT-loop
+μ-loop out₀ s n most i₀ out i = most - i
+
+-- src/reader.rt:32:22
+least-requires : tie.Need-least-requires Inv-loop μ-loop
+least-requires c κs = search needs
+
+-- src/reader.rt:32:9
+least-requires-2 : tie.Need-least-requires-2 Inv-loop μ-loop
+least-requires-2 c κs = search needs
+
+-- src/reader.rt:34:5
+loop-holds : tie.Need-loop-holds Inv-loop μ-loop
+loop-holds c = (omega arith, c .least2 .ensures ∙ ap (λ (k : ℕ). min k (length (c .before .before .before .before .args .out .now))) (c .before .least .ensures), refl)
+
+-- src/reader.rt:35:18
+shared-slice-read-out : tie.Need-shared-slice-read-out Inv-loop μ-loop
+shared-slice-read-out c = omega arith
+
+-- src/reader.rt:35:9
+slice-write-out : tie.Need-slice-write-out Inv-loop μ-loop
+slice-write-out c =
+    let l = c .before .before .loop in
+    let e : length (l .out) ≡ length (c .before .before .before .before .before .before .before .args .out .now) = ap length (l .inv .2) ∙ simp length-over in
+    omega arith
+
+-- src/reader.rt:36:9
+add-i : tie.Need-add-i Inv-loop μ-loop
+add-i c = omega arith
+
+-- src/reader.rt:34:5
+loop-less : tie.Need-loop-less Inv-loop μ-loop
+loop-less c = omega arith
+
+-- src/reader.rt:34:5
+loop-again : tie.Need-loop-again Inv-loop μ-loop
+loop-again c =
+    let l = c .before .before .loop in
+    let args = c .before .before .before .before .before .before .before .args in
+    let i = l .i in
+    let s = args .s .now in
+    let within : i < length s = omega arith in
+    (omega arith, l .inv .1, ap (λ (d : List ℕ). set d i (getD s i 0)) (l .inv .2) ∙ over-turn s (args .out .now) i within)
+
+-- src/reader.rt:29:1
+same-length : tie.Need-same-length Inv-loop μ-loop
+same-length c = ap length (c .before .loop .inv .2) ∙ simp length-over
+
+-- src/reader.rt:29:1
+returns : tie.Need-returns Inv-loop μ-loop
+returns c =
+    let l = c .before .loop in
+    let args = c .before .before .before .before .before .before .args in
+    let all : l .i ≡ min (min (args .n) (length (args .s .now))) (length (args .out .now)) = omega arith in
+    l .inv .2 ∙ ap (λ (k : ℕ). over (take k (args .s .now)) (args .out .now)) all ∙ over-least (args .n) (args .s .now) (args .out .now)
+
+pub copy-front-spec : {M : Type 1} → statement M
+copy-front-spec =
+    tie.close
+    (tie.spec
+    Inv-loop
+    μ-loop
+    least-requires
+    least-requires-2
+    loop-holds
+    shared-slice-read-out
+    slice-write-out
+    add-i
+    loop-less
+    loop-again
+    same-length
+    returns)

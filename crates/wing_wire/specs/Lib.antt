@@ -1,0 +1,9 @@
+pub mod Token
+pub mod State
+pub mod Escape
+pub mod Unit
+pub mod Stream
+pub mod Reader
+pub mod Range
+pub mod Units
+pub mod Cases

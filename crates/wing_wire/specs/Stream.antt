@@ -1,0 +1,132 @@
+-- Bytes one after the other: what each makes of the control and the store, up to the first answer and through all of them.
+use Prim.Native.Nat.{ℕ, _+_}
+use mathlib.Core.Bool.{Bool, true, false}
+use mathlib.Core.List.{List, [], _∷_}
+use lib.IntN.{ℤ}
+use Rattle.wing_node.specs.Bool.{if}
+use Rattle.wing_wire.specs.State.{escape, control}
+use Rattle.wing_wire.specs.Escape.{decodeOf}
+use Rattle.wing_wire.specs.Unit.{Out, cleared, unitOf}
+use Rattle.wing_wire.specs.declared.state.Pending.{Pending}
+use Rattle.wing_wire.specs.declared.state.Pending.the-variants.{None, Byte}
+use Rattle.wing_wire.specs.declared.state.Escape.{Escape}
+use Rattle.wing_wire.specs.declared.state.Control.{Control}
+use Rattle.wing_wire.specs.declared.escape.Unit.{Unit}
+use Rattle.wing_wire.specs.declared.escape.Unit.the-variants.{Nothing, Bare, Appended}
+use Rattle.wing_wire.specs.declared.unit.Answer.{Answer}
+use Rattle.wing_wire.specs.declared.unit.Answer.the-variants.{More, Integer, Float, String, Body, End, Refused}
+use Rattle.wing_wire.specs.declared.stream.Told.{Told}
+use Rattle.wing_wire.specs.declared.stream.Advanced.{Advanced}
+
+abbrev pub told : Answer → Control → Told
+told answer c = record { answer = answer; control = c }
+
+-- an answer, with the control and the store after it
+pub record Heard : Type 0 where
+  pub told : Told
+  pub store : List ℕ
+
+abbrev pub heard : Told → List ℕ → Heard
+heard t s = record { told = t; store = s }
+
+-- no answer yet
+abbrev pub quiet : Control → List ℕ → Heard
+quiet c s = heard (told More c) s
+
+abbrev pub isMore : Answer → Bool
+isMore More = true
+isMore (Integer x) = false
+isMore (Float bits) = false
+isMore (String n) = false
+isMore (Body n) = false
+isMore End = false
+isMore (Refused n) = false
+
+-- what a unit gave, with the escapes as they now are
+abbrev pub joined : Escape → Out → Heard
+joined e o = heard (told (o .taken .answer) (control e (o .taken .node) (o .taken .token))) (o .store)
+
+-- 01: a pending byte is the next unit and is appended to the body
+abbrev pub pendingOf : Pending → Control → List ℕ → Heard
+pendingOf None c s = quiet c s
+pendingOf (Byte u) c s = joined (escape (c .escape .escaped) (c .escape .channel) None) (unitOf (c .node) (c .token) s u true)
+
+unfoldable pub settleOf : Control → List ℕ → Heard
+settleOf c s = pendingOf (c .escape .pending) c s
+
+abbrev pub givenOf : Unit → Escape → Control → List ℕ → Heard
+givenOf Nothing e c s = quiet (control e (c .node) (c .token)) s
+givenOf (Bare u) e c s = joined e (unitOf (c .node) (c .token) s u false)
+givenOf (Appended u) e c s = joined e (unitOf (c .node) (c .token) s u true)
+
+-- the unit that a byte gives
+unfoldable pub firstOf : Control → List ℕ → ℕ → Heard
+firstOf c s b = givenOf (decodeOf (c .escape) b .unit) (decodeOf (c .escape) b .escape) c s
+
+-- after a unit that completes nothing comes the pending byte
+unfoldable pub followOf : Heard → Heard
+followOf h = if (isMore (h .told .answer)) (settleOf (h .told .control) (h .store)) h
+
+-- one byte
+abbrev pub stepOf : Control → List ℕ → ℕ → Heard
+stepOf c s b = followOf (firstOf c s b)
+
+-- what was heard, and the number of bytes taken
+pub record Run : Type 0 where
+  pub heard : Heard
+  pub taken : ℕ
+
+-- one byte more, unless there is an answer already
+abbrev pub onward : Run → ℕ → Run
+onward r b = if (isMore (r .heard .told .answer)) (record { heard = stepOf (r .heard .told .control) (r .heard .store) b; taken = r .taken + 1 }) r
+
+unfoldable pub runOf : Run → List ℕ → Run
+runOf r [] = r
+runOf r (b ∷ bs) = runOf (onward r b) bs
+
+-- 01: bytes up to the unit that completes an event or refusal; more only when all bytes are taken and nothing is pending
+unfoldable pub advanceOf : Control → List ℕ → List ℕ → Run
+advanceOf c s bytes = runOf (record { heard = settleOf c s; taken = 0 }) bytes
+
+abbrev pub run : Advanced → List ℕ → Run
+run r s = record { heard = heard (told (r .answer) (r .control)) s; taken = r .taken }
+
+-- the store once the bytes of an answer's string or body are given out
+abbrev pub released : Answer → List ℕ → List ℕ
+released More s = s
+released (Integer x) s = s
+released (Float bits) s = s
+released (String n) s = cleared n s
+released (Body n) s = cleared n s
+released End s = s
+released (Refused n) s = s
+
+-- ---- through every answer: each is handed, with the store that holds its bytes, to a handler
+
+pub record Fed (M : Type 0) : Type 0 where
+  pub control : Control
+  pub store : List ℕ
+  pub memo : M
+
+module _ {M : Type 0} (h : Answer → List ℕ → M → M) where
+  abbrev pub heed : Heard → M → Fed M
+  heed x m =
+      record {
+        control = x .told .control;
+        store = released (x .told .answer) (x .store);
+        memo = if (isMore (x .told .answer)) m (h (x .told .answer) (x .store) m);
+      }
+
+  -- the pending byte, if there is one
+  abbrev pub calm : Fed M → Fed M
+  calm x = heed (settleOf (x .control) (x .store)) (x .memo)
+
+  abbrev pub fedByte : Fed M → ℕ → Fed M
+  fedByte x b = calm (heed (firstOf (x .control) (x .store) b) (x .memo))
+
+  unfoldable pub fedFrom : Fed M → List ℕ → Fed M
+  fedFrom x [] = x
+  fedFrom x (b ∷ bs) = fedFrom (fedByte x b) bs
+
+  unfoldable pub feedOf : Fed M → List ℕ → Fed M
+  feedOf x bs = fedFrom (calm x) bs

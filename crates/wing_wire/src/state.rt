@@ -1,0 +1,238 @@
+// The receiving state (libwing's _WingConsoleMain without its socket and timers), by value.
+ghost use mathlib.Core.Path.{_≡_};
+ghost use Prim.Native.Nat.{_-_, _^_};
+ghost use lib.Dec.{ltb};
+ghost use lib.ListN.{drop};
+ghost use Rattle.wing_wire.specs.State.{freshControl, freshState, zeros, underway, storedBy};
+ghost use Rattle.wing_wire.specs.State.{soundPending, soundEscape, soundNumber, soundString, soundBody};
+ghost use Rattle.wing_wire.specs.State.{soundCounts, soundToken, soundState};
+use crate::token;
+use crate::token::Class;
+
+// A byte that waits to be the next unit.
+pub enum Pending {
+    None,
+    Byte(u8),
+}
+
+// What the escapes keep between bytes.
+pub struct Escape {
+    pub escaped: bool,
+    pub channel: i8,
+    pub pending: Pending,
+}
+
+// The token in progress, by the units that it still wants. A string's bytes, and those that a body's units
+// appended, stand at the front of the store.
+pub enum Token {
+    Between,
+    Number { class: Class, left: u16, value: u32 },
+    String { want: u16, left: u16 },
+    Body { want: u16, left: u16, stored: u16 },
+}
+
+// The state without its store.
+pub struct Control {
+    pub escape: Escape,
+    pub node: i32,
+    pub token: Token,
+}
+
+pub struct State {
+    pub control: Control,
+    pub store: [u8; 4096],
+}
+
+impl Control {
+    pub fn fresh() -> Self
+        ensures { λ r. ⌜ r ≡ freshControl ⌝ }
+    {
+        Self {
+            escape: Escape {
+                escaped: false,
+                channel: -1,
+                pending: Pending::None,
+            },
+            node: 0,
+            token: Token::Between,
+        }
+    }
+}
+
+impl State {
+    pub const BODY_LIMIT: usize = 4096;
+
+    pub const PLACE_WIDTH: usize = 264;
+
+    pub fn fresh() -> Self
+        ensures { λ r. ⌜ r ≡ freshState ⌝ }
+    {
+        State {
+            control: Control::fresh(),
+            store: [0u8; State::BODY_LIMIT],
+        }
+    }
+}
+
+// A pending byte only when unescaped with channel at least 0.
+fn sound_pending(e: Escape) -> bool
+    ensures { λ r. ⌜ r ≡ soundPending (e .pending) e ⌝ }
+{
+    let pending = e.pending;
+    match pending {
+        Pending::None => true,
+        Pending::Byte(_) => {
+            if e.escaped {
+                return false;
+            }
+            0 <= e.channel
+        }
+    }
+}
+
+// Channel −1 to 13.
+fn sound_escape(e: Escape) -> bool
+    ensures { λ r. ⌜ r ≡ soundEscape e ⌝ }
+{
+    if -1 <= e.channel {
+        if e.channel <= 13 {
+            return sound_pending(e);
+        }
+        return false;
+    }
+    false
+}
+
+// Fewer units collected than wanted.
+fn is_underway(left: u16, want: u16) -> bool
+    ensures { λ r. ⌜ r ≡ underway left want ⌝ }
+{
+    if 1 <= left {
+        return left <= want;
+    }
+    false
+}
+
+// A number of 32 bits is below 256 to any four units or more.
+fn is_within(value: u32, units: u16) -> bool
+    ensures { λ r. ⌜ r ≡ ltb value (256 ^ units) ⌝ }
+{
+    match units {
+        0 => value < 1,
+        1 => value < 0x100,
+        2 => value < 0x10000,
+        3 => value < 0x1000000,
+        _ => true,
+    }
+}
+
+// A number has fewer units than its class, and no more bits than they gave.
+fn sound_number(class: Class, left: u16, value: u32) -> bool
+    ensures { λ r. ⌜ r ≡ soundNumber class left value ⌝ }
+{
+    let width = token::width_of(class);
+    if is_underway(left, width) {
+        return is_within(value, width - left);
+    }
+    false
+}
+
+// A string wants at most 256 units.
+fn sound_string(want: u16, left: u16) -> bool
+    ensures { λ r. ⌜ r ≡ soundString want left ⌝ }
+{
+    if is_underway(left, want) {
+        return want <= 256;
+    }
+    false
+}
+
+// No more bytes stored than units collected, and none where the count is over the limit.
+fn sound_body(want: u16, left: u16, stored: u16) -> bool
+    ensures { λ r. ⌜ r ≡ soundBody want left stored ⌝ }
+{
+    if is_underway(left, want) {
+        if want <= 4096 {
+            return stored <= want - left;
+        }
+        return stored == 0;
+    }
+    false
+}
+
+fn sound_counts(token: Token) -> bool
+    ensures { λ r. ⌜ r ≡ soundCounts token ⌝ }
+{
+    match token {
+        Token::Between => true,
+        Token::Number { class, left, value } => sound_number(class, left, value),
+        Token::String { want, left } => sound_string(want, left),
+        Token::Body { want, left, stored } => sound_body(want, left, stored),
+    }
+}
+
+// The units collected; 0 where more are left than wanted, which no sound token has.
+fn collected(want: u16, left: u16) -> u16
+    ensures { λ r. ⌜ r ≡ want - left ⌝ }
+{
+    if left < want {
+        return want - left;
+    }
+    0
+}
+
+// A string keeps every unit, so what it stores is what it collected.
+fn stored_by(token: Token) -> u16
+    ensures { λ r. ⌜ r ≡ storedBy token ⌝ }
+{
+    match token {
+        Token::Between => 0,
+        Token::Number {
+            class: _,
+            left: _,
+            value: _,
+        } => 0,
+        Token::String { want, left } => collected(want, left),
+        Token::Body {
+            want: _,
+            left: _,
+            stored,
+        } => stored,
+    }
+}
+
+// The bytes from a place on are all 0.
+fn zeros_from(store: &[u8], at: usize) -> bool
+    ensures { λ r. ⌜ r ≡ zeros (drop at (now (store .entry))) ⌝ }
+{
+    let mut i = at;
+    while i < store.len() {
+        if store[i] != 0 {
+            return false;
+        }
+        i += 1;
+    }
+    true
+}
+
+fn sound_token(token: Token, store: &[u8]) -> bool
+    ensures { λ r. ⌜ r ≡ soundToken token (now (store .entry)) ⌝ }
+{
+    if sound_counts(token) {
+        return zeros_from(store, stored_by(token) as usize);
+    }
+    false
+}
+
+// The states that a caller may hand back; any other is refused (refusal 8).
+pub fn is_sound(s: State) -> bool
+    ensures { λ r. ⌜ r ≡ soundState s ⌝ }
+{
+    let control = s.control;
+    let escape = control.escape;
+    if sound_escape(escape) {
+        let token = control.token;
+        return sound_token(token, &s.store);
+    }
+    false
+}

@@ -1,0 +1,75 @@
+// The token table: the class of a first unit and how many units its token wants.
+ghost use mathlib.Core.Path.{_≡_};
+ghost use Rattle.wing_wire.specs.Token.{classOf, ruleOf, widthOf};
+
+mod rows;
+
+// What a token is. ZeroCount is in no table row: it is what a count of 0 goes on as.
+pub enum Class {
+    NoEvent,
+    Integer,
+    String,
+    Length,
+    Int16,
+    Int32,
+    Float,
+    Node,
+    End,
+    Count,
+    ZeroCount,
+}
+
+pub struct Rule {
+    pub class: Class,
+    pub wants: u16,
+}
+
+fn class_of(n: u8) -> Class
+    ensures { λ r. ⌜ r ≡ classOf n ⌝ }
+{
+    match n {
+        0 => Class::NoEvent,
+        1 => Class::Integer,
+        2 => Class::String,
+        3 => Class::Length,
+        4 => Class::Int16,
+        5 => Class::Int32,
+        6 => Class::Float,
+        7 => Class::Node,
+        8 => Class::End,
+        9 => Class::Count,
+        _ => Class::NoEvent,
+    }
+}
+
+// The row of a first unit. The table is looked up here alone.
+pub fn rule_of(t: u8) -> Rule
+    ensures { λ r. ⌜ r ≡ ruleOf t ⌝ }
+{
+    let i = t as usize;
+    let table = rows::TOKENS;
+    let class = class_of(table.class[i]);
+    Rule {
+        class: class,
+        wants: table.wants[i] as u16,
+    }
+}
+
+// The units that a number of a class is made of, at most; a class that is no number has none.
+pub(crate) fn width_of(class: Class) -> u16
+    ensures { λ r. ⌜ r ≡ widthOf class ⌝ }
+{
+    match class {
+        Class::NoEvent => 2,
+        Class::Integer => 0,
+        Class::String => 0,
+        Class::Length => 1,
+        Class::Int16 => 2,
+        Class::Int32 => 4,
+        Class::Float => 4,
+        Class::Node => 4,
+        Class::End => 0,
+        Class::Count => 2,
+        Class::ZeroCount => 4,
+    }
+}
