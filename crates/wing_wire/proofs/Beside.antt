@@ -1,5 +1,7 @@
 -- The string or body beside an answer is what the store holds of it.
 use Prim.Native.Nat.{ℕ, zero, suc, _≤_}
+use mathlib.Core.Bool.{Bool, true, false}
+use lib.Dec.{leb}
 use mathlib.Core.Path.{_≡_, refl, _∙_, ap}
 use mathlib.Core.List.{List, [], _∷_}
 use native.Mathlib.Omega.{arith}
@@ -7,9 +9,15 @@ use native.Mathlib.Nat.{le-of-suc-le-suc, not-suc-le-zero}
 use lib.ListN.{length, take, replicate, length-replicate}
 use lib.Seq.{length-take-le}
 use Rattle.wing_node.specs.Value.{string}
-use Rattle.wing_wire.specs.Reader.{value, body, eventOf, over, filled, stringBeside, bodyBeside}
-use Rattle.wing_wire.specs.Range.{Within}
+use Rattle.wing_node.specs.Bool.{if}
+use Rattle.wing_wire.specs.State.{soundState}
+use Rattle.wing_wire.specs.Stream.{Run, advanceOf}
+use Rattle.wing_wire.specs.Reader.{value, body, refused, eventOf, over, filled, stringBeside, bodyBeside, refusedNext, nextFrom, nextOf, eventIn, nextEvent}
+use Rattle.wing_wire.specs.Range.{AreBytes, Within, InRange}
+use Rattle.wing_wire.specs.declared.state.State.{State}
 use Rattle.wing_wire.proofs.Overs.{length-over}
+use Rattle.wing_wire.proofs.Sound.{state-parts, next-within}
+use Rattle.wing_wire.proofs.Ranges.{advance-in}
 use Rattle.wing_wire.specs.declared.unit.Answer.{Answer}
 use Rattle.wing_wire.specs.declared.unit.Answer.the-variants.{More, Integer, Float, String, Body, End, Refused}
 
@@ -60,3 +68,21 @@ body-length (String n) s = length-replicate {A = ℕ} 4096 0
 body-length (Body n) s = filled-length 4096 (take n s)
 body-length End s = length-replicate {A = ℕ} 4096 0
 body-length (Refused n) s = length-replicate {A = ℕ} 4096 0
+
+-- a reply says the event that the units gave: its arrays hold the whole string or body
+pub next-event : (s : State) (bytes : List ℕ) → InRange (s .control) (s .store) → AreBytes bytes → eventIn (nextOf s bytes) ≡ nextEvent s bytes
+unfolding nextOf nextEvent eventOf
+next-event s bytes g b = go (soundState s) (leb (length bytes) 65536) refl
+  where
+    r : Run
+    r = advanceOf (s .control) (s .store) bytes
+
+    within : soundState s ≡ true → Within (r .heard .told .answer) (r .heard .store)
+    within e = next-within (s .control) (s .store) bytes b (state-parts s (g .pending) e)
+
+    go : (q l : Bool) → soundState s ≡ q →
+        eventIn (if q (if l (nextFrom r) (refusedNext 14 s)) (refusedNext 8 s)) ≡
+        if q (if l (eventOf (r .heard .told .answer) (r .heard .store) (r .heard .store)) (refused 14)) (refused 8)
+    go true true e = event-beside (r .heard .told .answer) (r .heard .store) (advance-in (s .control) (s .store) bytes b g .store .size) (within e)
+    go true false e = refl
+    go false l e = refl

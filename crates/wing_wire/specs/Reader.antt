@@ -83,6 +83,12 @@ nextOf s bytes =
     (if (leb (length bytes) 65536) (nextFrom (advanceOf (s .control) (s .store) bytes)) (refusedNext 14 s))
     (refusedNext 8 s)
 
--- 01's event or refusal that the call gives, by the answer and the bytes beside it
+-- the event or refusal that a reply says, by the answer and the arrays beside it
 abbrev pub eventIn : Reply → Event
 eventIn r = eventOf (r .answer) (r .string) (r .body)
+
+-- 01's event or refusal of a next call, by the bytes that the units gave: `next-event` says that a reply says this one
+unfoldable pub nextEvent : State → List ℕ → Event
+nextEvent s bytes =
+    let h = advanceOf (s .control) (s .store) bytes .heard in
+    if (soundState s) (if (leb (length bytes) 65536) (eventOf (h .told .answer) (h .store) (h .store)) (refused 14)) (refused 8)
