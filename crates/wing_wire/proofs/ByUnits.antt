@@ -1,6 +1,7 @@
 -- A feed of bytes is their units taken one after the other: the escapes need no token, and the tokens need no escape.
 use Prim.Native.Nat.{ℕ}
 use mathlib.Core.Path.{_≡_, refl, sym, _∙_, ap}
+use lib.IntN.{ℤ}
 use mathlib.Core.List.{List, [], _∷_, _++_}
 use Rattle.wing_wire.specs.Escape.{decodeOf}
 use Rattle.wing_wire.specs.Stream.{pendingOf, settleOf, givenOf, firstOf, Fed, heed, calm, fedByte, fedFrom, feedOf}
@@ -12,7 +13,7 @@ use Rattle.wing_wire.specs.declared.escape.Unit.{Unit}
 use Rattle.wing_wire.specs.declared.escape.Unit.the-variants.{Nothing, Bare, Appended}
 use Rattle.wing_wire.specs.declared.unit.Answer.{Answer}
 
-module _ {M : Type 0} (h : Answer → List ℕ → M → M) where
+module _ {M : Type 0} (h : ℤ → Answer → List ℕ → M → M) where
   taken-append : (x : Fed M) (a b : List Given) → unitsTaken h x (a ++ b) ≡ unitsTaken h (unitsTaken h x a) b
   unfolding unitsTaken
   taken-append x [] b = refl

@@ -89,8 +89,8 @@ units-sound e bytes s = omega (arith, units-few e bytes, sound-light e s)
 -- ---- answers
 
 -- the handler that counts
-abbrev pub count : Answer → List ℕ → ℕ → ℕ
-count a s n = suc n
+abbrev pub count : ℤ → Answer → List ℕ → ℕ → ℕ
+count node a s n = suc n
 
 heed-one : (o : Heard) (m : ℕ) → heed count o m .memo ≤ suc m
 heed-one o m = go (isMore (o .told .answer))

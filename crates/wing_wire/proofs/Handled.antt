@@ -1,7 +1,9 @@
 -- What a feed hands to its handler: from a sound state each answer is in range, and its string or body within bounds.
 use Prim.Native.Nat.{ℕ}
 use mathlib.Core.Path.{_≡_}
+use lib.IntN.{ℤ}
 use mathlib.Core.List.{List, [], _∷_}
+use Rattle.wing_node.specs.Signed.{InBits}
 use Rattle.wing_wire.specs.Stream.{Heard, isMore, settleOf, firstOf, Fed, heed, calm, fedByte, fedFrom, feedOf}
 use Rattle.wing_wire.specs.Range.{AreBytes, noBytes, byteThen, Within, Stored, InRange, AnswerIn}
 use Rattle.wing_wire.specs.declared.state.Pending.the-variants.{None}
@@ -10,10 +12,10 @@ use Rattle.wing_wire.proofs.Pieces.{settle-calm}
 use Rattle.wing_wire.proofs.Sound.{branch, Good, Kept, settle-good, first-good}
 use Rattle.wing_wire.proofs.Ranges.{HeardIn, after-in, settle-in, first-in}
 
-module _ {M : Type 0} (h : Answer → List ℕ → M → M) (P : M → Type 0)
-    (keeps : (a : Answer) (s : List ℕ) (m : M) → Within a s → AnswerIn a → Stored s → P m → P (h a s m)) where
+module _ {M : Type 0} (h : ℤ → Answer → List ℕ → M → M) (P : M → Type 0)
+    (keeps : (node : ℤ) (a : Answer) (s : List ℕ) (m : M) → InBits 31 node → Within a s → AnswerIn a → Stored s → P m → P (h node a s m)) where
   heed-keeps : (o : Heard) (m : M) → Kept o → HeardIn o → P m → P (heed h o m .memo)
-  heed-keeps o m k g p = branch P (isMore (o .told .answer)) _ _ (λ _. p) (λ _. keeps (o .told .answer) (o .store) m (k .1) (g .answer) (g .store) p)
+  heed-keeps o m k g p = branch P (isMore (o .told .answer)) _ _ (λ _. p) (λ _. keeps (o .told .control .node) (o .told .answer) (o .store) m (g .node) (k .1) (g .answer) (g .store) p)
 
   calm-keeps : (x : Fed M) → Good (x .control) (x .store) → InRange (x .control) (x .store) → P (x .memo) → P (calm h x .memo)
   calm-keeps x g r p = heed-keeps (settleOf (x .control) (x .store)) (x .memo) (settle-good (x .control) (x .store) g) (settle-in (x .control) (x .store) r) p

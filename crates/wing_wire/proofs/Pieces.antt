@@ -3,6 +3,7 @@
 use Prim.Native.Nat.{ℕ, suc, _+_, _-_, _≤_}
 use mathlib.Core.Bool.{Bool, true, false}
 use mathlib.Core.Path.{_≡_, refl, sym, _∙_, ap}
+use lib.IntN.{ℤ}
 use mathlib.Core.List.{List, [], _∷_, _++_}
 use native.Mathlib.Omega.{arith}
 use native.Mathlib.Nat.{sub-zero}
@@ -67,7 +68,7 @@ released-more (Body n) s e = absurd (clash e refl)
 released-more End s e = refl
 released-more (Refused n) s e = refl
 
-module _ {M : Type 0} (h : Answer → List ℕ → M → M) where
+module _ {M : Type 0} (h : ℤ → Answer → List ℕ → M → M) where
   -- with nothing pending, settling changes nothing
   pub calm-same : (x : Fed M) → x .control .escape .pending ≡ None → calm h x ≡ x
   unfolding settleOf

@@ -287,7 +287,7 @@ range-next s bytes h g =
     (λ _. branch P (leb (length bytes) 65536) _ _ (λ _. after-in (advanceOf (s .control) (s .store) bytes .heard) (advance-in (s .control) (s .store) bytes h g)) (λ _. g))
     (λ _. g)
 
-module _ {M : Type 0} (h : Answer → List ℕ → M → M) where
+module _ {M : Type 0} (h : ℤ → Answer → List ℕ → M → M) where
   calm-in : (x : Fed M) → InRange (x .control) (x .store) → InRange (calm h x .control) (calm h x .store)
   calm-in x g = after-in (settleOf (x .control) (x .store)) (settle-in (x .control) (x .store) g)
 

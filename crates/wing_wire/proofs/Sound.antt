@@ -594,7 +594,7 @@ byte-next s bytes h p e =
 pub next-within : (c : Control) (s bytes : List ℕ) → AreBytes bytes → Good c s → Within (advanceOf c s bytes .heard .told .answer) (advanceOf c s bytes .heard .store)
 next-within c s bytes h g = advance-good c s bytes h g .1
 
-module _ {M : Type 0} (h : Answer → List ℕ → M → M) where
+module _ {M : Type 0} (h : ℤ → Answer → List ℕ → M → M) where
   fed-good : (x : Fed M) (bytes : List ℕ) → AreBytes bytes → x .control .escape .pending ≡ None → Good (x .control) (x .store) → Good (fedFrom h x bytes .control) (fedFrom h x bytes .store)
   unfolding fedFrom
   fed-good x [] noBytes q g = g

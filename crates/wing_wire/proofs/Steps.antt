@@ -2,6 +2,7 @@
 use Prim.Native.Nat.{ℕ, suc, _+_, _≤_}
 use mathlib.Core.Bool.{Bool, true, false}
 use mathlib.Core.Path.{_≡_, refl, sym, _∙_, ap}
+use lib.IntN.{ℤ}
 use mathlib.Core.List.{List, [], _∷_}
 use native.Mathlib.Omega.{arith}
 use lib.ListN.{length, drop, drop-of-length-le}
@@ -82,7 +83,7 @@ next-none c s = refl
 pub next-none-calm : (c : Control) (s : List ℕ) → advanceOf c s [] .heard .told .control .escape .pending ≡ None
 next-none-calm c s = rw (next-none c s) (settle-calm c s)
 
-module _ {M : Type 0} (h : Answer → List ℕ → M → M) where
+module _ {M : Type 0} (h : ℤ → Answer → List ℕ → M → M) where
   -- a control, a store and what the handler has made so far
   abbrev pub fed : Control → List ℕ → M → Fed M
   fed c s m = record { control = c; store = s; memo = m }
@@ -103,6 +104,6 @@ module _ {M : Type 0} (h : Answer → List ℕ → M → M) where
   pub feed-again : (c : Control) (s : List ℕ) (m : M) (bytes : List ℕ) → isMore (advanceOf c s bytes .heard .told .answer) ≡ false →
       feedOf h (fed c s m) bytes ≡
       feedOf h
-      (fed (advanceOf c s bytes .heard .told .control) (released (advanceOf c s bytes .heard .told .answer) (advanceOf c s bytes .heard .store)) (h (advanceOf c s bytes .heard .told .answer) (advanceOf c s bytes .heard .store) m))
+      (fed (advanceOf c s bytes .heard .told .control) (released (advanceOf c s bytes .heard .told .answer) (advanceOf c s bytes .heard .store)) (h (advanceOf c s bytes .heard .told .control .node) (advanceOf c s bytes .heard .told .answer) (advanceOf c s bytes .heard .store) m))
       (drop (advanceOf c s bytes .taken) bytes)
   feed-again c s m bytes p = feed-next h (fed c s m) bytes ∙ rw p

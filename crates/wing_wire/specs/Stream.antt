@@ -101,20 +101,20 @@ released (Body n) s = cleared n s
 released End s = s
 released (Refused n) s = s
 
--- ---- through every answer: each is handed, with the store that holds its bytes, to a handler
+-- ---- through every answer: each is handed, with the current node and the store that holds its bytes, to a handler
 
 pub record Fed (M : Type 0) : Type 0 where
   pub control : Control
   pub store : List ℕ
   pub memo : M
 
-module _ {M : Type 0} (h : Answer → List ℕ → M → M) where
+module _ {M : Type 0} (h : ℤ → Answer → List ℕ → M → M) where
   abbrev pub heed : Heard → M → Fed M
   heed x m =
       record {
         control = x .told .control;
         store = released (x .told .answer) (x .store);
-        memo = if (isMore (x .told .answer)) m (h (x .told .answer) (x .store) m);
+        memo = if (isMore (x .told .answer)) m (h (x .told .control .node) (x .told .answer) (x .store) m);
       }
 
   -- the pending byte, if there is one

@@ -1,6 +1,7 @@
 -- 01, Escapes: the decoder turns bytes into units.
 use Prim.Native.Nat.{ℕ, _+_}
 use mathlib.Core.Bool.{Bool, true, false}
+use lib.IntN.{ℤ}
 use mathlib.Core.List.{List, [], _∷_, _++_}
 use Rattle.wing_node.specs.Bool.{if}
 use Rattle.wing_wire.specs.State.{escape, control}
@@ -70,7 +71,7 @@ weight e = (if (e .escaped) 1 0) + waiting (e .pending)
 abbrev pub withEscape : {M : Type 0} → Escape → Fed M → Fed M
 withEscape e x = record { control = control e (x .control .node) (x .control .token); store = x .store; memo = x .memo }
 
-module _ {M : Type 0} (h : Answer → List ℕ → M → M) where
+module _ {M : Type 0} (h : ℤ → Answer → List ℕ → M → M) where
   -- one unit for the token in progress; the escapes stay
   abbrev pub unitTaken : Fed M → Given → Fed M
   unitTaken x g = heed h (joined (x .control .escape) (unitOf (x .control .node) (x .control .token) (x .store) (g .unit) (g .appended))) (x .memo)
