@@ -134,3 +134,21 @@ pub fn put_i32(out: &mut [u8], at: usize, x: i32) -> bool
 {
     put_u32(out, at, of_i32(x))
 }
+
+// The bytes of a number.
+pub fn bytes_16(n: u16) -> [u8; 2]
+    ensures { λ r. ⌜ r ≡ bytesOf 2 n ⌝ }
+{
+    [(n / 256 % 256) as u8, (n % 256) as u8]
+}
+
+pub fn bytes_32(n: u32) -> [u8; 4]
+    ensures { λ r. ⌜ r ≡ bytesOf 4 n ⌝ }
+{
+    [
+        (n / 256 / 256 / 256 % 256) as u8,
+        (n / 256 / 256 % 256) as u8,
+        (n / 256 % 256) as u8,
+        (n % 256) as u8,
+    ]
+}

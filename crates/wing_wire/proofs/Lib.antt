@@ -15,3 +15,10 @@ pub mod Beside
 pub mod Few
 pub mod ByUnits
 pub mod Worked
+pub mod Lays
+pub mod Choices
+pub mod Sizes
+pub mod Totals
+pub mod Asks
+pub mod Packets
+pub mod Marks

@@ -6,4 +6,7 @@ pub mod Stream
 pub mod Reader
 pub mod Range
 pub mod Units
+pub mod Write
+pub mod Command
+pub mod Meter
 pub mod Cases

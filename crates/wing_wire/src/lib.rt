@@ -1,7 +1,13 @@
-// The wire library, reading: a console's bytes to units, units to tokens, tokens to events.
+// The wire library. Reading: a console's bytes to units, units to tokens, tokens to events. Writing: set orders,
+// requests and meters.
 pub mod escape;
+mod laying;
+pub mod meter;
 pub mod reader;
+pub mod request;
+pub mod set;
 pub mod state;
 pub mod stream;
 pub mod token;
 pub mod unit;
+pub mod write;
