@@ -21,4 +21,5 @@ pub mod Sizes
 pub mod Totals
 pub mod Asks
 pub mod Packets
-pub mod Marks
+pub mod Trips
+pub mod RoundTrip

@@ -1,20 +1,26 @@
--- 01, Bytes and their outcomes: the cases marked # that concern reading, one table. A fresh state reads each.
+-- 01, Bytes and their outcomes: the cases marked #, one table. A fresh state reads each that is read.
 use Prim.Native.Nat.{ℕ}
 use mathlib.Core.Bool.{true, false}
 use mathlib.Core.List.{List, [], _∷_}
 use lib.IntN.{ℤ, pos, negsuc}
+use lib.ListN.{length, drop}
 use Rattle.wing_node.specs.Value.{integer, string}
 use Rattle.wing_wire.specs.State.{freshControl, freshState}
 use Rattle.wing_wire.specs.Reader.{Event, more, value, body, refused, eventOf, nextOf}
 use Rattle.wing_wire.specs.Units.{Given, given, unitsOf}
+use Rattle.wing_wire.specs.Command.{setBytes}
+use Rattle.wing_wire.specs.Meter.{Heard, heard, packetOf}
+use Rattle.wing_wire.specs.declared.meter.MetersRead.the-variants.{Readings}
 
--- what a case gives: units, numbers, or the event of a next call
+-- what a case gives: units, a channel, the event of a next call, the bytes of a command, or what a packet leaves
 pub data Outcome : Type 0 where
   units : List Given → Outcome
-  numbers : List ℤ → Outcome
+  channel : ℤ → Outcome
   event : Event → Outcome
+  written : List ℕ → Outcome
+  packet : Heard → Outcome
 
--- what the definitions give, and what 01 wants. Another kind of case joins the table by a function that gives a Case
+-- what the definitions give, and what 01 wants
 pub record Case : Type 0 where
   pub got : Outcome
   pub wanted : Outcome
@@ -37,13 +43,24 @@ gives bytes us = case (units (unitsOf (freshControl .escape) bytes .units)) (uni
 
 -- the channel after bytes
 unfoldable pub channelIs : List ℕ → ℤ → Case
-channelIs bytes z = case (numbers (unitsOf (freshControl .escape) bytes .escape .channel ∷ [])) (numbers (z ∷ []))
+channelIs bytes z = case (channel (unitsOf (freshControl .escape) bytes .escape .channel)) (channel z)
 
 -- the event or refusal of a next call
 unfoldable pub reads : List ℕ → Event → Case
 reads bytes e =
     let n = nextOf freshState bytes in
     case (event (eventOf (n .answer) (n .string) (n .body))) (event e)
+
+-- the bytes of an order that sets node 7, and those after the id
+unfoldable pub sets : ℤ → List ℕ → Case
+sets x bs = case (written (setBytes (pos 7) (integer x))) (written bs)
+
+unfoldable pub setEnds : ℤ → List ℕ → Case
+setEnds x bs = case (written (drop 5 (setBytes (pos 7) (integer x)))) (written bs)
+
+-- the id and the readings of a packet, in an output of two readings
+unfoldable pub packetReads : List ℕ → ℕ → List ℤ → Case
+packetReads p id rs = case (packet (packetOf p (pos 0 ∷ pos 0 ∷ []))) (packet (heard (Readings id (length rs)) rs))
 
 -- 01's cases, a comment line each in 01's words
 unfoldable pub cases : List Case
@@ -67,4 +84,14 @@ cases =
     -- c0 41 → "A"
     reads (0xc0 ∷ 0x41 ∷ []) (value (string (0x41 ∷ []))) ∷
     -- 80 80 → 1
-    reads (0x80 ∷ 0x80 ∷ []) (refused 1) ∷ []
+    reads (0x80 ∷ 0x80 ∷ []) (refused 1) ∷
+    -- set 7 to 63: d7 00 00 00 07 3f
+    sets (pos 63) (0xd7 ∷ 0x00 ∷ 0x00 ∷ 0x00 ∷ 0x07 ∷ 0x3f ∷ []) ∷
+    -- to 64: ends d3 00 40
+    setEnds (pos 64) (0xd3 ∷ 0x00 ∷ 0x40 ∷ []) ∷
+    -- to 223: ends d3 00 df de
+    setEnds (pos 223) (0xd3 ∷ 0x00 ∷ 0xdf ∷ 0xde ∷ []) ∷
+    -- to −32769: ends d4 ff ff 7f ff
+    setEnds (negsuc 32768) (0xd4 ∷ 0xff ∷ 0xff ∷ 0x7f ∷ 0xff ∷ []) ∷
+    -- packet 00 01 00 00 ff ff 7f ff 05 → id 1: −1, 32767
+    packetReads (0x00 ∷ 0x01 ∷ 0x00 ∷ 0x00 ∷ 0xff ∷ 0xff ∷ 0x7f ∷ 0xff ∷ 0x05 ∷ []) 1 (negsuc 0 ∷ pos 32767 ∷ []) ∷ []
