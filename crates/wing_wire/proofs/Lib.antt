@@ -7,6 +7,9 @@ pub mod Clears
 pub mod Turns
 pub mod Overs
 pub mod Pieces
+pub mod Inners
+pub mod Plains
+pub mod FirstUnits
 pub mod Steps
 pub mod Sound
 pub mod Ranges

@@ -4,6 +4,7 @@ pub mod Escape
 pub mod Unit
 pub mod Stream
 pub mod Reader
+pub mod Plain
 pub mod Range
 pub mod Units
 pub mod Write

@@ -11,6 +11,7 @@ use crate::stream::release;
 use crate::unit::Answer;
 
 // The answer, the bytes taken, the state after it, and the string or body, zero-filled.
+// 01: a value belongs to the current node, which is state.control.node.
 pub struct Reply {
     pub answer: Answer,
     pub taken: usize,

@@ -1,7 +1,9 @@
 // Bytes one after the other, up to the next answer: the core, over the small control and the lent store.
 ghost use mathlib.Core.Path.{_≡_};
 ghost use Rattle.wing_wire.specs.State.{control};
-ghost use Rattle.wing_wire.specs.Stream.{told, heard, isMore, settleOf, firstOf, stepOf, advanceOf, run, released};
+ghost use lib.ListN.{drop};
+ghost use Rattle.wing_wire.specs.Stream.{told, heard, isMore, givenOf, advanceOf, run, released};
+ghost use Rattle.wing_wire.specs.Plain.{isWaiting, isNothing, isAppended, valueOf, comingOf, isInner, numberAhead, gone, stringAhead, tokenAhead, isPlain, isFree, stepped, aheadOf, onceOf, isOn};
 use crate::escape::Unit;
 use crate::escape::decode_next;
 use crate::escape::escape_of;
@@ -9,9 +11,13 @@ use crate::state::Control;
 use crate::state::Escape;
 use crate::state::Pending;
 use crate::state::Token;
+use crate::token::Class;
 use crate::unit::Answer;
 use crate::unit::Taken;
 use crate::unit::clear;
+use crate::unit::collected;
+use crate::unit::put;
+use crate::unit::shift_in;
 use crate::unit::take_unit;
 
 // An answer, with the control after it.
@@ -64,76 +70,281 @@ pub fn is_more(a: Answer) -> bool
     }
 }
 
-// The pending byte, if there is one, is the next unit.
-fn settle(c: Control, store: &mut [u8]) -> Told
-    ensures { λ r. ⌜ heard r (now (store .exit)) ≡ settleOf c (now (store .entry)) ⌝ }
+// The next unit, with the escapes after it and the place of the byte after it.
+pub struct Upcoming {
+    pub escape: Escape,
+    pub unit: Unit,
+    pub at: usize,
+}
+
+// The token after a run of plain bytes, and the place of the byte after them.
+pub struct Inside {
+    pub token: Token,
+    pub at: usize,
+}
+
+// What was told, and the place of the byte after it.
+pub struct Stepped {
+    pub told: Told,
+    pub at: usize,
+}
+
+fn is_waiting(p: Pending) -> bool
+    ensures { λ r. ⌜ r ≡ isWaiting p ⌝ }
 {
-    let e = c.escape;
+    match p {
+        Pending::None => false,
+        Pending::Byte(_) => true,
+    }
+}
+
+fn is_nothing(u: Unit) -> bool
+    ensures { λ r. ⌜ r ≡ isNothing u ⌝ }
+{
+    match u {
+        Unit::Nothing => true,
+        Unit::Bare(_) => false,
+        Unit::Appended(_) => false,
+    }
+}
+
+fn is_appended(u: Unit) -> bool
+    ensures { λ r. ⌜ r ≡ isAppended u ⌝ }
+{
+    match u {
+        Unit::Nothing => false,
+        Unit::Bare(_) => false,
+        Unit::Appended(_) => true,
+    }
+}
+
+fn value_of(u: Unit) -> u8
+    ensures { λ r. ⌜ r ≡ valueOf u ⌝ }
+{
+    match u {
+        Unit::Nothing => 0,
+        Unit::Bare(b) => b,
+        Unit::Appended(b) => b,
+    }
+}
+
+// The pending byte, if there is one, is the next unit; else it is what the next byte gives.
+fn coming(e: Escape, bytes: &[u8], at: usize) -> Upcoming
+    ensures { λ r. ⌜ r ≡ comingOf e (now (bytes .entry)) at ⌝ }
+{
     let pending = e.pending;
     match pending {
-        Pending::None => Told {
-            answer: Answer::More,
-            control: c,
-        },
+        Pending::None => {
+            if at < bytes.len() {
+                let d = decode_next(e, bytes[at]);
+                let after = d.escape;
+                let unit = d.unit;
+                return Upcoming {
+                    escape: after,
+                    unit: unit,
+                    at: at + 1,
+                };
+            }
+            Upcoming {
+                escape: e,
+                unit: Unit::Nothing,
+                at: at,
+            }
+        }
         Pending::Byte(u) => {
-            let token = c.token;
-            let t = take_unit(c.node, token, store, u, true);
             let after = escape_of(e.escaped, e.channel, Pending::None);
-            join(after, t)
+            Upcoming {
+                escape: after,
+                unit: Unit::Appended(u),
+                at: at,
+            }
         }
     }
 }
 
-// The unit that a byte gives, where nothing is pending before it.
-fn first(c: Control, store: &mut [u8], b: u8) -> Told
-    ensures { λ r. ⌜ heard r (now (store .exit)) ≡ firstOf c (now (store .entry)) b ⌝ }
+// What a unit makes of the control. take_unit is called here alone, so that it becomes part of the loop.
+fn take(c: Control, store: &mut [u8], after: Escape, unit: Unit) -> Told
+    ensures { λ r. ⌜ heard r (now (store .exit)) ≡ givenOf unit after c (now (store .entry)) ⌝ }
+{
+    let token = c.token;
+    if is_nothing(unit) {
+        let same = control_of(after, c.node, token);
+        return Told {
+            answer: Answer::More,
+            control: same,
+        };
+    }
+    let t = take_unit(c.node, token, store, value_of(unit), is_appended(unit));
+    join(after, t)
+}
+
+// Whether a plain byte is a unit of its token but not the last.
+fn is_inner(left: u16, b: u8) -> bool
+    ensures { λ r. ⌜ r ≡ isInner left b ⌝ }
+{
+    if left <= 1 {
+        return false;
+    }
+    b != 0xdf
+}
+
+// The units of a number up to its last, from plain bytes: these change nothing else, so they go fast.
+fn number_ahead(class: Class, left: u16, value: u32, bytes: &[u8], at: usize) -> Inside
+    ensures { λ r. ⌜ r ≡ numberAhead class left value at (drop at (now (bytes .entry))) ⌝ }
+{
+    let mut l = left;
+    let mut v = value;
+    let mut i = at;
+    while i < bytes.len() {
+        if is_inner(l, bytes[i]) {
+            v = shift_in(v, bytes[i]);
+            l -= 1;
+            i += 1;
+        } else {
+            break;
+        }
+    }
+    Inside {
+        token: Token::Number {
+            class: class,
+            left: l,
+            value: v,
+        },
+        at: i,
+    }
+}
+
+// The same of a string.
+fn string_ahead(want: u16, left: u16, store: &mut [u8], bytes: &[u8], at: usize) -> Inside
+    ensures { λ r. ⌜ gone r (now (store .exit)) ≡ stringAhead want left (now (store .entry)) at (drop at (now (bytes .entry))) ⌝ }
+{
+    let mut l = left;
+    let mut i = at;
+    while i < bytes.len() {
+        if is_inner(l, bytes[i]) {
+            put(store, collected(want, l), bytes[i]);
+            l -= 1;
+            i += 1;
+        } else {
+            break;
+        }
+    }
+    Inside {
+        token: Token::String {
+            want: want,
+            left: l,
+        },
+        at: i,
+    }
+}
+
+fn token_ahead(token: Token, store: &mut [u8], bytes: &[u8], at: usize) -> Inside
+    ensures { λ r. ⌜ gone r (now (store .exit)) ≡ tokenAhead token (now (store .entry)) at (drop at (now (bytes .entry))) ⌝ }
+{
+    match token {
+        Token::Between => Inside {
+            token: token,
+            at: at,
+        },
+        Token::Number { class, left, value } => number_ahead(class, left, value, bytes, at),
+        Token::String { want, left } => string_ahead(want, left, store, bytes, at),
+        Token::Body {
+            want: _,
+            left: _,
+            stored: _,
+        } => Inside {
+            token: token,
+            at: at,
+        },
+    }
+}
+
+// Unescaped, and nothing pending.
+fn is_plain(e: Escape) -> bool
+    ensures { λ r. ⌜ r ≡ isPlain e ⌝ }
+{
+    if e.escaped {
+        return false;
+    }
+    let pending = e.pending;
+    !is_waiting(pending)
+}
+
+// Nothing told yet, and the next byte is plain or df.
+fn is_free(t: Told) -> bool
+    ensures { λ r. ⌜ r ≡ isFree t ⌝ }
+{
+    let a = t.answer;
+    if is_more(a) {
+        let c = t.control;
+        let e = c.escape;
+        return is_plain(e);
+    }
+    false
+}
+
+fn ahead(c: Control, store: &mut [u8], bytes: &[u8], at: usize) -> Stepped
+    ensures { λ r. ⌜ stepped r (now (store .exit)) ≡ aheadOf c (now (store .entry)) at (drop at (now (bytes .entry))) ⌝ }
 {
     let e = c.escape;
     let token = c.token;
-    let d = decode_next(e, b);
-    let after = d.escape;
-    let unit = d.unit;
-    match unit {
-        Unit::Nothing => {
-            let same = control_of(after, c.node, token);
-            Told {
-                answer: Answer::More,
-                control: same,
-            }
-        }
-        Unit::Bare(u) => join(after, take_unit(c.node, token, store, u, false)),
-        Unit::Appended(u) => join(after, take_unit(c.node, token, store, u, true)),
-    }
+    let g = token_ahead(token, store, bytes, at);
+    let after = g.token;
+    let d = control_of(e, c.node, after);
+    let t = Told {
+        answer: Answer::More,
+        control: d,
+    };
+    Stepped { told: t, at: g.at }
 }
 
-// One byte: its unit, and after one that completes nothing the pending byte.
-fn step(c: Control, store: &mut [u8], b: u8) -> Told
-    ensures { λ r. ⌜ heard r (now (store .exit)) ≡ stepOf c (now (store .entry)) b ⌝ }
+// One unit, and after it the plain bytes that go fast.
+fn step(c: Control, store: &mut [u8], bytes: &[u8], at: usize) -> Stepped
+    ensures { λ r. ⌜ stepped r (now (store .exit)) ≡ onceOf c (now (store .entry)) (now (bytes .entry)) at ⌝ }
 {
-    let t = first(c, store, b);
+    let e = c.escape;
+    let g = coming(e, bytes, at);
+    let after = g.escape;
+    let unit = g.unit;
+    let t = take(c, store, after, unit);
+    if is_free(t) {
+        let d = t.control;
+        return ahead(d, store, bytes, g.at);
+    }
+    Stepped { told: t, at: g.at }
+}
+
+// Nothing told yet, and a byte is left or pending.
+fn is_on(t: Told, at: usize, end: usize) -> bool
+    ensures { λ r. ⌜ r ≡ isOn t at end ⌝ }
+{
     let a = t.answer;
     if is_more(a) {
-        let d = t.control;
-        return settle(d, store);
+        if at < end {
+            return true;
+        }
+        let c = t.control;
+        let e = c.escape;
+        let pending = e.pending;
+        return is_waiting(pending);
     }
-    t
+    false
 }
 
 // The next answer. The store then holds the bytes of a string or body: release gives them up.
 pub fn advance(c: Control, store: &mut [u8], bytes: &[u8]) -> Advanced
     ensures { λ r. ⌜ run r (now (store .exit)) ≡ advanceOf c (now (store .entry)) (now (bytes .entry)) ⌝ }
 {
-    let mut t = settle(c, store);
+    let mut t = Told {
+        answer: Answer::More,
+        control: c,
+    };
     let mut i = 0;
-    while i < bytes.len() {
-        let a = t.answer;
-        if is_more(a) {
-            let d = t.control;
-            t = step(d, store, bytes[i]);
-            i += 1;
-        } else {
-            break;
-        }
+    while is_on(t, i, bytes.len()) {
+        let d = t.control;
+        let g = step(d, store, bytes, i);
+        t = g.told;
+        i = g.at;
     }
     let a = t.answer;
     let d = t.control;

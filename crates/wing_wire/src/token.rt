@@ -1,6 +1,6 @@
 // The token table: the class of a first unit and how many units its token wants.
 ghost use mathlib.Core.Path.{_≡_};
-ghost use Rattle.wing_wire.specs.Token.{classOf, ruleOf, widthOf};
+ghost use Rattle.wing_wire.specs.Token.{rule, classOf, ruleOf, widthOf};
 
 mod rows;
 
@@ -52,6 +52,36 @@ pub fn rule_of(t: u8) -> Rule
     Rule {
         class: class,
         wants: table.wants[i] as u16,
+    }
+}
+
+fn rule_with(class: Class, wants: u16) -> Rule
+    ensures { λ r. ⌜ r ≡ rule class wants ⌝ }
+{
+    Rule {
+        class: class,
+        wants: wants,
+    }
+}
+
+// The same row. The commonest first units are answered before the table, which each lookup lays out anew.
+pub(crate) fn first_rule(t: u8) -> Rule
+    ensures { λ r. ⌜ r ≡ ruleOf t ⌝ }
+{
+    if t < 0x40 {
+        return rule_with(Class::Integer, 0);
+    }
+    if t < 0x80 {
+        return rule_with(Class::NoEvent, 0);
+    }
+    if t < 0xc0 {
+        return rule_with(Class::String, (t - 0x80) as u16 + 1);
+    }
+    match t {
+        0xd3 => rule_with(Class::Int16, 2),
+        0xd5 => rule_with(Class::Float, 4),
+        0xd7 => rule_with(Class::Node, 4),
+        _ => rule_of(t),
     }
 }
 

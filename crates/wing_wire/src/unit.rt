@@ -6,7 +6,7 @@ ghost use Rattle.wing_node.specs.Utf8.{utf8};
 ghost use Rattle.wing_wire.specs.Unit.{taken, singleOf, isString, tokenOf, beginOf, countOf, numberOf, shiftIn, numberUnit, out, cleared, stringDone, stringUnit, keeps, bodyDone, bodyNext, bodyUnit, unitOf};
 use crate::state::Token;
 use crate::token::Class;
-use crate::token::rule_of;
+use crate::token::first_rule;
 use wing_node::field::to_i16;
 use wing_node::field::to_i32;
 use wing_node::utf8::is_utf8;
@@ -97,7 +97,7 @@ fn token_of(class: Class, wants: u16) -> Token
 fn begin(node: i32, t: u8) -> Taken
     ensures { λ r. ⌜ r ≡ beginOf node t ⌝ }
 {
-    let rule = rule_of(t);
+    let rule = first_rule(t);
     let class = rule.class;
     let wants = rule.wants;
     if wants == 0 {
@@ -159,7 +159,7 @@ fn number(node: i32, class: Class, v: u32) -> Taken
 }
 
 // A number with one unit more at its end, in 32 bits.
-fn shift_in(v: u32, u: u8) -> u32
+pub(crate) fn shift_in(v: u32, u: u8) -> u32
     ensures { λ r. ⌜ r ≡ shiftIn v u ⌝ }
 {
     v % 0x1000000 * 256 + (u as u32)
@@ -183,7 +183,7 @@ fn number_unit(node: i32, class: Class, left: u16, v: u32, u: u8) -> Taken
     )
 }
 
-fn put(store: &mut [u8], at: usize, u: u8)
+pub(crate) fn put(store: &mut [u8], at: usize, u: u8)
     ensures { λ _. ⌜ now (store .exit) ≡ set (now (store .entry)) at u ⌝ }
 {
     if at < store.len() {
@@ -224,7 +224,7 @@ fn string_done(node: i32, want: u16, store: &mut [u8]) -> Taken
 }
 
 // The units collected: none where more are left than wanted, which no sound state has.
-fn collected(want: u16, left: u16) -> usize
+pub(crate) fn collected(want: u16, left: u16) -> usize
     ensures { λ r. ⌜ r ≡ want - left ⌝ }
 {
     if left < want {

@@ -1,62 +1,48 @@
--- `wing_wire::stream::advance` meets its contract. The invariant: the run from here over the bytes left is the whole run. Assumes nothing.
-use mathlib.Core.Path.{_≡_, refl, sym, _∙_}
-use mathlib.Core.List.{List}
-use mathlib.Core.Logic.{⊎-elim}
-use Prim.Native.Nat.{ℕ, _-_, _≤_}
-use native.Mathlib.Omega.{arith}
-use lib.ListN.{length, drop}
 use borrow.Author.Needs.{needs}
-use Rattle.wing_wire.specs.Stream.{Run, heard, runOf, advanceOf}
-use Rattle.wing_wire.specs.declared.stream.Told.{Told}
-use Rattle.wing_wire.proofs.Turns.{stays, turn, ended}
+-- `wing_wire::stream::advance` meets its contract. The invariant: the run from here over the bytes left is the whole run. Assumes nothing.
+use mathlib.Core.Path.{_≡_, refl, sym, _∙_, ap}
+use Prim.Native.Nat.{_+_, _-_, _*_}
+use lib.ListN.{length}
+use Rattle.wing_wire.specs.Stream.{heard, followOf, advanceOf}
+use Rattle.wing_wire.specs.Units.{waiting}
+use Rattle.wing_wire.specs.Plain.{turned}
+use Rattle.wing_wire.proofs.Plains.{whole, once-whole, once-less, whole-ends}
 use Rattle.wing_wire.proofs.stream.advance.Statement.{statement}
 use Rattle.wing_wire.proofs.stream.advance.Tie as tie
 
--- where the loop is
-abbrev here : Told → List ℕ → ℕ → Run
-here t s i = record { heard = heard t s; taken = i }
-
 abbrev Inv-loop : tie.InvT-loop
-Inv-loop store₀ bytes t₀ i₀ store t i = (length store ≡ length store₀) × (i ≤ length bytes) × (runOf (here t₀ store₀ 0) bytes ≡ runOf (here t store i) (drop i bytes))
+Inv-loop store₀ bytes t₀ i₀ store t i = (length store ≡ length store₀) × (whole bytes (turned (heard t₀ store₀) 0) ≡ whole bytes (turned (heard t store) i))
 
 abbrev μ-loop : tie.MeasureT-loop
-μ-loop store₀ bytes t₀ i₀ store t i = length bytes - i
-
-settle-requires : tie.Need-settle-requires Inv-loop μ-loop
-settle-requires c κs = search needs
+μ-loop store₀ bytes t₀ i₀ store t i = 2 * (length bytes - i) + waiting (t .control .escape .pending)
 
 loop-holds : tie.Need-loop-holds Inv-loop μ-loop
-loop-holds c = (refl, omega arith, refl)
+loop-holds c = (refl, refl)
 
-is-more-requires : tie.Need-is-more-requires Inv-loop μ-loop
-is-more-requires c κs = search needs
-
-shared-slice-read-step : tie.Need-shared-slice-read-step Inv-loop μ-loop
-shared-slice-read-step c = search needs
+is-on-requires : tie.Need-is-on-requires Inv-loop μ-loop
+is-on-requires c κs = search needs
 
 step-requires : tie.Need-step-requires Inv-loop μ-loop
 step-requires c κs = search needs
 
-add-i : tie.Need-add-i Inv-loop μ-loop
-add-i c = search needs
-
 loop-less : tie.Need-loop-less Inv-loop μ-loop
-loop-less c = search needs
+loop-less c =
+    let l = c .before .before .before .before .before .before .before .before .loop in
+    let on = sym (c .before .before .before .before .before .before .before .is-on .ensures) ∙ c .before .before .before .before .before .before .if1 .taken in
+    rw (← c .before .before .before .step .ensures) at (once-less (l .t) (l .store) (c .before .before .before .before .before .before .before .before .before .before .before .args .bytes .now) (l .i) on)
 
 loop-again : tie.Need-loop-again Inv-loop μ-loop
 loop-again c =
-    let l = c .before .before .before .before .before .before .before .before .before .loop in
-    let more = sym (c .before .before .before .before .before .before .before .is-more .ensures) ∙ c .before .before .before .before .before .before .if1 .taken in
-    (search needs, omega arith, l .inv .2 ∙ turn _ _ _ (c .before .before .before .before .before .before .before .before .loop-test .taken) more ∙ rw (c .before .before .step .ensures))
+    let l = c .before .before .before .before .before .before .before .before .loop in
+    let on = sym (c .before .before .before .before .before .before .before .is-on .ensures) ∙ c .before .before .before .before .before .before .if1 .taken in
+    (search needs, l .inv .1 ∙ once-whole (l .t) (l .store) _ (l .i) on ∙ ap (whole _) (sym (c .before .before .before .step .ensures)))
 
 same-length : tie.Need-same-length Inv-loop μ-loop
 same-length c = search needs
 
 returns : tie.Need-returns Inv-loop μ-loop
-unfolding advanceOf
-returns c =
-    let over = ⊎-elim (λ w. ended _ _ _ (w .left)) (λ w. stays _ _ (sym (w .1 .ensures) ∙ w .2 .left)) (c .before .loop-test .came) in
-    rw (← c .before .before .before .before .before .settle .ensures) (sym (c .before .before .loop .inv .2 ∙ over))
+unfolding advanceOf followOf
+returns c = sym (c .before .before .before .loop .inv .1 ∙ whole-ends _ _ _ _ (sym (c .before .before .is-on .ensures) ∙ c .before .if1 .left))
 
 pub advance-spec : {M : Type 1} → statement M
 advance-spec =
@@ -64,12 +50,9 @@ advance-spec =
     (tie.spec
     Inv-loop
     μ-loop
-    settle-requires
     loop-holds
-    is-more-requires
-    shared-slice-read-step
+    is-on-requires
     step-requires
-    add-i
     loop-less
     loop-again
     same-length

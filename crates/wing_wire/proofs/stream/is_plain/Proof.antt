@@ -1,0 +1,15 @@
+use borrow.Author.Needs.{needs}
+use Rattle.wing_wire.proofs.stream.is_plain.Statement.{statement}
+use Rattle.wing_wire.proofs.stream.is_plain.Tie as tie
+
+returns : tie.Need-returns
+returns c = search needs
+
+is-waiting-requires : tie.Need-is-waiting-requires
+is-waiting-requires c κs = search needs
+
+returns-2 : tie.Need-returns-2
+returns-2 c = simp (c .is-waiting .ensures, c .before .if1 .left)
+
+pub is-plain-spec : {M : Type 1} → statement M
+is-plain-spec = tie.close (tie.spec returns is-waiting-requires returns-2)

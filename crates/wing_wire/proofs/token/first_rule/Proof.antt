@@ -1,0 +1,77 @@
+use Rattle.wing_wire.specs.Token.{ruleIn, ruleOf}
+use Rattle.wing_wire.proofs.FirstUnits.{first-integer, first-none, first-string}
+use borrow.Author.Needs.{needs}
+use Rattle.wing_wire.proofs.token.first_rule.Statement.{statement}
+use Rattle.wing_wire.proofs.token.first_rule.Tie as tie
+
+rule-with-requires : tie.Need-rule-with-requires
+rule-with-requires c κs = search needs
+
+returns : tie.Need-returns
+returns c = rw (first-integer _ (c .before .if1 .taken)) (c .rule-with .ensures)
+
+rule-with-requires-2 : tie.Need-rule-with-requires-2
+rule-with-requires-2 c κs = search needs
+
+returns-2 : tie.Need-returns-2
+returns-2 c = rw (first-none _ (c .before .before .if1 .left) (c .before .if2 .taken)) (c .rule-with2 .ensures)
+
+cast-rule-with : tie.Need-cast-rule-with
+cast-rule-with c = search needs
+
+add-rule-with : tie.Need-add-rule-with
+add-rule-with c = search needs
+
+rule-with-requires-3 : tie.Need-rule-with-requires-3
+rule-with-requires-3 c κs = search needs
+
+returns-3 : tie.Need-returns-3
+returns-3 c = rw (first-string _ (c .before .before .if2 .left) (c .before .if3 .taken)) (c .rule-with3 .ensures)
+
+rule-with-requires-4 : tie.Need-rule-with-requires-4
+rule-with-requires-4 c κs = search needs
+
+rule-with-requires-5 : tie.Need-rule-with-requires-5
+rule-with-requires-5 c κs = search needs
+
+rule-with-requires-6 : tie.Need-rule-with-requires-6
+rule-with-requires-6 c κs = search needs
+
+rule-of-requires : tie.Need-rule-of-requires
+rule-of-requires c κs = search needs
+
+returns-4 : tie.Need-returns-4
+unfolding ruleOf ruleIn
+returns-4 c = rw (c .before .match .keys1) (c .rule-with4 .ensures)
+
+returns-5 : tie.Need-returns-5
+unfolding ruleOf ruleIn
+returns-5 c = rw (c .before .match .keys2) (c .rule-with5 .ensures)
+
+returns-6 : tie.Need-returns-6
+unfolding ruleOf ruleIn
+returns-6 c = rw (c .before .match .keys3) (c .rule-with6 .ensures)
+
+returns-7 : tie.Need-returns-7
+returns-7 c = search needs
+
+pub first-rule-spec : {M : Type 1} → statement M
+first-rule-spec =
+    tie.close
+    (tie.spec
+    rule-with-requires
+    returns
+    rule-with-requires-2
+    returns-2
+    cast-rule-with
+    add-rule-with
+    rule-with-requires-3
+    returns-3
+    rule-with-requires-4
+    rule-with-requires-5
+    rule-with-requires-6
+    rule-of-requires
+    returns-4
+    returns-5
+    returns-6
+    returns-7)

@@ -1,0 +1,131 @@
+-- How the code takes bytes up to an answer: unit by unit, and fast through the plain bytes inside a number or a string.
+-- proofs/Plains.antt: this is advanceOf.
+use Prim.Native.Nat.{ℕ, _+_, _-_}
+use mathlib.Core.Bool.{Bool, true, false, not}
+use mathlib.Core.List.{List, [], _∷_}
+use lib.Dec.{ltb, leb, eqb}
+use lib.ListN.{length, drop, getD, set}
+use Rattle.wing_node.specs.Bool.{if}
+use Rattle.wing_wire.specs.State.{escape, control}
+use Rattle.wing_wire.specs.Escape.{decodeOf}
+use Rattle.wing_wire.specs.Unit.{shiftIn}
+use Rattle.wing_wire.specs.Stream.{told, Heard, heard, quiet, isMore, givenOf}
+use Rattle.wing_wire.specs.declared.token.Class.{Class}
+use Rattle.wing_wire.specs.declared.state.Pending.{Pending}
+use Rattle.wing_wire.specs.declared.state.Pending.the-variants.{None, Byte}
+use Rattle.wing_wire.specs.declared.state.Escape.{Escape}
+use Rattle.wing_wire.specs.declared.state.Token.{Token}
+use Rattle.wing_wire.specs.declared.state.Token.the-variants.{Between, Number, String, Body}
+use Rattle.wing_wire.specs.declared.state.Control.{Control}
+use Rattle.wing_wire.specs.declared.escape.Unit.{Unit}
+use Rattle.wing_wire.specs.declared.escape.Unit.the-variants.{Nothing, Bare, Appended}
+use Rattle.wing_wire.specs.declared.stream.Told.{Told}
+use Rattle.wing_wire.specs.declared.stream.Upcoming.{Upcoming}
+use Rattle.wing_wire.specs.declared.stream.Inside.{Inside}
+use Rattle.wing_wire.specs.declared.stream.Stepped.{Stepped}
+
+abbrev pub isWaiting : Pending → Bool
+isWaiting None = false
+isWaiting (Byte u) = true
+
+abbrev pub isNothing : Unit → Bool
+isNothing Nothing = true
+isNothing (Bare u) = false
+isNothing (Appended u) = false
+
+abbrev pub isAppended : Unit → Bool
+isAppended Nothing = false
+isAppended (Bare u) = false
+isAppended (Appended u) = true
+
+abbrev pub valueOf : Unit → ℕ
+valueOf Nothing = 0
+valueOf (Bare u) = u
+valueOf (Appended u) = u
+
+abbrev pub coming : Escape → Unit → ℕ → Upcoming
+coming e u n = record { escape = e; unit = u; at = n }
+
+-- what the byte at n gives
+unfoldable pub byteComing : Escape → List ℕ → ℕ → Upcoming
+byteComing e bytes n =
+    if (ltb n (length bytes)) (coming (decodeOf e (getD bytes n 0) .escape) (decodeOf e (getD bytes n 0) .unit) (n + 1))
+    (coming e Nothing n)
+
+abbrev pub comingBy : Pending → Escape → List ℕ → ℕ → Upcoming
+comingBy None e bytes n = byteComing e bytes n
+comingBy (Byte u) e bytes n = coming (escape (e .escaped) (e .channel) None) (Appended u) n
+
+-- the next unit: the pending byte, or what the byte at n gives
+unfoldable pub comingOf : Escape → List ℕ → ℕ → Upcoming
+comingOf e bytes n = comingBy (e .pending) e bytes n
+
+-- a plain byte that is a unit, and not the last
+unfoldable pub isInner : ℕ → ℕ → Bool
+isInner left b = if (leb left 1) false (not (eqb b 0xdf))
+
+abbrev pub ahead : Token → ℕ → Inside
+ahead t n = record { token = t; at = n }
+
+-- the inner units of a number, from the bytes at n
+unfoldable pub numberAhead : Class → ℕ → ℕ → ℕ → List ℕ → Inside
+numberAhead class left v n [] = ahead (Number class left v) n
+numberAhead class left v n (b ∷ bs) =
+    if (isInner left b) (numberAhead class (left - 1) (shiftIn v b) (n + 1) bs) (ahead (Number class left v) n)
+
+-- the token, the place and the store after inner units
+pub record Gone : Type 0 where
+  pub ahead : Inside
+  pub store : List ℕ
+
+abbrev pub gone : Inside → List ℕ → Gone
+gone a s = record { ahead = a; store = s }
+
+-- the inner units of a string, from the bytes at n
+unfoldable pub stringAhead : ℕ → ℕ → List ℕ → ℕ → List ℕ → Gone
+stringAhead want left s n [] = gone (ahead (String want left) n) s
+stringAhead want left s n (b ∷ bs) =
+    if (isInner left b) (stringAhead want (left - 1) (set s (want - left) b) (n + 1) bs) (gone (ahead (String want left) n) s)
+
+unfoldable pub tokenAhead : Token → List ℕ → ℕ → List ℕ → Gone
+tokenAhead Between s n bs = gone (ahead Between n) s
+tokenAhead (Number class left v) s n bs = gone (numberAhead class left v n bs) s
+tokenAhead (String want left) s n bs = stringAhead want left s n bs
+tokenAhead (Body want left stored) s n bs = gone (ahead (Body want left stored) n) s
+
+-- unescaped, and nothing pending
+abbrev pub isPlain : Escape → Bool
+isPlain e = if (e .escaped) false (not (isWaiting (e .pending)))
+
+-- nothing told, and nothing escaped or pending
+abbrev pub isFree : Told → Bool
+isFree t = if (isMore (t .answer)) (isPlain (t .control .escape)) false
+
+-- what was heard, and the place of the byte after it
+pub record Turned : Type 0 where
+  pub heard : Heard
+  pub at : ℕ
+
+abbrev pub turned : Heard → ℕ → Turned
+turned h n = record { heard = h; at = n }
+
+abbrev pub stepped : Stepped → List ℕ → Turned
+stepped r s = turned (heard (r .told) s) (r .at)
+
+unfoldable pub aheadOf : Control → List ℕ → ℕ → List ℕ → Turned
+aheadOf c s n bs =
+    turned (quiet (control (c .escape) (c .node) (tokenAhead (c .token) s n bs .ahead .token)) (tokenAhead (c .token) s n bs .store))
+    (tokenAhead (c .token) s n bs .ahead .at)
+
+-- the inner units, where nothing is escaped or pending
+unfoldable pub onAhead : Heard → List ℕ → ℕ → Turned
+onAhead h bytes n = if (isFree (h .told)) (aheadOf (h .told .control) (h .store) n (drop n bytes)) (turned h n)
+
+-- one unit, and the inner units after it
+unfoldable pub onceOf : Control → List ℕ → List ℕ → ℕ → Turned
+onceOf c s bytes n =
+    onAhead (givenOf (comingOf (c .escape) bytes n .unit) (comingOf (c .escape) bytes n .escape) c s) bytes (comingOf (c .escape) bytes n .at)
+
+-- nothing told, and a byte is left or pending
+abbrev pub isOn : Told → ℕ → ℕ → Bool
+isOn t n end = if (isMore (t .answer)) (if (ltb n end) true (isWaiting (t .control .escape .pending))) false
