@@ -1,0 +1,15 @@
+pub mod Ordered
+pub mod Chunks
+pub mod Stays
+pub mod Moves
+pub mod Laying
+pub mod Finds
+pub mod Tests
+pub mod Keys
+pub mod Usables
+pub mod Placing
+pub mod Formed
+pub mod Lasting
+pub mod Said
+pub mod Equals
+pub mod Trips

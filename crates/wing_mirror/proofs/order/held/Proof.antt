@@ -1,0 +1,19 @@
+use borrow.Author.Tests.{lt-ltb, le-ltb}
+use Rattle.wing_mirror.specs.Table.{heldAt}
+use borrow.Author.Needs.{needs}
+use Rattle.wing_mirror.proofs.order.held.Statement.{statement}
+use Rattle.wing_mirror.proofs.order.held.Tie as tie
+
+key-at-requires : tie.Need-key-at-requires
+key-at-requires c κs = search needs
+
+returns : tie.Need-returns
+unfolding heldAt
+returns c = simp (lt-ltb _ _ (c .before .if1 .taken), c .key-at .ensures)
+
+returns-2 : tie.Need-returns-2
+unfolding heldAt
+returns-2 c = simp (le-ltb _ _ (c .if1 .left))
+
+pub held-spec : {M : Type 1} → statement M
+held-spec = tie.close (tie.spec key-at-requires returns returns-2)

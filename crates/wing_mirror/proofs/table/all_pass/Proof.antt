@@ -1,0 +1,58 @@
+use Prim.Native.Nat.{_-_}
+use mathlib.Core.Path.{_≡_, sym, _∙_, ap}
+use borrow.Author.Needs.{needs}
+use Rattle.wing_mirror.specs.Rows.{records}
+use Rattle.wing_mirror.specs.Table.{checked}
+use Rattle.wing_mirror.proofs.Tests.{from, from-all, turn, all-passed}
+use Rattle.wing_mirror.proofs.table.all_pass.Statement.{statement}
+use Rattle.wing_mirror.proofs.table.all_pass.Tie as tie
+
+abbrev Inv-loop : tie.InvT-loop
+Inv-loop table count i₀ i = checked (records 264 count table) ≡ checked (from count i table)
+
+abbrev μ-loop : tie.MeasureT-loop
+μ-loop table count i₀ i = count - i
+
+loop-holds : tie.Need-loop-holds Inv-loop μ-loop
+loop-holds c = ap checked (from-all (c .before .args .count) (c .before .args .table .now))
+
+passes-requires : tie.Need-passes-requires Inv-loop μ-loop
+passes-requires c κs = search needs
+
+add-i : tie.Need-add-i Inv-loop μ-loop
+add-i c = search needs
+
+loop-less : tie.Need-loop-less Inv-loop μ-loop
+loop-less c = search needs
+
+loop-again : tie.Need-loop-again Inv-loop μ-loop
+loop-again c =
+    let a = c .before .before .before .before .before .args in
+    let l = c .before .before .before .loop in
+    l .inv ∙ turn (a .count) (l .i) (a .table .now) (c .before .before .loop-test .taken) ∙ rw (← c .before .passes .ensures, c .if1 .taken)
+
+returns : tie.Need-returns Inv-loop μ-loop
+returns c =
+    let a = c .before .before .before .before .before .args in
+    let l = c .before .before .before .loop in
+    sym (l .inv ∙ turn (a .count) (l .i) (a .table .now) (c .before .before .loop-test .taken) ∙ rw (← c .before .passes .ensures, c .if1 .left))
+
+returns-2 : tie.Need-returns-2 Inv-loop μ-loop
+returns-2 c =
+    let a = c .before .before .before .args in
+    let l = c .before .loop in
+    sym (l .inv ∙ all-passed (a .count) (l .i) (a .table .now) (c .loop-test .left))
+
+pub all-pass-spec : {M : Type 1} → statement M
+all-pass-spec =
+    tie.close
+    (tie.spec
+    Inv-loop
+    μ-loop
+    loop-holds
+    passes-requires
+    add-i
+    loop-less
+    loop-again
+    returns
+    returns-2)

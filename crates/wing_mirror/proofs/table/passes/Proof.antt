@@ -1,0 +1,21 @@
+use Rattle.wing_mirror.specs.Table.{passesAt}
+use borrow.Author.Needs.{needs}
+use Rattle.wing_mirror.proofs.table.passes.Statement.{statement}
+use Rattle.wing_mirror.proofs.table.passes.Tie as tie
+
+formed-at-requires : tie.Need-formed-at-requires
+formed-at-requires c κs = search needs
+
+is-below-next-requires : tie.Need-is-below-next-requires
+is-below-next-requires c κs = search needs
+
+returns : tie.Need-returns
+unfolding passesAt
+returns c = simp (← c .before .before .formed-at .ensures, c .before .if1 .taken, c .is-below-next .ensures)
+
+returns-2 : tie.Need-returns-2
+unfolding passesAt
+returns-2 c = simp (← c .before .formed-at .ensures, c .if1 .left)
+
+pub passes-spec : {M : Type 1} → statement M
+passes-spec = tie.close (tie.spec formed-at-requires is-below-next-requires returns returns-2)

@@ -1,0 +1,5 @@
+pub mod Rows
+pub mod Record
+pub mod Table
+pub mod Query
+pub mod Puts

@@ -1,0 +1,20 @@
+-- A put: the table after it, and whether the record is in it.
+use Prim.Native.Nat.{ℕ}
+use mathlib.Core.Bool.{Bool, true, false}
+use mathlib.Core.List.{List}
+use Rattle.wing_node.specs.Bool.{if}
+use Rattle.wing_mirror.specs.Rows.{Table, takes, store}
+use Rattle.wing_mirror.specs.Record.{width, keyOf}
+use Rattle.wing_mirror.specs.Table.{table}
+use Rattle.wing_mirror.specs.declared.store.Kept.{Kept}
+
+pub record Done : Type 0 where
+  pub after : Table
+  pub taken : Bool
+
+-- 01: put if its node has a record or a place is free; otherwise nothing
+unfoldable pub putOf : List ℕ → Table → Done
+putOf r t = if (takes width keyOf r t) (record { after = store width keyOf r t; taken = true }) (record { after = t; taken = false })
+
+abbrev pub done : Kept → List ℕ → Done
+done k buffer = record { after = table buffer (k .count); taken = k .taken }

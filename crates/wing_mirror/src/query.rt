@@ -1,0 +1,157 @@
+// What a table is asked: an id's record number, a record, and whether two tables are the same.
+ghost use mathlib.Core.Path.{_≡_};
+ghost use mathlib.Core.Bool.{true};
+ghost use Prim.Native.Nat.{_+_, _*_, _≤_};
+ghost use lib.ListN.{length, take};
+ghost use Rattle.wing_node.specs.Value.{string as stringOf};
+ghost use Rattle.wing_mirror.specs.Rows.{records, rising, numberOf};
+ghost use Rattle.wing_mirror.specs.Record.{width, keyOf, entry, entryIn};
+ghost use Rattle.wing_mirror.specs.Table.{table as tableOf, rowAt};
+ghost use Rattle.wing_mirror.specs.Query.{lookupAnswer, answerOf, readOf, besideZeros, unread, recordAnswer, sameBytes, sameTables, sameAnswer};
+use crate::answer::Lookup;
+use crate::answer::RecordAnswer;
+use crate::answer::RecordRead;
+use crate::answer::Same;
+use crate::bytes::lay;
+use crate::order::held;
+use crate::order::search;
+use crate::record::least;
+use crate::record::rank;
+use crate::table::is_usable;
+use wing_node::field;
+use wing_node::value::Value;
+use wing_wire::state::State;
+
+fn number_of(table: &[u8], count: usize, key: u32) -> Lookup
+    requires { ⌜ (width * count ≤ length (now table)) × (rising keyOf (records width count (now table)) ≡ true) ⌝ }
+    ensures { λ r. ⌜ r ≡ answerOf (numberOf keyOf key (records width count (now (table .entry)))) ⌝ }
+{
+    let number = search(table, count, key);
+    if held(table, count, number, key) {
+        return Lookup::At(number);
+    }
+    Lookup::None
+}
+
+pub fn lookup(table: &[u8], count: usize, id: i32) -> Lookup
+    ensures { λ r. ⌜ r ≡ lookupAnswer (tableOf (now (table .entry)) count) id ⌝ }
+{
+    if is_usable(table, count) {
+        return number_of(table, count, rank(id));
+    }
+    Lookup::Refused(7)
+}
+
+fn refused(why: u8) -> RecordRead
+    ensures { λ r. ⌜ r ≡ unread why ⌝ }
+{
+    RecordRead {
+        answer: RecordAnswer::Refused(why),
+        string: [0u8; 256],
+    }
+}
+
+// The first n of a payload's bytes.
+fn string_read(id: i32, n: u16, payload: &[u8]) -> RecordRead
+    requires { ⌜ length (now payload) ≡ 256 ⌝ }
+    ensures { λ r. ⌜ r ≡ readOf (entry id (stringOf (take n (now (payload .entry))))) ⌝ }
+{
+    let len = least(n as usize, 256);
+    let mut string = [0u8; 256];
+    lay(&mut string, 0, &payload[..len]);
+    let value = Value::String(len as u16);
+    RecordRead {
+        answer: RecordAnswer::Record {
+            id: id,
+            value: value,
+        },
+        string: string,
+    }
+}
+
+// A value with no bytes beside it.
+fn number_read(id: i32, value: Value) -> RecordRead
+    ensures { λ r. ⌜ r ≡ besideZeros id value ⌝ }
+{
+    RecordRead {
+        answer: RecordAnswer::Record {
+            id: id,
+            value: value,
+        },
+        string: [0u8; 256],
+    }
+}
+
+// What a record says.
+fn read_record(rec: &[u8]) -> RecordRead
+    requires { ⌜ length (now rec) ≡ width ⌝ }
+    ensures { λ r. ⌜ r ≡ readOf (entryIn (now (rec .entry))) ⌝ }
+{
+    let id = field::i32_at(rec, 0);
+    if rec[4] == 0 {
+        return number_read(id, Value::Integer(field::i32_at(rec, 8)));
+    }
+    if rec[4] == 1 {
+        return number_read(id, Value::Float(field::u32_at(rec, 8)));
+    }
+    string_read(id, field::u16_at(rec, 6), &rec[8..])
+}
+
+fn read_at(table: &[u8], number: usize) -> RecordRead
+    requires { ⌜ width * number + width ≤ length (now table) ⌝ }
+    ensures { λ r. ⌜ r ≡ readOf (entryIn (rowAt number (now (table .entry)))) ⌝ }
+{
+    let at = State::PLACE_WIDTH * number;
+    read_record(&table[at..at + State::PLACE_WIDTH])
+}
+
+pub fn record(table: &[u8], count: usize, number: usize) -> RecordRead
+    ensures { λ r. ⌜ r ≡ recordAnswer (tableOf (now (table .entry)) count) number ⌝ }
+{
+    if is_usable(table, count) {
+        if number < count {
+            return read_at(table, number);
+        }
+        return refused(14);
+    }
+    refused(7)
+}
+
+fn same_bytes(a: &[u8], b: &[u8]) -> bool
+    requires { ⌜ length (now a) ≡ length (now b) ⌝ }
+    ensures { λ r. ⌜ r ≡ sameBytes (now (a .entry)) (now (b .entry)) ⌝ }
+{
+    let mut i = 0;
+    while i < a.len() {
+        if a[i] != b[i] {
+            return false;
+        }
+        i += 1;
+    }
+    true
+}
+
+fn same_records(a: &[u8], count_a: usize, b: &[u8], count_b: usize) -> bool
+    requires { ⌜ (width * «count_a» ≤ length (now a)) × (width * «count_b» ≤ length (now b)) ⌝ }
+    ensures { λ r. ⌜ r ≡ sameTables (tableOf (now (a .entry)) «count_a») (tableOf (now (b .entry)) «count_b») ⌝ }
+{
+    if count_a == count_b {
+        let end = State::PLACE_WIDTH * count_a;
+        return same_bytes(&a[..end], &b[..end]);
+    }
+    false
+}
+
+pub fn same(a: &[u8], count_a: usize, b: &[u8], count_b: usize) -> Same
+    ensures { λ r. ⌜ r ≡ sameAnswer (tableOf (now (a .entry)) «count_a») (tableOf (now (b .entry)) «count_b») ⌝ }
+{
+    if is_usable(a, count_a) {
+        if is_usable(b, count_b) {
+            if same_records(a, count_a, b, count_b) {
+                return Same::Yes;
+            }
+            return Same::No;
+        }
+    }
+    Same::Refused(7)
+}

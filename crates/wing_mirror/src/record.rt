@@ -1,0 +1,133 @@
+// A record of the table, 264 bytes: where it stands in the order, whether it has 01's form, and how one is laid.
+ghost use mathlib.Core.Path.{_≡_};
+ghost use Prim.Native.Nat.{_≤_, min};
+ghost use lib.ListN.{length, take, drop};
+ghost use Rattle.wing_node.specs.Field.{bytesOf};
+ghost use Rattle.wing_node.specs.Value.{meant};
+ghost use Rattle.wing_wire.specs.State.{zeros};
+ghost use Rattle.wing_mirror.specs.Record.{width, flipped, rankOf, keyOf, stringKept, wellKept, wellFormed, entry, recordOf, laidFrom};
+use crate::bytes;
+use wing_node::field;
+use wing_node::utf8::is_utf8;
+use wing_node::value::Value;
+
+// Signed order as the order of numbers: the top bit the other way.
+fn flip(bits: u32) -> u32
+    ensures { λ r. ⌜ r ≡ flipped bits ⌝ }
+{
+    if bits < 0x8000_0000 {
+        bits + 0x8000_0000
+    } else {
+        bits - 0x8000_0000
+    }
+}
+
+// Where an id stands in the order.
+pub(crate) fn rank(id: i32) -> u32
+    ensures { λ r. ⌜ r ≡ rankOf id ⌝ }
+{
+    flip(field::of_i32(id))
+}
+
+// Where a record stands in the order.
+pub(crate) fn key(rec: &[u8]) -> u32
+    requires { ⌜ length (now rec) ≡ width ⌝ }
+    ensures { λ r. ⌜ r ≡ keyOf (now (rec .entry)) ⌝ }
+{
+    flip(field::u32_at(rec, 0))
+}
+
+// The bytes from a place on are all 0.
+fn zeros_from(s: &[u8], at: usize) -> bool
+    ensures { λ r. ⌜ r ≡ zeros (drop at (now (s .entry))) ⌝ }
+{
+    let mut i = at;
+    while i < s.len() {
+        if s[i] != 0 {
+            return false;
+        }
+        i += 1;
+    }
+    true
+}
+
+// A string's length is 0 to 256, and its bytes are UTF-8.
+fn string_kept(n: u16, payload: &[u8]) -> bool
+    requires { ⌜ length (now payload) ≡ 256 ⌝ }
+    ensures { λ r. ⌜ r ≡ stringKept n (now (payload .entry)) ⌝ }
+{
+    if n <= 256 {
+        let len = n as usize;
+        if zeros_from(payload, len) {
+            return is_utf8(&payload[..len]);
+        }
+    }
+    false
+}
+
+fn well_kept(kind: u8, n: u16, payload: &[u8]) -> bool
+    requires { ⌜ length (now payload) ≡ 256 ⌝ }
+    ensures { λ r. ⌜ r ≡ wellKept kind n (now (payload .entry)) ⌝ }
+{
+    if kind <= 1 {
+        if n == 4 {
+            return zeros_from(payload, 4);
+        }
+        return false;
+    }
+    if kind == 2 {
+        return string_kept(n, payload);
+    }
+    false
+}
+
+pub(crate) fn well_formed(rec: &[u8]) -> bool
+    requires { ⌜ length (now rec) ≡ width ⌝ }
+    ensures { λ r. ⌜ r ≡ wellFormed (now (rec .entry)) ⌝ }
+{
+    if rec[5] == 0 {
+        return well_kept(rec[4], field::u16_at(rec, 6), &rec[8..]);
+    }
+    false
+}
+
+// Kind, length and payload of a number.
+fn lay_number(out: &mut [u8], kind: u8, bits: u32)
+    requires { ⌜ length (now out) ≡ width ⌝ }
+    ensures { λ _. ⌜ now (out .exit) ≡ laidFrom (now (out .entry)) kind (bytesOf 4 bits) ⌝ }
+{
+    out[4] = kind;
+    field::put_u16(out, 6, 4);
+    field::put_u32(out, 8, bits);
+}
+
+pub(crate) fn least(a: usize, b: usize) -> usize
+    ensures { λ r. ⌜ r ≡ min a b ⌝ }
+{
+    if a < b { a } else { b }
+}
+
+// Kind, length and payload of a string, the first n of the bytes lent.
+fn lay_string(out: &mut [u8], string: &[u8], n: u16)
+    requires { ⌜ (length (now out) ≡ width) × (length (now string) ≤ 256) ⌝ }
+    ensures { λ _. ⌜ now (out .exit) ≡ laidFrom (now (out .entry)) 2 (take n (now (string .entry))) ⌝ }
+{
+    let len = least(n as usize, string.len());
+    out[4] = 2;
+    field::put_u16(out, 6, len as u16);
+    bytes::lay(out, 8, &string[..len]);
+}
+
+// The record of an id and a value; a string's bytes stand beside its length.
+pub(crate) fn lay_record(out: &mut [u8], id: i32, value: Value, string: &[u8])
+    requires { ⌜ (length (now out) ≡ width) × (length (now string) ≤ 256) ⌝ }
+    ensures { λ _. ⌜ now (out .exit) ≡ recordOf (entry id (meant value (now (string .entry)))) ⌝ }
+{
+    bytes::clear(out);
+    field::put_i32(out, 0, id);
+    match value {
+        Value::Integer(x) => lay_number(out, 0, field::of_i32(x)),
+        Value::Float(bits) => lay_number(out, 1, bits),
+        Value::String(n) => lay_string(out, string, n),
+    }
+}
