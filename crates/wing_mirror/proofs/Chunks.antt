@@ -6,8 +6,7 @@ use native.Mathlib.Omega.{arith}
 use native.Mathlib.Nat.{mul-suc, mul-zero, mul-le-mul-left}
 use lib.ListN.{length, take, drop, length-append, length-drop, take-append-drop}
 use lib.Seq.{take-at, drop-at, drop-drop, length-take-le, drop-append-add, take-add}
-use Rattle.wing_mirror.specs.Rows.{records, joined, laid}
-use Rattle.wing_mirror.proofs.Ordered.{All}
+use Rattle.wing_mirror.specs.Rows.{records, joined, laid, All}
 
 -- every record has the width w
 abbrev pub Wide : ℕ → List (List ℕ) → Type 0

@@ -8,12 +8,7 @@ use borrow.Author.Tests.{lt-ltb, le-ltb, eq-eqb, ne-eqb, ltb-true, ltb-false, eq
 use lib.Dec.{ltb, eqb}
 use lib.ListN.{length}
 use Rattle.wing_node.specs.Bool.{if}
-use Rattle.wing_mirror.specs.Rows.{holds, over, rising, insert}
-
--- each element has the property
-abbrev pub All {ℓ} : {A : Type ℓ} → (A → Type 0) → List A → Type 0
-All P [] = Unit {0}
-All P (x ∷ xs) = P x × All P xs
+use Rattle.wing_mirror.specs.Rows.{holds, over, rising, insert, All}
 
 pub data Cmp (a b : ℕ) : Type 0 where
   low : a < b → Cmp a b

@@ -1,4 +1,4 @@
--- What the branches of put come to.
+-- What the branches of has_room and put come to.
 use Prim.Native.Nat.{ℕ, suc, _+_, _-_, _*_, _/_, _≤_, _<_}
 use mathlib.Core.Bool.{Bool, true, false}
 use mathlib.Core.Path.{_≡_, sym, _∙_, ap, ap₂}
@@ -6,6 +6,7 @@ use mathlib.Core.List.{List, _++_, append-assoc}
 use native.Mathlib.Omega.{arith}
 use native.Mathlib.Nat.{mul-div-le}
 use borrow.Author.Tests.{lt-ltb, le-ltb}
+use lib.Dec.{ltb}
 use lib.ListN.{length, take, drop}
 use lib.Seq.{sets, sets-eq}
 use Rattle.wing_node.specs.Bool.{if}
@@ -81,3 +82,11 @@ module _ (b r : List ℕ) (n : ℕ) (u : usable (table b n) ≡ true) (wide : le
         c ≡ take (264 * p + 264) b ++ (take (264 * n - 264 * p) (drop (264 * p) b) ++ drop (264 * n + 264) b) → d ≡ sets c (264 * p) r →
         kept d (n + 1) ≡ putOf r (table b n)
     new-one c d q l e f = rw (f, p-is) (put-new b r n rise wide (holds-is false q) l c (rw p-is at e))
+
+    pub takes-there : h ≡ true → true ≡ takes 264 keyOf r (table b n)
+    unfolding takes
+    takes-there q = rw (holds-is true q)
+
+    pub takes-free : h ≡ false → ltb n (length b / 264) ≡ takes 264 keyOf r (table b n)
+    unfolding takes
+    takes-free q = rw (holds-is false q)

@@ -8,9 +8,9 @@ use borrow.Author.Tests.{eq-eqb, ne-eqb}
 use lib.IntN.{ℤ}
 use lib.ListN.{length, take, drop, getD, replicate, length-take, length-drop}
 use lib.Seq.{sets, drop-drop, take-all}
-use Rattle.wing_node.specs.Field.{big, fieldAt}
+use Rattle.wing_node.specs.Field.{fieldAt}
 use Rattle.wing_node.specs.Signed.{signed}
-use Rattle.wing_node.specs.Value.{string}
+use Rattle.wing_node.specs.Value.{integer, float, string}
 use Rattle.wing_node.specs.declared.value.Value.the-variants.{Integer, Float, String}
 use Rattle.wing_node.proofs.Placed.{field-whole}
 use Rattle.wing_wire.specs.Reader.{filled}
@@ -43,21 +43,32 @@ module _ (r : List ℕ) (wide : length r ≡ 264) (id : ℤ) (eid : id ≡ signe
   id-is : id ≡ idIn r
   id-is = eid ∙ ap (signed 31) (field-whole 4 r 0 (omega arith))
 
+  pub integer-entry : (x : ℤ) → getD r 4 0 ≡ 0 → x ≡ signed 31 (fieldAt 4 r 8) → entry id (integer x) ≡ entryIn r
+  unfolding entryIn valueIn
+  integer-entry x k e =
+      rw (eq-eqb (getD r 4 0) 0 k) (ap₂ (λ (a b : ℤ). entry a (integer b)) id-is (e ∙ ap (signed 31) (field-whole 4 r 8 (omega arith))))
+
+  pub float-entry : (bits : ℕ) → (getD r 4 0 ≡ 0 → ⊥) → getD r 4 0 ≡ 1 → bits ≡ fieldAt 4 r 8 → entry id (float bits) ≡ entryIn r
+  unfolding entryIn valueIn
+  float-entry bits j k e =
+      rw (ne-eqb (getD r 4 0) 0 j, eq-eqb (getD r 4 0) 1 k) (ap₂ (λ (a : ℤ) (b : ℕ). entry a (float b)) id-is (e ∙ field-whole 4 r 8 (omega arith)))
+
+  pub string-entry : (n : ℕ) → (getD r 4 0 ≡ 0 → ⊥) → (getD r 4 0 ≡ 1 → ⊥) → n ≡ fieldAt 2 r 6 → entry id (string (take n (drop 8 r))) ≡ entryIn r
+  unfolding entryIn valueIn
+  string-entry n j k e =
+      rw (ne-eqb (getD r 4 0) 0 j, ne-eqb (getD r 4 0) 1 k)
+      (ap₂ (λ (a : ℤ) (m : ℕ). entry a (string (take m (drop 8 r)))) id-is (e ∙ field-whole 2 r 6 (omega arith)))
+
   pub integer-said : (x : ℤ) → getD r 4 0 ≡ 0 → x ≡ signed 31 (fieldAt 4 r 8) → besideZeros id (Integer x) ≡ readOf (entryIn r)
-  unfolding readOf valueOf bytesBeside entryIn valueIn
-  integer-said x k e =
-      rw (eq-eqb (getD r 4 0) 0 k) (ap₂ (λ (a b : ℤ). besideZeros a (Integer b)) id-is (e ∙ ap (signed 31) (field-whole 4 r 8 (omega arith))))
+  unfolding readOf valueOf bytesBeside
+  integer-said x k e = ap readOf (integer-entry x k e)
 
   pub float-said : (bits : ℕ) → (getD r 4 0 ≡ 0 → ⊥) → getD r 4 0 ≡ 1 → bits ≡ fieldAt 4 r 8 → besideZeros id (Float bits) ≡ readOf (entryIn r)
-  unfolding readOf valueOf bytesBeside entryIn valueIn
-  float-said bits j k e =
-      rw (ne-eqb (getD r 4 0) 0 j, eq-eqb (getD r 4 0) 1 k) (ap₂ (λ (a : ℤ) (b : ℕ). besideZeros a (Float b)) id-is (e ∙ field-whole 4 r 8 (omega arith)))
+  unfolding readOf valueOf bytesBeside
+  float-said bits j k e = ap readOf (float-entry bits j k e)
 
   pub string-read-said : (n : ℕ) → (getD r 4 0 ≡ 0 → ⊥) → (getD r 4 0 ≡ 1 → ⊥) → n ≡ fieldAt 2 r 6 →
       readOf (entry id (string (take n (take (length r - 8) (drop 8 r))))) ≡ readOf (entryIn r)
-  unfolding entryIn valueIn
   string-read-said n j k e =
       let a : take (length r - 8) (drop 8 r) ≡ drop 8 r = take-all (length r - 8) (drop 8 r) (omega (arith, length-drop 8 r)) in
-      let m : n ≡ big (take 2 (drop 6 r)) = e ∙ field-whole 2 r 6 (omega arith) in
-      rw (ne-eqb (getD r 4 0) 0 j, ne-eqb (getD r 4 0) 1 k)
-      (ap (λ (q : List ℕ). readOf (entry id (string (take n q)))) a ∙ ap₂ (λ (i : ℤ) (q : ℕ). readOf (entry i (string (take q (drop 8 r))))) id-is m)
+      ap (λ (q : List ℕ). readOf (entry id (string (take n q)))) a ∙ ap readOf (string-entry n j k e)

@@ -3,3 +3,12 @@ pub mod Record
 pub mod Table
 pub mod Query
 pub mod Puts
+pub mod Counts
+pub mod Call
+pub mod Mirror
+pub mod Tally
+pub mod Sets
+pub mod Machine
+pub mod Recall
+pub mod Sending
+pub mod History

@@ -91,6 +91,11 @@ module _ (w : ℕ) where
       pub rest : drop (w * store r t .count) (store r t .buffer) ≡ drop (w * store r t .count) (t .buffer)
       pub size : length (store r t .buffer) ≡ length (t .buffer)
 
+-- each of the elements has it
+abbrev pub All {ℓ} : {A : Type ℓ} → (A → Type 0) → List A → Type 0
+All P [] = Unit {0}
+All P (x ∷ xs) = P x × All P xs
+
 -- x is one of the elements
 abbrev pub In : {A : Type 0} → A → List A → Type 0
 In x [] = ⊥

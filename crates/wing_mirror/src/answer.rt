@@ -1,5 +1,7 @@
-// What the queries of a table answer.
+// What the queries of a table, a feed and a set answer.
 use wing_node::value::Value;
+use wing_wire::state::State;
+use wing_wire::write::Written;
 
 // An id's record number.
 pub enum Lookup {
@@ -25,4 +27,33 @@ pub enum Same {
     Yes,
     No,
     Refused(u8),
+}
+
+// The six counts of a feed.
+pub struct Counts {
+    pub stored: u32,
+    pub unplaced: u32,
+    pub strings_refused: u32,
+    pub definitions_read: u32,
+    pub definitions_refused: u32,
+    pub ends: u32,
+}
+
+pub enum FeedAnswer {
+    Taken,
+    Refused(u8),
+}
+
+// The answer of a feed with its six counts, the state after it and the number of records. A refused feed has six zero counts.
+pub struct FeedReply {
+    pub answer: FeedAnswer,
+    pub counts: Counts,
+    pub state: State,
+    pub count: usize,
+}
+
+// The answer of a set with the number of records.
+pub struct SetReply {
+    pub answer: Written,
+    pub count: usize,
 }

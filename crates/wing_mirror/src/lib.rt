@@ -1,8 +1,13 @@
 // The mirror library: the last value of each node, in a table of records in a lent buffer.
 pub mod answer;
 mod bytes;
+mod counts;
+pub mod feed;
+mod keep;
 mod order;
 pub mod query;
+pub mod recall;
 mod record;
+pub mod set;
 mod store;
 pub mod table;

@@ -1,15 +1,15 @@
 // A record of the table, 264 bytes: where it stands in the order, whether it has 01's form, and how one is laid.
 ghost use mathlib.Core.Path.{_≡_};
 ghost use Prim.Native.Nat.{_≤_, min};
-ghost use lib.ListN.{length, take, drop};
+ghost use lib.ListN.{length, take};
 ghost use Rattle.wing_node.specs.Field.{bytesOf};
 ghost use Rattle.wing_node.specs.Value.{meant};
-ghost use Rattle.wing_wire.specs.State.{zeros};
 ghost use Rattle.wing_mirror.specs.Record.{width, flipped, rankOf, keyOf, stringKept, wellKept, wellFormed, entry, recordOf, laidFrom};
 use crate::bytes;
 use wing_node::field;
 use wing_node::utf8::is_utf8;
 use wing_node::value::Value;
+use wing_wire::state::zeros_from;
 
 // Signed order as the order of numbers: the top bit the other way.
 fn flip(bits: u32) -> u32
@@ -35,20 +35,6 @@ pub(crate) fn key(rec: &[u8]) -> u32
     ensures { λ r. ⌜ r ≡ keyOf (now (rec .entry)) ⌝ }
 {
     flip(field::u32_at(rec, 0))
-}
-
-// The bytes from a place on are all 0.
-fn zeros_from(s: &[u8], at: usize) -> bool
-    ensures { λ r. ⌜ r ≡ zeros (drop at (now (s .entry))) ⌝ }
-{
-    let mut i = at;
-    while i < s.len() {
-        if s[i] != 0 {
-            return false;
-        }
-        i += 1;
-    }
-    true
 }
 
 // A string's length is 0 to 256, and its bytes are UTF-8.

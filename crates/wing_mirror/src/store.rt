@@ -2,7 +2,8 @@
 ghost use mathlib.Core.Path.{_≡_};
 ghost use mathlib.Core.Bool.{true};
 ghost use lib.ListN.{length};
-ghost use Rattle.wing_mirror.specs.Record.{width};
+ghost use Rattle.wing_mirror.specs.Rows.{takes};
+ghost use Rattle.wing_mirror.specs.Record.{width, keyOf};
 ghost use Rattle.wing_mirror.specs.Table.{table as tableOf, usable};
 ghost use Rattle.wing_mirror.specs.Puts.{done, putOf};
 use crate::bytes::lay;
@@ -17,6 +18,19 @@ use wing_wire::state::State;
 pub struct Kept {
     pub count: usize,
     pub taken: bool,
+}
+
+// Its id has a record, or a place is free.
+pub(crate) fn has_room(table: &[u8], count: usize, rec: &[u8]) -> bool
+    requires { ⌜ (usable (tableOf (now table) count) ≡ true) × (length (now rec) ≡ width) ⌝ }
+    ensures { λ r. ⌜ r ≡ takes width keyOf (now (rec .entry)) (tableOf (now (table .entry)) count) ⌝ }
+{
+    let key = record::key(rec);
+    let number = search(table, count, key);
+    if held(table, count, number, key) {
+        return true;
+    }
+    count < places(table)
 }
 
 // Into its place, or instead of the record with its id; not taken where its id is new and no place is free.

@@ -60,7 +60,7 @@ fn all_pass(table: &[u8], count: usize) -> bool
     true
 }
 
-fn is_sound(table: &[u8], count: usize) -> bool
+pub fn is_sound(table: &[u8], count: usize) -> bool
     ensures { λ r. ⌜ r ≡ soundTable (tableOf (now (table .entry)) count) ⌝ }
 {
     if count <= places(table) {

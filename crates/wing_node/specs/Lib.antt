@@ -11,4 +11,5 @@ pub mod Types
 pub mod Definition
 pub mod Laid
 pub mod Items
+pub mod Walker
 pub mod Cases

@@ -6,3 +6,4 @@ pub mod items;
 pub mod node_type;
 pub mod utf8;
 pub mod value;
+pub mod walker;

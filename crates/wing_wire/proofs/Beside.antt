@@ -13,11 +13,11 @@ use Rattle.wing_node.specs.Bool.{if}
 use Rattle.wing_wire.specs.State.{soundState}
 use Rattle.wing_wire.specs.Stream.{Run, advanceOf}
 use Rattle.wing_wire.specs.Reader.{value, body, refused, eventOf, over, filled, stringBeside, bodyBeside, refusedNext, nextFrom, nextOf, eventIn, nextEvent}
-use Rattle.wing_wire.specs.Range.{AreBytes, Within, InRange}
+use Rattle.wing_wire.specs.Range.{Within}
 use Rattle.wing_wire.specs.declared.state.State.{State}
 use Rattle.wing_wire.proofs.Overs.{length-over}
-use Rattle.wing_wire.proofs.Sound.{state-parts, next-within}
-use Rattle.wing_wire.proofs.Ranges.{advance-in}
+use Rattle.wing_wire.proofs.Bounds.{advance-bounded}
+use Rattle.wing_wire.proofs.Sound.{sound-tame}
 use Rattle.wing_wire.specs.declared.unit.Answer.{Answer}
 use Rattle.wing_wire.specs.declared.unit.Answer.the-variants.{More, Integer, Float, String, Body, End, Refused}
 
@@ -70,19 +70,18 @@ body-length End s = length-replicate {A = ℕ} 4096 0
 body-length (Refused n) s = length-replicate {A = ℕ} 4096 0
 
 -- a reply says the event that the units gave: its arrays hold the whole string or body
-pub next-event : (s : State) (bytes : List ℕ) → InRange (s .control) (s .store) → AreBytes bytes → eventIn (nextOf s bytes) ≡ nextEvent s bytes
+pub next-event : (s : State) (bytes : List ℕ) → length (s .store) ≡ 4096 → eventIn (nextOf s bytes) ≡ nextEvent s bytes
 unfolding nextOf nextEvent eventOf
-next-event s bytes g b = go (soundState s) (leb (length bytes) 65536) refl
+next-event s bytes l = go (soundState s) (leb (length bytes) 65536) refl
   where
     r : Run
     r = advanceOf (s .control) (s .store) bytes
 
-    within : soundState s ≡ true → Within (r .heard .told .answer) (r .heard .store)
-    within e = next-within (s .control) (s .store) bytes b (state-parts s (g .pending) e)
-
-    go : (q l : Bool) → soundState s ≡ q →
-        eventIn (if q (if l (nextFrom r) (refusedNext 14 s)) (refusedNext 8 s)) ≡
-        if q (if l (eventOf (r .heard .told .answer) (r .heard .store) (r .heard .store)) (refused 14)) (refused 8)
-    go true true e = event-beside (r .heard .told .answer) (r .heard .store) (advance-in (s .control) (s .store) bytes b g .store .size) (within e)
+    go : (q k : Bool) → soundState s ≡ q →
+        eventIn (if q (if k (nextFrom r) (refusedNext 14 s)) (refusedNext 8 s)) ≡
+        if q (if k (eventOf (r .heard .told .answer) (r .heard .store) (r .heard .store)) (refused 14)) (refused 8)
+    go true true e =
+        let b = advance-bounded (s .control) (s .store) bytes (sound-tame s e) in
+        event-beside (r .heard .told .answer) (r .heard .store) (b .size ∙ l) (b .within)
     go true false e = refl
-    go false l e = refl
+    go false k e = refl

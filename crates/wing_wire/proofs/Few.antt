@@ -23,7 +23,8 @@ use Rattle.wing_wire.specs.declared.escape.Unit.the-variants.{Nothing, B
 use Rattle.wing_wire.specs.declared.escape.Decoded.{Decoded}
 use Rattle.wing_wire.specs.declared.unit.Answer.{Answer}
 use Rattle.wing_wire.proofs.Pieces.{clash, settle-calm}
-use Rattle.wing_wire.proofs.Sound.{branch, and-left, escape-parts}
+use Rattle.wing_wire.proofs.Branches.{branch, and-left}
+use Rattle.wing_wire.proofs.Sound.{escape-parts}
 
 -- what a byte gives and leaves weighs at most one more than what stood before it
 abbrev Light : ℕ → Decoded → Type 0

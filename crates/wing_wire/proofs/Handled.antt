@@ -9,7 +9,8 @@ use Rattle.wing_wire.specs.Range.{AreBytes, noBytes, byteThen, Within, S
 use Rattle.wing_wire.specs.declared.state.Pending.the-variants.{None}
 use Rattle.wing_wire.specs.declared.unit.Answer.{Answer}
 use Rattle.wing_wire.proofs.Pieces.{settle-calm}
-use Rattle.wing_wire.proofs.Sound.{branch, Good, Kept, settle-good, first-good}
+use Rattle.wing_wire.proofs.Branches.{branch}
+use Rattle.wing_wire.proofs.Sound.{Good, Kept, settle-good, first-good}
 use Rattle.wing_wire.proofs.Ranges.{HeardIn, after-in, settle-in, first-in}
 
 module _ {M : Type 0} (h : ℤ → Answer → List ℕ → M → M) (P : M → Type 0)

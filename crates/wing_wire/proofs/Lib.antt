@@ -11,6 +11,8 @@ pub mod Inners
 pub mod Plains
 pub mod FirstUnits
 pub mod Steps
+pub mod Branches
+pub mod Bounds
 pub mod Sound
 pub mod Ranges
 pub mod Handled

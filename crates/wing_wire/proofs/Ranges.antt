@@ -36,7 +36,8 @@ use Rattle.wing_wire.specs.declared.unit.Answer.the-variants.{More, Inte
 use Rattle.wing_wire.specs.declared.unit.Taken.{Taken}
 use Rattle.wing_wire.specs.declared.reader.Reply.{Reply}
 use Rattle.wing_wire.proofs.Pieces.{at, stays, run-on}
-use Rattle.wing_wire.proofs.Sound.{branch, UnitByte, noUnit, bare, appended}
+use Rattle.wing_wire.proofs.Branches.{branch}
+use Rattle.wing_wire.proofs.Sound.{UnitByte, noUnit, bare, appended}
 
 -- ---- lists of bytes
 
@@ -90,7 +91,7 @@ pub record TakenIn (t : Taken) : Type 0 where
 abbrev pub OutIn : Out → Type 0
 OutIn o = TakenIn (o .taken) × Stored (o .store)
 
-signed-in : (v : ℕ) → v < 2 ^ 32 → InBits 31 (signed 31 v)
+pub signed-in : (v : ℕ) → v < 2 ^ 32 → InBits 31 (signed 31 v)
 signed-in v h = branch (InBits 31) (ltb v (2 ^ 31)) _ _ (λ e. ltb-true _ _ e) (λ e. let l : 2 ^ 31 ≤ v = ltb-false _ _ e in omega arith)
 
 signed-short : (v : ℕ) → v < 0x10000 → InBits 31 (signed 15 v)

@@ -25,8 +25,9 @@ use Rattle.wing_wire.specs.Token.{rule, ruleIn, ruleOf}
 use Rattle.wing_wire.specs.State.{escape, control, zeros, soundEscape, soundCounts, storedBy, soundToken, soundState}
 use Rattle.wing_wire.specs.Unit.{gives, singleOf, isString, tokenOf, numberOf, out, stringDone}
 use Rattle.wing_wire.specs.Stream.{told, Heard, heard, quiet, isMore, joined, settleOf, Run, runOf, advanceOf, released, Fed, fedFrom, feedOf}
-use Rattle.wing_wire.specs.Reader.{value, eventOf, stringBeside, bodyBeside, nextOf, eventIn}
+use Rattle.wing_wire.specs.Reader.{Event, value, eventOf, stringBeside, bodyBeside, nextOf, eventIn}
 use Rattle.wing_wire.specs.Range.{Within}
+use Rattle.wing_wire.specs.RoundTrip.{Settable, calmState, Returned, RoundTrip, joint, feeds, fedCalm, RoundTripPieces}
 use Rattle.wing_wire.specs.declared.token.Class.{Class}
 use Rattle.wing_wire.specs.declared.token.Class.the-variants.{Integer as anInteger, String as aString, Length, Int16, Int32, Float as aFloat, Node}
 use Rattle.wing_wire.specs.declared.state.Pending.the-variants.{None}
@@ -40,15 +41,9 @@ use Rattle.wing_wire.proofs.Lays.{escaped-append}
 use Rattle.wing_wire.proofs.Sizes.{set-int-le, set-float-le, set-string-le}
 use Rattle.wing_wire.proofs.Pieces.{at, calm-same, feed-calm, feed-pieces}
 use Rattle.wing_wire.proofs.Steps.{fed, feed-again}
-use Rattle.wing_wire.proofs.Sound.{and-left, and-right}
+use Rattle.wing_wire.proofs.Branches.{and-left, and-right}
 use Rattle.wing_wire.proofs.Beside.{event-beside}
 use Rattle.wing_wire.proofs.Trips.{width, width-append, ready, waits, number-whole, string-whole, begin-run, single-run}
-
--- what a set order can hold: every i32, all 2^32 float bits, every UTF-8 string of 0 to 256 bytes
-abbrev pub Settable : NodeValue → Type 0
-Settable (integer x) = InBits 31 x
-Settable (float bits) = bits < 0x100000000
-Settable (string t) = (length t ≤ 256) × (utf8 t ≡ true)
 
 -- the answer for a value, and the store that holds its string
 abbrev pub answerTo : NodeValue → Answer
@@ -304,7 +299,7 @@ within-answer (integer x) s h room = tt
 within-answer (float bits) s h room = tt
 within-answer (string t) s h room = (h .0, ap utf8 (string-held t s (omega (arith, h .0))) ∙ h .1)
 
-value-event : (v : NodeValue) (s : List ℕ) → Settable v → 256 ≤ length s → eventOf (answerTo v) (storeWith v s) (storeWith v s) ≡ value v
+pub value-event : (v : NodeValue) (s : List ℕ) → Settable v → 256 ≤ length s → eventOf (answerTo v) (storeWith v s) (storeWith v s) ≡ value v
 unfolding eventOf
 value-event (integer x) s h room = refl
 value-event (float bits) s h room = refl
@@ -321,19 +316,8 @@ set-short id (integer x) h = omega (arith, set-int-le id x)
 set-short id (float bits) h = omega (arith, set-float-le id bits)
 set-short id (string t) h = omega (arith, set-string-le id t (decides t .right (h .1)) (h .0))
 
--- a state that is unescaped, between tokens and with nothing pending, on any channel, at any node
-abbrev pub calmState : ℤ → ℤ → List ℕ → State
-calmState ch node s = record { control = control (escape false ch None) node Between; store = s }
-
--- what reading a set order gives: that value, all bytes taken, and such a state again, at that node and on the same channel
-pub record Returned (ch node id : ℤ) (s : List ℕ) (v : NodeValue) : Type 0 where
-  pub event : eventIn (nextOf (calmState ch node s) (setBytes id v)) ≡ value v
-  pub taken : nextOf (calmState ch node s) (setBytes id v) .taken ≡ length (setBytes id v)
-  pub state : nextOf (calmState ch node s) (setBytes id v) .state ≡ calmState ch id s
-
 -- for every node and every value that a set order holds
-pub round-trip : (ch node id : ℤ) (s : List ℕ) (v : NodeValue) → InBits 31 id → Settable v → length s ≡ 4096 →
-    soundState (calmState ch node s) ≡ true → Returned ch node id s v
+pub round-trip : RoundTrip
 unfolding nextOf soundState soundToken soundCounts storedBy
 round-trip ch node id s v i h full sound =
     let short : length (setBytes id v) ≤ 65536 = set-short id v h in
@@ -352,18 +336,9 @@ not-more (integer x) = refl
 not-more (float bits) = refl
 not-more (string t) = refl
 
--- the same for bytes that come in any pieces, through every answer and for any handler: the value is handed on once
+-- fed whole, for any handler: the value is handed on once
 module _ {M : Type 0} (f : ℤ → Answer → List ℕ → M → M) where
-  -- feeds one after the other
-  abbrev pub feeds : Fed M → List (List ℕ) → Fed M
-  feeds x [] = x
-  feeds x (p ∷ ps) = feeds (feedOf f x p) ps
-
-  abbrev pub joint : List (List ℕ) → List ℕ
-  joint [] = []
-  joint (p ∷ ps) = p ++ joint ps
-
-  fed-whole : (ch node id : ℤ) (s : List ℕ) (v : NodeValue) (m : M) → InBits 31 id → Settable v → 256 ≤ length s → zeros s ≡ true →
+  pub fed-whole : (ch node id : ℤ) (s : List ℕ) (v : NodeValue) (m : M) → InBits 31 id → Settable v → 256 ≤ length s → zeros s ≡ true →
       feedOf f (fed f (control (escape false ch None) node Between) s m) (setBytes id v) ≡
       fed f (control (escape false ch None) id Between) s (f id (answerTo v) (storeWith v s) m)
   unfolding feedOf fedFrom
@@ -373,16 +348,21 @@ module _ {M : Type 0} (f : ℤ → Answer → List ℕ → M → M) where
       let again = rw run at (feed-again f c s m (setBytes id v) (rw run (not-more v))) in
       again ∙ rw (drop-length (setBytes id v), given-out v s h room clear) (calm-same f (fed f (control (escape false ch None) id Between) s (f id (answerTo v) (storeWith v s) m)) refl)
 
-  pieces : (x : Fed M) (ps : List (List ℕ)) → x .control .escape .pending ≡ None → feeds x ps ≡ feedOf f x (joint ps)
-  unfolding feedOf fedFrom
-  pieces x [] e = sym (calm-same f x e)
-  pieces x (p ∷ ps) e = pieces (feedOf f x p) ps (feed-calm f x p) ∙ sym (feed-pieces f x p (joint ps))
+module _ {M : Type 0} (h : ℤ → Event → M → M) where
+  abbrev handed : ℤ → Answer → List ℕ → M → M
+  handed node a s m = h node (eventOf a s s) m
 
-  pub round-trip-pieces : (ch node id : ℤ) (s : List ℕ) (v : NodeValue) (m : M) (ps : List (List ℕ)) → InBits 31 id → Settable v → length s ≡ 4096 →
-      soundState (calmState ch node s) ≡ true → joint ps ≡ setBytes id v →
-      feeds (fed f (control (escape false ch None) node Between) s m) ps ≡
-      fed f (control (escape false ch None) id Between) s (f id (answerTo v) (storeWith v s) m)
+  pieces : (x : Fed M) (ps : List (List ℕ)) → x .control .escape .pending ≡ None → feeds h x ps ≡ feedOf handed x (joint ps)
+  unfolding feedOf fedFrom
+  pieces x [] e = sym (calm-same handed x e)
+  pieces x (p ∷ ps) e = pieces (feedOf handed x p) ps (feed-calm handed x p) ∙ sym (feed-pieces handed x p (joint ps))
+
+  -- the same for the bytes arriving in any pieces
+  pub round-trip-pieces : RoundTripPieces h
   unfolding soundState soundToken soundCounts storedBy
-  round-trip-pieces ch node id s v m ps i h full sound e =
-      let x = fed f (control (escape false ch None) node Between) s m in
-      pieces x ps refl ∙ (ap (feedOf f x) e ∙ fed-whole ch node id s v m i h (omega arith) (and-right (soundEscape (escape false ch None)) (zeros s) sound))
+  round-trip-pieces ch node id s v m ps i k full sound e =
+      let room : 256 ≤ length s = omega arith in
+      pieces (fedCalm h ch node s m) ps refl
+      ∙ ap (feedOf handed (fedCalm h ch node s m)) e
+      ∙ fed-whole handed ch node id s v m i k room (and-right (soundEscape (escape false ch None)) (zeros s) sound)
+      ∙ ap (λ (x : Event). fedCalm h ch id s (h id x m)) (value-event v s k room)

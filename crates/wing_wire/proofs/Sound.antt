@@ -36,25 +36,10 @@ use Rattle.wing_wire.specs.declared.escape.Decoded.{Decoded}
 use Rattle.wing_wire.specs.declared.unit.Answer.{Answer}
 use Rattle.wing_wire.specs.declared.unit.Taken.{Taken}
 use Rattle.wing_wire.specs.declared.reader.Reply.{Reply}
+use Rattle.wing_wire.proofs.Branches.{branch, and-left, and-right, and-both}
+use Rattle.wing_wire.proofs.Bounds.{Tame, Fits, rule-fits, unit-bounded}
 use Rattle.wing_wire.proofs.Pieces.{at, clash, settle-calm, stays, run-on, released-more}
 use Rattle.wing_wire.proofs.Steps.{step-calm}
-
--- P of a decision tree, from P of each branch, with the test in hand
-pub branch : {A : Type 0} (P : A → Type 0) (t : Bool) (a b : A) → (t ≡ true → P a) → (t ≡ false → P b) → P (if t a b)
-branch P true a b p q = p refl
-branch P false a b p q = q refl
-
--- two tests that both pass
-pub and-left : (a b : Bool) → and a b ≡ true → a ≡ true
-and-left true b e = refl
-and-left false b e = e
-
-pub and-right : (a b : Bool) → and a b ≡ true → b ≡ true
-and-right true b e = e
-and-right false b e = absurd (let w : _≡_ {A = ℕ} 0 1 = cc in omega arith)
-
-pub and-both : (a b : Bool) → a ≡ true → b ≡ true → and a b ≡ true
-and-both a b p q = rw (p, q)
 
 -- ---- zeros
 
@@ -168,33 +153,6 @@ tested (Number class left v) s g = rw (le-leb _ _ (g .some), le-leb _ _ (g .fits
 tested (InString want left) s g = rw (le-leb _ _ (g .some), le-leb _ _ (g .fits), le-leb _ _ (g .most)) (g .unused)
 tested (InBody want left stored) s g =
     rw (le-leb _ _ (g .some), le-leb _ _ (g .fits), room-tested (leb want 4096) stored (want - left) (g .room)) (g .unused)
-
--- ---- the table: no string wants more than 256 units, no number more than its width
-
-abbrev Fits : Rule → Type 0
-Fits r = r .wants ≤ (if (isString (r .class)) 256 (widthOf (r .class)))
-
-abbrev Fitting : List Row → Type 0
-Fitting [] = Unit {0}
-Fitting (r ∷ rs) = ((t : ℕ) → r .low ≤ t → t ≤ r .high → Fits (r .gives t)) × Fitting rs
-
-fits-in : (rs : List Row) → Fitting rs → (t : ℕ) → Fits (ruleIn rs t)
-unfolding ruleIn isString widthOf
-fits-in [] g t = omega arith
-fits-in (r ∷ rs) (f, g) t =
-    branch Fits (leb (r .low) t) _ _
-    (λ p. branch Fits (leb t (r .high)) _ _ (λ q. f t (leb-true _ _ p) (leb-true _ _ q)) (λ _. fits-in rs g t))
-    (λ _. fits-in rs g t)
-
-table-fits : Fitting table
-unfolding isString widthOf
-table-fits =
-    ((λ t a b. omega arith), ((λ t a b. omega arith), ((λ t a b. omega arith), ((λ t a b. omega arith), ((λ t a b. omega arith), ((λ t a b. omega arith), ((λ t a b. omega arith), ((λ t a b. omega arith), ((λ t a b. omega arith), ((λ t a b. omega arith), ((λ t a b. omega arith), ((λ t a b. omega arith), ((λ t a b. omega arith), tt)))))))))))))
-
--- by 01's token table
-pub rule-fits : (t : ℕ) → Fits (ruleOf t)
-unfolding ruleOf
-rule-fits t = fits-in table table-fits t
 
 -- ---- a unit
 
@@ -346,74 +304,25 @@ unit-sound node (Number class left v) s u a h g = number-unit-sound node class l
 unit-sound node (InString want left) s u a h g = string-unit-sound node want left u s g
 unit-sound node (InBody want left stored) s u a h g = body-unit-sound node want left stored u s a g
 
--- ---- what is given out
+-- ---- what is given out is within bounds
 
--- the string or body of an answer is within its bounds
-abbrev pub Gives : List ℕ → Taken → Type 0
-Gives s t = Within (t .answer) s
+tame : (t : Token) (s : List ℕ) → Sound t s → Tame t
+tame Between s g = tt
+tame (Number class left v) s g = tt
+tame (InString want left) s g = g .most
+tame (InBody want left stored) s g = go (leb want 4096) refl (g .room)
+  where
+    go : (t : Bool) → leb want 4096 ≡ t → stored ≤ (if t (want - left) 0) → stored ≤ 4096
+    go true e h = let l = leb-true want 4096 e in omega arith
+    go false e h = omega arith
 
--- the same of a unit's outcome
-abbrev pub GivesOut : Out → Type 0
-GivesOut o = Gives (o .store) (o .taken)
+-- a sound state's token is within bounds
+pub sound-tame : (s : State) → soundState s ≡ true → Tame (s .control .token)
+unfolding soundState
+sound-tame s e = tame (s .control .token) (s .store) (parts (s .control .token) (s .store) (and-right (soundEscape (s .control .escape)) (soundToken (s .control .token) (s .store)) e))
 
-single-within : (node : ℤ) (class : Class) (t : ℕ) (s : List ℕ) → Gives s (gives node (singleOf class t))
-unfolding singleOf utf8 charsFrom
-single-within node NoEvent t s = tt
-single-within node Integer t s = tt
-single-within node String t s = (omega arith, refl)
-single-within node Length t s = tt
-single-within node Int16 t s = tt
-single-within node Int32 t s = tt
-single-within node Float t s = tt
-single-within node Node t s = tt
-single-within node End t s = tt
-single-within node Count t s = tt
-single-within node ZeroCount t s = tt
-
-number-within : (node : ℤ) (class : Class) (v : ℕ) (s : List ℕ) → Gives s (numberOf node class v)
-unfolding numberOf countOf
-number-within node NoEvent v s = tt
-number-within node Integer v s = tt
-number-within node String v s = tt
-number-within node Length v s = tt
-number-within node Int16 v s = tt
-number-within node Int32 v s = tt
-number-within node Float v s = tt
-number-within node Node v s = tt
-number-within node End v s = tt
-number-within node Count v s = branch (Gives s) (eqb (v % 0x10000) 0) _ _ (λ _. tt) (λ _. tt)
-number-within node ZeroCount v s = tt
-
-string-within : (node : ℤ) (want left u : ℕ) (s : List ℕ) → InText want left s → GivesOut (stringUnit node want left s u)
-unfolding stringUnit stringDone
-string-within node want left u s g =
-    branch GivesOut (leb left 1) _ _ (λ _. branch GivesOut (utf8 (take want (set s (want - left) u))) _ _ (λ e. (g .most, e)) (λ _. tt)) (λ _. tt)
-
-body-next-within : (node : ℤ) (want left stored : ℕ) (s : List ℕ) → stored ≤ (if (leb want 4096) (want - (left - 1)) 0) → Gives s (bodyNext node want left stored)
-unfolding bodyNext bodyDone
-body-next-within node want left stored s r =
-    branch (Gives s) (leb left 1) _ _
-    (λ _.
-    branch (Gives s) (leb want 4096) _ _ (λ q.
-    let l : want ≤ 4096 = leb-true _ _ q in
-    let r′ : stored ≤ want - (left - 1) = rw q at r in
-    omega arith) (λ _. tt))
-    (λ _. tt)
-
-body-within : (node : ℤ) (want left stored u : ℕ) (s : List ℕ) (a : Bool) → InBytes want left stored s → GivesOut (bodyUnit node want left stored s u a)
-unfolding bodyUnit
-body-within node want left stored u s a g =
-    branch GivesOut (keeps want stored a) _ _
-    (λ e. body-next-within node want left (stored + 1) (set s stored u) (one-more want left stored a e g))
-    (λ _. body-next-within node want left stored s (no-more want left stored (g .room)))
-
--- the string or body of an answer
-pub unit-within : (node : ℤ) (t : Token) (s : List ℕ) (u : ℕ) (a : Bool) → Sound t s → GivesOut (unitOf node t s u a)
-unfolding unitOf beginOf numberUnit
-unit-within node Between s u a g = branch (Gives s) (eqb (ruleOf u .wants) 0) _ _ (λ _. single-within node (ruleOf u .class) u s) (λ _. tt)
-unit-within node (Number class left v) s u a g = branch (Gives s) (leb left 1) _ _ (λ _. number-within node class (shiftIn v u) s) (λ _. tt)
-unit-within node (InString want left) s u a g = string-within node want left u s g
-unit-within node (InBody want left stored) s u a g = body-within node want left stored u s a g
+unit-within : (node : ℤ) (t : Token) (s : List ℕ) (u : ℕ) (a : Bool) → Sound t s → Within (unitOf node t s u a .taken .answer) (unitOf node t s u a .store)
+unit-within node t s u a g = unit-bounded node t s u a (tame t s g) .taken .within
 
 -- ---- the escapes
 

@@ -4,6 +4,7 @@ pub mod Escape
 pub mod Unit
 pub mod Stream
 pub mod Reader
+pub mod Lent
 pub mod Plain
 pub mod Range
 pub mod Units
@@ -11,3 +12,4 @@ pub mod Write
 pub mod Command
 pub mod Meter
 pub mod Cases
+pub mod RoundTrip

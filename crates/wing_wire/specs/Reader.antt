@@ -87,7 +87,7 @@ nextOf s bytes =
 abbrev pub eventIn : Reply → Event
 eventIn r = eventOf (r .answer) (r .string) (r .body)
 
--- 01's event or refusal of a next call, by the bytes that the units gave: `next-event` says that a reply says this one
+-- 01's event or refusal of a next call, with its number or value, by the bytes that the units gave
 unfoldable pub nextEvent : State → List ℕ → Event
 nextEvent s bytes =
     let h = advanceOf (s .control) (s .store) bytes .heard in

@@ -2,6 +2,7 @@
 // requests and meters.
 pub mod escape;
 mod laying;
+pub mod lent;
 pub mod meter;
 pub mod reader;
 pub mod request;

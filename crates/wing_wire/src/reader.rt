@@ -3,7 +3,7 @@ ghost use mathlib.Core.Path.{_≡_};
 ghost use Prim.Native.Nat.{min};
 ghost use lib.ListN.{take};
 ghost use Rattle.wing_wire.specs.Stream.{advanceOf};
-ghost use Rattle.wing_wire.specs.Reader.{over, filled, stringBeside, bodyBeside, nextFrom, refusedNext, nextOf};
+ghost use Rattle.wing_wire.specs.Reader.{over, filled, stringBeside, bodyBeside, nextFrom, refusedNext, nextOf, eventIn, nextEvent};
 use crate::state::State;
 use crate::state::is_sound;
 use crate::stream::advance;
@@ -120,6 +120,7 @@ fn read_on(s: State, bytes: &[u8]) -> Reply
 
 pub fn next(s: State, bytes: &[u8]) -> Reply
     ensures { λ r. ⌜ r ≡ nextOf s (now (bytes .entry)) ⌝ }
+    ensures { λ r. ⌜ eventIn r ≡ nextEvent s (now (bytes .entry)) ⌝ }
 {
     if is_sound(s) {
         if bytes.len() <= 65536 {

@@ -202,7 +202,7 @@ fn stored_by(token: Token) -> u16
 }
 
 // The bytes from a place on are all 0.
-fn zeros_from(store: &[u8], at: usize) -> bool
+pub fn zeros_from(store: &[u8], at: usize) -> bool
     ensures { λ r. ⌜ r ≡ zeros (drop at (now (store .entry))) ⌝ }
 {
     let mut i = at;

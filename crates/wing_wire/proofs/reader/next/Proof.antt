@@ -1,5 +1,8 @@
 use borrow.Author.Tests.{le-leb, le-ltb, lt-leb, lt-ltb}
-use Rattle.wing_wire.specs.Reader.{nextOf}
+use mathlib.Core.Path.{_≡_, refl}
+use lib.ListN.{length}
+use Rattle.wing_wire.specs.Reader.{eventOf, nextOf, nextEvent}
+use Rattle.wing_wire.proofs.Beside.{next-event}
 use borrow.Author.Needs.{needs}
 use Rattle.wing_wire.proofs.reader.next.Statement.{statement}
 use Rattle.wing_wire.proofs.reader.next.Tie as tie
@@ -20,7 +23,11 @@ read-on-requires c κs = search needs
 -- src/reader.rt:125:13
 returns : tie.Need-returns
 unfolding nextOf
-returns c = simp (← c .before .before .before .is-sound .ensures, c .before .before .if1 .taken, le-leb _ _ (c .before .if2 .taken), c .read-on .ensures)
+returns c =
+    let l : length (c .before .before .before .before .before .args .s .store) ≡ 4096 = search needs in
+    let e = next-event (c .before .before .before .before .before .args .s) (c .before .before .before .before .before .args .bytes .now) l in
+    simp (← c .before .before .before .is-sound .ensures, c .before .before .if1 .taken, le-leb _ _ (c .before .if2 .taken), c .read-on .ensures)
+    (refl, simp (← c .before .before .before .is-sound .ensures, c .before .before .if1 .taken, le-leb _ _ (c .before .if2 .taken)) at e)
 
 -- src/reader.rt:127:9
 refuse-requires : tie.Need-refuse-requires
@@ -28,8 +35,9 @@ refuse-requires c κs = search needs
 
 -- src/reader.rt:127:9
 returns-2 : tie.Need-returns-2
-unfolding nextOf
-returns-2 c = simp (← c .before .before .before .is-sound .ensures, c .before .before .if1 .taken, lt-leb _ _ (c .before .if2 .left), c .refuse .ensures)
+unfolding nextOf nextEvent eventOf
+returns-2 c =
+    simp (← c .before .before .before .is-sound .ensures, c .before .before .if1 .taken, lt-leb _ _ (c .before .if2 .left), c .refuse .ensures) (refl, refl)
 
 -- src/reader.rt:129:5
 refuse-requires-2 : tie.Need-refuse-requires-2
@@ -37,8 +45,8 @@ refuse-requires-2 c κs = search needs
 
 -- src/reader.rt:120:1
 returns-3 : tie.Need-returns-3
-unfolding nextOf
-returns-3 c = simp (← c .before .before .is-sound .ensures, c .before .if1 .left, c .refuse2 .ensures)
+unfolding nextOf nextEvent eventOf
+returns-3 c = simp (← c .before .before .is-sound .ensures, c .before .if1 .left, c .refuse2 .ensures) (refl, refl)
 
 pub next-spec : {M : Type 1} → statement M
 next-spec =

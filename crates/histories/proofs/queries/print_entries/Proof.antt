@@ -1,0 +1,41 @@
+use Prim.Native.Nat.{_≤_, _-_}
+use borrow.Author.Needs.{needs}
+use Rattle.histories.proofs.queries.print_entries.Statement.{statement}
+use Rattle.histories.proofs.queries.print_entries.Tie as tie
+
+abbrev Inv-loop : tie.InvT-loop
+Inv-loop table count number₀ number = 0 ≤ number
+
+abbrev μ-loop : tie.MeasureT-loop
+μ-loop table count number₀ number = count - number
+
+loop-holds : tie.Need-loop-holds Inv-loop μ-loop
+loop-holds c = search needs
+
+print-entry-requires : tie.Need-print-entry-requires Inv-loop μ-loop
+print-entry-requires c κs = search needs
+
+add-number : tie.Need-add-number Inv-loop μ-loop
+add-number c = search needs
+
+loop-less : tie.Need-loop-less Inv-loop μ-loop
+loop-less c = search needs
+
+loop-again : tie.Need-loop-again Inv-loop μ-loop
+loop-again c = search needs
+
+returns : tie.Need-returns Inv-loop μ-loop
+returns c = search needs
+
+pub print-entries-spec : {M : Type 1} → statement M
+print-entries-spec =
+    tie.close
+    (tie.spec
+    Inv-loop
+    μ-loop
+    loop-holds
+    print-entry-requires
+    add-number
+    loop-less
+    loop-again
+    returns)

@@ -1,0 +1,81 @@
+// Reads standard input to its end into a mirror of 128 places, and prints its records.
+// A program has no exit status here: one that fails says so on standard error.
+mod line;
+mod listing;
+
+use libc::STDERR_FILENO;
+use libc::STDIN_FILENO;
+use wing_mirror::answer::FeedAnswer;
+use wing_mirror::answer::FeedReply;
+use wing_mirror::feed::feed;
+use wing_wire::state::State;
+
+// 128 places of 264 bytes.
+const TABLE: usize = 33792;
+
+// A mirror while its input is read: more says that the input may go on, whole that all of it so far is in the mirror.
+pub struct Mirror {
+    pub state: State,
+    pub count: usize,
+    pub more: bool,
+    pub whole: bool,
+}
+
+fn mirror_of(s: State, count: usize, more: bool, whole: bool) -> Mirror {
+    Mirror {
+        state: s,
+        count: count,
+        more: more,
+        whole: whole,
+    }
+}
+
+fn fed(r: FeedReply) -> Mirror {
+    let s = r.state;
+    let a = r.answer;
+    match a {
+        FeedAnswer::Taken => mirror_of(s, r.count, true, true),
+        FeedAnswer::Refused(_) => mirror_of(s, r.count, false, false),
+    }
+}
+
+// One read and its feed. A read takes at most the bytes that 01 lets a feed have.
+fn take_some(m: Mirror, table: &mut [u8]) -> Mirror {
+    let mut buf = [0u8; 65536];
+    let got = libc::read(STDIN_FILENO, &mut buf);
+    let s = m.state;
+    if got <= 0 {
+        return mirror_of(s, m.count, false, got == 0);
+    }
+    let n = io::count(got, &buf);
+    fed(feed(s, table, m.count, &buf[..n]))
+}
+
+fn take_all(table: &mut [u8]) -> Mirror {
+    let mut m = mirror_of(State::fresh(), 0, true, true);
+    let mut turns = u64::MAX;
+    while turns > 0 && m.more {
+        m = take_some(m, table);
+        turns -= 1;
+    }
+    m
+}
+
+// Half a table must not look like a whole one: nothing is listed of an input that was not read to its end.
+fn main() {
+    let mut table = [0u8; TABLE];
+    let m = take_all(&mut table);
+    if m.more || !m.whole {
+        io::write_all(
+            STDERR_FILENO,
+            b"mirror: standard input was not read to its end\n",
+        );
+        return;
+    }
+    if !listing::print(&table, m.count) {
+        io::write_all(
+            STDERR_FILENO,
+            b"mirror: the listing was not written to its end\n",
+        );
+    }
+}

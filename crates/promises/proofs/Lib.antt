@@ -1,0 +1,3 @@
+mod Reading
+mod Parsing
+pub mod Turned

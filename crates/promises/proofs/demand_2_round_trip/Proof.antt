@@ -1,0 +1,9 @@
+use Rattle.wing_wire.proofs.RoundTrip.{round-trip}
+use Rattle.promises.proofs.demand_2_round_trip.Statement.{statement}
+use Rattle.promises.proofs.demand_2_round_trip.Tie as tie
+
+returns : tie.Need-returns
+returns c = round-trip
+
+pub demand-2-round-trip-spec : {M : Type 1} → statement M
+demand-2-round-trip-spec = tie.close (tie.spec returns)

@@ -1,0 +1,9 @@
+use Rattle.wing_mirror.proofs.Demand.{histories}
+use Rattle.promises.proofs.demand_3_equality.Statement.{statement}
+use Rattle.promises.proofs.demand_3_equality.Tie as tie
+
+returns : tie.Need-returns
+returns c = histories .equality
+
+pub demand-3-equality-spec : {M : Type 1} → statement M
+demand-3-equality-spec = tie.close (tie.spec returns)

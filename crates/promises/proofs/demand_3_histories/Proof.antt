@@ -1,0 +1,9 @@
+use Rattle.wing_mirror.proofs.Demand.{histories}
+use Rattle.promises.proofs.demand_3_histories.Statement.{statement}
+use Rattle.promises.proofs.demand_3_histories.Tie as tie
+
+returns : tie.Need-returns
+returns c = histories .agreement
+
+pub demand-3-histories-spec : {M : Type 1} → statement M
+demand-3-histories-spec = tie.close (tie.spec returns)

@@ -1,0 +1,9 @@
+use Rattle.wing_mirror.proofs.Demand.{histories}
+use Rattle.promises.proofs.demand_3_recall.Statement.{statement}
+use Rattle.promises.proofs.demand_3_recall.Tie as tie
+
+returns : tie.Need-returns
+returns c = histories .rebuilding
+
+pub demand-3-recall-spec : {M : Type 1} → statement M
+demand-3-recall-spec = tie.close (tie.spec returns)

@@ -1,0 +1,9 @@
+use Rattle.wing_mirror.proofs.Demand.{histories}
+use Rattle.promises.proofs.demand_3_whole.Statement.{statement}
+use Rattle.promises.proofs.demand_3_whole.Tie as tie
+
+returns : tie.Need-returns
+returns c = histories
+
+pub demand-3-whole-spec : {M : Type 1} → statement M
+demand-3-whole-spec = tie.close (tie.spec returns)

@@ -1,0 +1,201 @@
+// The libraries' calls as bench/ times them: slices and numbers alone, since no enum crosses the border to Rust.
+use wing_mirror::feed::feed;
+use wing_node::definition::Parsed;
+use wing_node::definition::from_bytes;
+use wing_node::field::of_i32;
+use wing_node::utf8::is_utf8;
+use wing_wire::meter::MetersRead;
+use wing_wire::meter::read_meters;
+use wing_wire::reader::Reply;
+use wing_wire::reader::next;
+use wing_wire::set::set_float;
+use wing_wire::set::set_int;
+use wing_wire::set::set_string;
+use wing_wire::state::Control;
+use wing_wire::state::State;
+use wing_wire::stream::Advanced;
+use wing_wire::stream::advance;
+use wing_wire::stream::is_more;
+use wing_wire::stream::release;
+use wing_wire::unit::Answer;
+use wing_wire::write::Written;
+
+// The bytes from a place on; none past the end.
+fn rest(s: &[u8], at: usize) -> &[u8] {
+    if at <= s.len() {
+        return &s[at..];
+    }
+    &s[..0]
+}
+
+fn onward(at: usize, taken: usize, len: usize) -> usize {
+    if at <= len {
+        if taken <= len - at {
+            return at + taken;
+        }
+    }
+    len
+}
+
+// A number of an answer, so that none of it can be left out as unused.
+fn value(a: Answer) -> u32 {
+    match a {
+        Answer::More => 0,
+        Answer::Integer(x) => of_i32(x),
+        Answer::Float(bits) => bits,
+        Answer::String(n) => n as u32,
+        Answer::Body(n) => n as u32,
+        Answer::End => 1,
+        Answer::Refused(why) => why as u32,
+    }
+}
+
+fn plus(total: u64, n: u32) -> u64 {
+    total % 0x1_0000_0000_0000 + n as u64
+}
+
+// How far the core is: the control, the bytes taken, the sum of the answers, and whether the last one was more.
+struct Sum {
+    control: Control,
+    at: usize,
+    total: u64,
+    more: bool,
+}
+
+fn sum_of(r: Advanced, at: usize, total: u64) -> Sum {
+    let a = r.answer;
+    let c = r.control;
+    Sum {
+        control: c,
+        at: at,
+        total: plus(total, value(a)),
+        more: is_more(a),
+    }
+}
+
+fn turn(s: Sum, store: &mut [u8], bytes: &[u8]) -> Sum {
+    let c = s.control;
+    let r = advance(c, store, rest(bytes, s.at));
+    let a = r.answer;
+    release(store, a);
+    sum_of(r, onward(s.at, r.taken, bytes.len()), s.total)
+}
+
+fn fresh() -> Sum {
+    let c = Control::fresh();
+    Sum {
+        control: c,
+        at: 0,
+        total: 0,
+        more: false,
+    }
+}
+
+// Every answer of the core, as feed takes them; the store is 4,096 bytes of 0.
+#[no_mangle]
+pub extern "C" fn port_decode(bytes: &[u8], store: &mut [u8]) -> u64 {
+    let mut s = fresh();
+    let mut turns = u64::MAX;
+    while turns > 0 && !s.more {
+        s = turn(s, store, bytes);
+        turns -= 1;
+    }
+    s.total
+}
+
+// The same by the next call, whose state, string and body go by value.
+struct Nexts {
+    state: State,
+    at: usize,
+    total: u64,
+    more: bool,
+}
+
+fn nexts_of(r: Reply, at: usize, total: u64) -> Nexts {
+    let a = r.answer;
+    let s = r.state;
+    Nexts {
+        state: s,
+        at: at,
+        total: plus(total, value(a)),
+        more: is_more(a),
+    }
+}
+
+fn one_next(n: Nexts, bytes: &[u8]) -> Nexts {
+    let s = n.state;
+    let r = next(s, rest(bytes, n.at));
+    nexts_of(r, onward(n.at, r.taken, bytes.len()), n.total)
+}
+
+// At most 65,536 bytes.
+#[no_mangle]
+pub extern "C" fn port_next(bytes: &[u8]) -> u64 {
+    let s = State::fresh();
+    let mut n = Nexts {
+        state: s,
+        at: 0,
+        total: 0,
+        more: false,
+    };
+    let mut turns: u32 = 65538;
+    while turns > 0 && !n.more {
+        n = one_next(n, bytes);
+        turns -= 1;
+    }
+    n.total
+}
+
+// The id of a definition, all of whose fields and items are read; 0 for one that is refused.
+#[no_mangle]
+pub extern "C" fn port_from_bytes(body: &[u8]) -> u32 {
+    let parsed = from_bytes(body);
+    match parsed {
+        Parsed::Good(d) => of_i32(d.id),
+        Parsed::Refused(_) => 0,
+    }
+}
+
+fn length(w: Written) -> usize {
+    match w {
+        Written::Bytes(n) => n,
+        Written::Refused(_) => 0,
+    }
+}
+
+#[no_mangle]
+pub extern "C" fn port_set_int(out: &mut [u8], id: i32, x: i32) -> usize {
+    length(set_int(out, id, x))
+}
+
+#[no_mangle]
+pub extern "C" fn port_set_float(out: &mut [u8], id: i32, bits: u32) -> usize {
+    length(set_float(out, id, bits))
+}
+
+#[no_mangle]
+pub extern "C" fn port_set_string(out: &mut [u8], id: i32, s: &[u8]) -> usize {
+    length(set_string(out, id, s))
+}
+
+#[no_mangle]
+pub extern "C" fn port_read_meters(packet: &[u8], out: &mut [i16]) -> usize {
+    let r = read_meters(packet, out);
+    match r {
+        MetersRead::Readings { id: _, count } => count,
+        MetersRead::Refused(_) => 0,
+    }
+}
+
+// A capture of at most 65,536 bytes into a fresh mirror; the number of records.
+#[no_mangle]
+pub extern "C" fn port_feed(table: &mut [u8], bytes: &[u8]) -> usize {
+    let s = State::fresh();
+    let r = feed(s, table, 0, bytes);
+    r.count
+}
+
+#[no_mangle]
+pub extern "C" fn port_is_utf8(s: &[u8]) -> u32 {
+    if is_utf8(s) { 1 } else { 0 }
+}

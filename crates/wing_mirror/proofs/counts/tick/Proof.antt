@@ -1,0 +1,81 @@
+use native.Mathlib.Numerals.{add-one}
+use borrow.Author.Needs.{needs}
+use Rattle.wing_mirror.proofs.counts.tick.Statement.{statement}
+use Rattle.wing_mirror.proofs.counts.tick.Tie as tie
+
+enum-told : tie.Need-enum-told
+enum-told c = search needs
+
+add-d : tie.Need-add-d
+add-d c = search needs
+
+enum-told-2 : tie.Need-enum-told-2
+enum-told-2 c = search needs
+
+add-d-2 : tie.Need-add-d-2
+add-d-2 c = search needs
+
+enum-told-3 : tie.Need-enum-told-3
+enum-told-3 c = search needs
+
+add-d-3 : tie.Need-add-d-3
+add-d-3 c = search needs
+
+enum-told-4 : tie.Need-enum-told-4
+enum-told-4 c = search needs
+
+add-d-4 : tie.Need-add-d-4
+add-d-4 c = search needs
+
+enum-told-5 : tie.Need-enum-told-5
+enum-told-5 c = search needs
+
+add-d-5 : tie.Need-add-d-5
+add-d-5 c = search needs
+
+enum-told-6 : tie.Need-enum-told-6
+enum-told-6 c = search needs
+
+add-d-6 : tie.Need-add-d-6
+add-d-6 c = search needs
+
+returns : tie.Need-returns
+returns c = simp (c .before .enum-told .given .1, add-one)
+
+returns-2 : tie.Need-returns-2
+returns-2 c = simp (c .before .enum-told2 .given .1, add-one)
+
+returns-3 : tie.Need-returns-3
+returns-3 c = simp (c .before .enum-told3 .given .1, add-one)
+
+returns-4 : tie.Need-returns-4
+returns-4 c = simp (c .before .enum-told4 .given .1, add-one)
+
+returns-5 : tie.Need-returns-5
+returns-5 c = simp (c .before .enum-told5 .given .1, add-one)
+
+returns-6 : tie.Need-returns-6
+returns-6 c = simp (c .before .enum-told6 .given .1, add-one)
+
+pub tick-spec : {M : Type 1} → statement M
+tick-spec =
+    tie.close
+    (tie.spec
+    enum-told
+    add-d
+    enum-told-2
+    add-d-2
+    enum-told-3
+    add-d-3
+    enum-told-4
+    add-d-4
+    enum-told-5
+    add-d-5
+    enum-told-6
+    add-d-6
+    returns
+    returns-2
+    returns-3
+    returns-4
+    returns-5
+    returns-6)

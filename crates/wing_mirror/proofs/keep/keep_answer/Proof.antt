@@ -1,0 +1,164 @@
+use Prim.Native.Nat.{_≤_}
+use mathlib.Core.Path.{_≡_, sym, ap}
+use native.Mathlib.Omega.{arith}
+use lib.ListN.{length-take}
+use lib.Seq.{length-take-le, take-take}
+use mir.Facts.{toZ-ofZ}
+use mir.Syntax.{w32}
+use mir.Val.{toZ, ofZ}
+use Rattle.wing_node.specs.Value.{meant}
+use Rattle.wing_wire.specs.Reader.{eventOf}
+use Rattle.wing_mirror.specs.Mirror.{keepEvent}
+use Rattle.wing_mirror.specs.Tally.{tallyOf}
+use Rattle.wing_mirror.specs.declared.keep.Tally.{Tally}
+use borrow.Author.Needs.{needs}
+use Rattle.wing_mirror.proofs.keep.keep_answer.Statement.{statement}
+use Rattle.wing_mirror.proofs.keep.keep_answer.Tie as tie
+
+enum-told : tie.Need-enum-told
+enum-told c = search needs
+
+enum-known-a : tie.Need-enum-known-a
+enum-known-a c = search needs
+
+slice-aggregate-keep-value : tie.Need-slice-aggregate-keep-value
+slice-aggregate-keep-value c = search needs
+
+keep-value-requires : tie.Need-keep-value-requires
+keep-value-requires c κs = search needs
+
+enum-known-a-2 : tie.Need-enum-known-a-2
+enum-known-a-2 c = search needs
+
+slice-aggregate-keep-value-2 : tie.Need-slice-aggregate-keep-value-2
+slice-aggregate-keep-value-2 c = search needs
+
+keep-value-requires-2 : tie.Need-keep-value-requires-2
+keep-value-requires-2 c κs = search needs
+
+enum-known-a-3 : tie.Need-enum-known-a-3
+enum-known-a-3 c = search needs
+
+slice-aggregate-keep-value-3 : tie.Need-slice-aggregate-keep-value-3
+slice-aggregate-keep-value-3 c = sym (length-take-le 256 (c .before .before .before .before .before .before .before .before .args .store .now) (omega arith))
+
+keep-value-requires-3 : tie.Need-keep-value-requires-3
+keep-value-requires-3 c κs = (c .before .before .before .before .before .before .before .before .pre .0, c .before .before .before .before .before .before .before .before .pre .1, omega (arith, length-take 256 (c .before .before .before .before .before .before .before .before .args .store .now)))
+
+enum-known-a-4 : tie.Need-enum-known-a-4
+enum-known-a-4 c = search needs
+
+cast-keep-body : tie.Need-cast-keep-body
+cast-keep-body c = search needs
+
+slice-aggregate-keep-body : tie.Need-slice-aggregate-keep-body
+slice-aggregate-keep-body c =
+    let s = c .before .before .before .before .before .before .before in
+    let w : c .before .before .a4 .given .0 .0 ≤ 4096 = rw (c .before .before .a4 .given .1) at (s .pre .3) in
+    let n = s .pre .2 in
+    sym (length-take-le (c .before .before .a4 .given .0 .0) (s .args .store .now) (omega arith))
+
+keep-body-requires : tie.Need-keep-body-requires
+keep-body-requires c κs = search needs
+
+enum-told-2 : tie.Need-enum-told-2
+enum-told-2 c = search needs
+
+mark-requires : tie.Need-mark-requires
+mark-requires c κs = search needs
+
+enum-known-a-5 : tie.Need-enum-known-a-5
+enum-known-a-5 c = search needs
+
+refusal-mark-requires : tie.Need-refusal-mark-requires
+refusal-mark-requires c κs = search needs
+
+mark-requires-2 : tie.Need-mark-requires-2
+mark-requires-2 c κs = search needs
+
+returns : tie.Need-returns
+unfolding eventOf keepEvent
+returns c = simp (c .enum-told .given .1)
+
+same-length : tie.Need-same-length
+same-length c = search needs
+
+returns-2 : tie.Need-returns-2
+unfolding eventOf meant
+returns-2 c =
+    let s = c .before .before .before .before .before .before .before .before .before .before .before in
+    let a = c .before .before .before .before .before .before .a .given in
+    let back : toZ w32 (ofZ w32 (a .0 .0)) ≡ a .0 .0 = search needs in
+    rw (a .1) (rw (toZ-ofZ (s .fits .node), back) at (c .before .before .keep-value .ensures))
+
+same-length-2 : tie.Need-same-length-2
+same-length-2 c = search needs
+
+returns-3 : tie.Need-returns-3
+unfolding eventOf meant
+returns-3 c =
+    let s = c .before .before .before .before .before .before .before .before .before .before .before in
+    rw (c .before .before .before .before .before .before .a2 .given .1) (rw (toZ-ofZ (s .fits .node)) at (c .before .before .keep-value2 .ensures))
+
+same-length-3 : tie.Need-same-length-3
+same-length-3 c = search needs
+
+returns-4 : tie.Need-returns-4
+unfolding eventOf meant
+returns-4 c =
+    let s = c .before .before .before .before .before .before .before .before .before .before .before in
+    let a = c .before .before .before .before .before .before .a3 .given in
+    let w = rw (a .1) at (s .pre .3) in
+    rw (a .1) (rw (toZ-ofZ (s .fits .node), take-take (a .0 .0) 256 (s .args .store .now) (w .0)) at (c .before .before .keep-value3 .ensures))
+
+returns-5 : tie.Need-returns-5
+unfolding eventOf keepEvent
+returns-5 c =
+    let s = c .before .before .before .before .before .before .before .before in
+    rw (c .before .before .before .a4 .given .1) (ap (λ (x : Tally). tallyOf x (s .args .table .now)) (c .keep-body .ensures))
+
+returns-6 : tie.Need-returns-6
+unfolding eventOf keepEvent
+returns-6 c =
+    let s = c .before .before .before .before .before .before in
+    rw (c .before .enum-told2 .given .1) (ap (λ (x : Tally). tallyOf x (s .args .table .now)) (c .mark .ensures))
+
+returns-7 : tie.Need-returns-7
+unfolding eventOf keepEvent
+returns-7 c =
+    let s = c .before .before .before .before .before .before .before .before in
+    rw (c .before .before .before .a5 .given .1) (ap (λ (x : Tally). tallyOf x (s .args .table .now)) (rw (c .before .refusal-mark .ensures) at (c .mark2 .ensures)))
+
+pub keep-answer-spec : {M : Type 1} → statement M
+keep-answer-spec =
+    tie.close
+    (tie.spec
+    enum-told
+    enum-known-a
+    slice-aggregate-keep-value
+    keep-value-requires
+    enum-known-a-2
+    slice-aggregate-keep-value-2
+    keep-value-requires-2
+    enum-known-a-3
+    slice-aggregate-keep-value-3
+    keep-value-requires-3
+    enum-known-a-4
+    cast-keep-body
+    slice-aggregate-keep-body
+    keep-body-requires
+    enum-told-2
+    mark-requires
+    enum-known-a-5
+    refusal-mark-requires
+    mark-requires-2
+    returns
+    same-length
+    returns-2
+    same-length-2
+    returns-3
+    same-length-3
+    returns-4
+    returns-5
+    returns-6
+    returns-7)

@@ -1,0 +1,67 @@
+use mathlib.Core.Path.{_∙_, ap}
+use lib.IntN.{ℤ}
+use mir.Facts.{toZ-ofZ}
+use Rattle.wing_node.specs.Value.{meant}
+use Rattle.wing_mirror.specs.Record.{recordOf, entry}
+use Rattle.wing_mirror.specs.Table.{table}
+use Rattle.wing_mirror.proofs.Turns.{stored-kept, unplaced-kept}
+use borrow.Author.Needs.{needs}
+use Rattle.wing_mirror.proofs.keep.keep_value.Statement.{statement}
+use Rattle.wing_mirror.proofs.keep.keep_value.Tie as tie
+
+slice-aggregate-lay-record : tie.Need-slice-aggregate-lay-record
+slice-aggregate-lay-record c = search needs
+
+lay-record-requires : tie.Need-lay-record-requires
+lay-record-requires c κs = search needs
+
+slice-aggregate-put : tie.Need-slice-aggregate-put
+slice-aggregate-put c = search needs
+
+put-requires : tie.Need-put-requires
+put-requires c κs = search needs
+
+mark-requires : tie.Need-mark-requires
+mark-requires c κs = search needs
+
+same-length : tie.Need-same-length
+same-length c = search needs
+
+returns : tie.Need-returns
+returns c =
+    let s = c .before .before .before .before .before .before .before .before .before .before .before .before .before in
+    let l = c .before .before .before .before .before .before .before .before .before .lay-record in
+    let p = c .before .before .before .before .put in
+    let v = meant (s .args .value) (s .args .string .now) in
+    let e = l .ensures ∙ ap (λ (x : ℤ). recordOf (entry x v)) (toZ-ofZ (s .fits .node)) in
+    rw (c .mark .ensures) (stored-kept (s .args .node) v (table (s .args .table .now) (s .args .t .count)) (s .args .t .counts) (l .last .0) (p .result) (p .last .0) e (p .ensures) (c .before .if1 .taken))
+
+mark-requires-2 : tie.Need-mark-requires-2
+mark-requires-2 c κs = search needs
+
+same-length-2 : tie.Need-same-length-2
+same-length-2 c = search needs
+
+returns-2 : tie.Need-returns-2
+returns-2 c =
+    let s = c .before .before .before .before .before .before .before .before .before .before .before .before .before in
+    let l = c .before .before .before .before .before .before .before .before .before .lay-record in
+    let p = c .before .before .before .before .put in
+    let v = meant (s .args .value) (s .args .string .now) in
+    let e = l .ensures ∙ ap (λ (x : ℤ). recordOf (entry x v)) (toZ-ofZ (s .fits .node)) in
+    rw (c .mark2 .ensures) (unplaced-kept (s .args .node) v (table (s .args .table .now) (s .args .t .count)) (s .args .t .counts) (l .last .0) (p .result) (p .last .0) e (p .ensures) (c .before .if1 .left))
+
+pub keep-value-spec : {M : Type 1} → statement M
+keep-value-spec =
+    tie.close
+    (tie.spec
+    slice-aggregate-lay-record
+    lay-record-requires
+    slice-aggregate-put
+    put-requires
+    mark-requires
+    same-length
+    returns
+    mark-requires-2
+    same-length-2
+    returns-2)

@@ -1,0 +1,58 @@
+-- 01: a history is a list of feed and set calls, refused ones included.
+use Prim.Native.Nat.{ℕ}
+use mathlib.Core.Bool.{Bool, false, not}
+use mathlib.Core.List.{List, [], _∷_}
+use lib.Dec.{leb}
+use lib.IntN.{ℤ}
+use lib.ListN.{length}
+use Rattle.wing_node.specs.Signed.{InBits}
+use Rattle.wing_node.specs.Utf8.{utf8}
+use Rattle.wing_node.specs.Value.{NodeValue, integer, float, string}
+use Rattle.wing_wire.specs.Range.{AreBytes}
+use Rattle.wing_mirror.specs.Record.{Typed}
+use Rattle.wing_mirror.specs.declared.answer.Counts.{Counts}
+
+-- 01: a feed's bytes; a set's node, value and output, given by the bytes that it holds before
+pub data Call : Type 0 where
+  feed : List ℕ → Call
+  set : ℤ → NodeValue → List ℕ → Call
+
+-- 01: string over 256; string not UTF-8
+unfoldable pub tooLong : NodeValue → Bool
+tooLong (integer x) = false
+tooLong (float bits) = false
+tooLong (string s) = not (leb (length s) 256)
+
+unfoldable pub notText : NodeValue → Bool
+notText (integer x) = false
+notText (float bits) = false
+notText (string s) = not (utf8 s)
+
+-- accepted with six counts, or with the bytes written; or refused by a number
+pub data Outcome : Type 0 where
+  fed : Counts → Outcome
+  sent : List ℕ → Outcome
+  refused : ℕ → Outcome
+
+pub record Step (S : Type 0) : Type 0 where
+  pub state : S
+  pub outcome : Outcome
+
+-- 01: a refused call changes nothing
+abbrev pub refuse : {S : Type 0} → S → ℕ → Step S
+refuse s n = record { state = s; outcome = refused n }
+
+pub record History (S : Type 0) : Type 0 where
+  pub state : S
+  pub outcomes : List Outcome
+
+-- 01: each call gets what the one before returned or left
+unfoldable pub runAll : {S : Type 0} → (S → Call → Step S) → S → List Call → History S
+runAll step s [] = record { state = s; outcomes = [] }
+runAll step s (c ∷ cs) =
+    record { state = runAll step (step s c .state) cs .state; outcomes = step s c .outcome ∷ runAll step (step s c .state) cs .outcomes }
+
+-- arguments are in the range of their types: bytes below 256, ids and integers of 32 bits. No caller can fail it
+abbrev pub TypedCall : Call → Type 0
+TypedCall (feed bytes) = AreBytes bytes
+TypedCall (set id v out) = InBits 31 id × Typed v

@@ -1,0 +1,119 @@
+-- 01's plain machine: the decoder with its current node, and a map with no order. It knows no table.
+use Prim.Native.Nat.{ℕ}
+use mathlib.Core.Bool.{Bool, true, false, not}
+use mathlib.Core.List.{List, [], _∷_, _++_}
+use lib.Dec.{ltb, eqb}
+use lib.IntN.{ℤ, pos, negsuc}
+use lib.ListN.{length}
+use Rattle.wing_node.specs.Bool.{if}
+use Rattle.wing_node.specs.Value.{NodeValue}
+use Rattle.wing_node.specs.Definition.{definitionOf}
+use Rattle.wing_wire.specs.State.{freshState}
+use Rattle.wing_wire.specs.Stream.{Fed, feedOf}
+use Rattle.wing_wire.specs.Reader.{Event, more, value, body, end, refused, eventOf}
+use Rattle.wing_wire.specs.Command.{setBytes}
+use Rattle.wing_wire.specs.declared.state.State.{State}
+use Rattle.wing_wire.specs.declared.unit.Answer.{Answer}
+use Rattle.wing_mirror.specs.Record.{Entry, entry}
+use Rattle.wing_mirror.specs.Table.{inRange}
+use Rattle.wing_mirror.specs.Counts.{none, tick, refusalMark, bodyMark}
+use Rattle.wing_mirror.specs.Call.{Call, feed, set, tooLong, notText, fed, sent, Step, refuse}
+use Rattle.wing_mirror.specs.declared.answer.Counts.{Counts}
+use Rattle.wing_mirror.specs.declared.counts.Mark.the-variants.{Stored, Unplaced, Ended}
+
+-- ---- the decoder
+
+-- an event, and the node that was current
+pub record Reading : Type 0 where
+  pub node : ℤ
+  pub event : Event
+
+abbrev pub reading : ℤ → Event → Reading
+reading node e = record { node = node; event = e }
+
+abbrev pub noted : ℤ → Answer → List ℕ → List Reading → List Reading
+noted node a s rs = rs ++ (reading node (eventOf a s s) ∷ [])
+
+-- next until "more": the events in order
+unfoldable pub decoded : State → List ℕ → Fed (List Reading)
+decoded s bytes = feedOf noted (record { control = s .control; store = s .store; memo = [] }) bytes
+
+abbrev pub stateAfter : State → List ℕ → State
+stateAfter s bytes = record { control = decoded s bytes .control; store = decoded s bytes .store }
+
+abbrev pub readings : State → List ℕ → List Reading
+readings s bytes = decoded s bytes .memo
+
+-- ---- the map
+
+abbrev pub sameId : ℤ → ℤ → Bool
+sameId (pos m) (pos n) = eqb m n
+sameId (pos m) (negsuc n) = false
+sameId (negsuc m) (pos n) = false
+sameId (negsuc m) (negsuc n) = eqb m n
+
+-- the node is in the map
+unfoldable pub has : ℤ → List Entry → Bool
+has id [] = false
+has id (e ∷ m) = if (sameId (e .id) id) true (has id m)
+
+-- 01: puts (node, value), the newer replacing the older
+unfoldable pub putIn : Entry → List Entry → List Entry
+putIn e [] = e ∷ []
+putIn e (x ∷ m) = if (sameId (x .id) (e .id)) (e ∷ m) (x ∷ putIn e m)
+
+-- 01: the node is in the map, or the map has fewer entries than places
+unfoldable pub room : ℕ → ℤ → List Entry → Bool
+room places id m = if (has id m) true (ltb (length m) places)
+
+-- ---- the machine
+
+-- the current node stands in the decoder
+pub record Machine : Type 0 where
+  pub decoder : State
+  pub map : List Entry
+
+-- 01: at first fresh, 0 and empty
+abbrev pub newMachine : Machine
+newMachine = record { decoder = freshState; map = [] }
+
+pub record Noticed : Type 0 where
+  pub map : List Entry
+  pub counts : Counts
+
+abbrev pub noticed : List Entry → Counts → Noticed
+noticed m c = record { map = m; counts = c }
+
+-- 01: counts value events put, value events not put, refusals 1, bodies the parser takes, refusals 2 to 5, ends
+unfoldable pub hear : ℕ → ℤ → Event → Noticed → Noticed
+hear places node more h = h
+hear places node (value v) h =
+    if (room places node (h .map)) (noticed (putIn (entry node v) (h .map)) (tick Stored (h .counts)))
+    (noticed (h .map) (tick Unplaced (h .counts)))
+hear places node (body b) h = noticed (h .map) (tick (bodyMark (definitionOf b)) (h .counts))
+hear places node end h = noticed (h .map) (tick Ended (h .counts))
+hear places node (refused n) h = noticed (h .map) (tick (refusalMark n) (h .counts))
+
+unfoldable pub hearAll : ℕ → List Reading → Noticed → Noticed
+hearAll places [] h = h
+hearAll places (r ∷ rs) h = hearAll places rs (hear places (r .node) (r .event) h)
+
+abbrev pub heardFrom : ℕ → Machine → List ℕ → Noticed
+heardFrom places s bytes = hearAll places (readings (s .decoder) bytes) (noticed (s .map) none)
+
+-- 01: a feed meets 7 by the places alone, then 14; a set 7, 10, 1, 6 by the map, 9, else puts
+unfoldable pub machineStep : ℕ → Machine → Call → Step Machine
+machineStep places s (feed bytes) =
+    if (not (inRange places)) (refuse s 7)
+    (if (ltb 65536 (length bytes)) (refuse s 14)
+    (record {
+      state = record { decoder = stateAfter (s .decoder) bytes; map = heardFrom places s bytes .map };
+      outcome = fed (heardFrom places s bytes .counts);
+    }))
+machineStep places s (set id v out) =
+    if (not (inRange places)) (refuse s 7)
+    (if (tooLong v) (refuse s 10)
+    (if (notText v) (refuse s 1)
+    (if (not (room places id (s .map))) (refuse s 6)
+    (if (ltb (length out) (length (setBytes id v))) (refuse s 9)
+    (record { state = record { decoder = s .decoder; map = putIn (entry id v) (s .map) }; outcome = sent (setBytes id v) })))))

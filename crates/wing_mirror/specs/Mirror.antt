@@ -1,0 +1,104 @@
+-- The mirror: what feed and set make of a table, and what they answer.
+use Prim.Native.Nat.{ℕ}
+use mathlib.Core.Bool.{Bool, true, false, not}
+use mathlib.Core.List.{List, _++_}
+use lib.Dec.{ltb, leb}
+use lib.IntN.{ℤ}
+use lib.ListN.{length, drop}
+use Rattle.wing_node.specs.Bool.{if}
+use Rattle.wing_node.specs.Value.{NodeValue}
+use Rattle.wing_node.specs.Definition.{definitionOf}
+use Rattle.wing_wire.specs.State.{soundState}
+use Rattle.wing_wire.specs.Stream.{Fed, feedOf}
+use Rattle.wing_wire.specs.Reader.{Event, more, value, body, end, refused, eventOf}
+use Rattle.wing_wire.specs.Command.{setBytes}
+use Rattle.wing_wire.specs.declared.state.State.{State}
+use Rattle.wing_wire.specs.declared.unit.Answer.{Answer}
+use Rattle.wing_wire.specs.declared.write.Written.{Written}
+use Rattle.wing_wire.specs.declared.write.Written.the-variants.{Bytes, Refused}
+use Rattle.wing_mirror.specs.Rows.{Table}
+use Rattle.wing_mirror.specs.Record.{Entry, entry}
+use Rattle.wing_mirror.specs.Table.{table, usable, put, fits}
+use Rattle.wing_mirror.specs.Call.{tooLong, notText}
+use Rattle.wing_mirror.specs.Counts.{none, tick, refusalMark, bodyMark}
+use Rattle.wing_mirror.specs.declared.answer.Counts.{Counts}
+use Rattle.wing_mirror.specs.declared.counts.Mark.the-variants.{Stored, Unplaced, Ended}
+use Rattle.wing_mirror.specs.declared.answer.FeedAnswer.{FeedAnswer}
+use Rattle.wing_mirror.specs.declared.answer.FeedAnswer.the-variants.{Taken, Refused as Unfed}
+use Rattle.wing_mirror.specs.declared.answer.FeedReply.{FeedReply}
+use Rattle.wing_mirror.specs.declared.answer.SetReply.{SetReply}
+
+-- a table, and the counts of a feed so far
+pub record Tallied : Type 0 where
+  pub table : Table
+  pub counts : Counts
+
+abbrev pub tallied : Table → Counts → Tallied
+tallied t c = record { table = t; counts = c }
+
+-- 01: a value is stored at its node, or has no place; a definition leaves the table alone
+unfoldable pub keepEvent : ℤ → Event → Tallied → Tallied
+keepEvent node more k = k
+keepEvent node (value v) k =
+    if (fits (entry node v) (k .table)) (tallied (put (entry node v) (k .table)) (tick Stored (k .counts)))
+    (tallied (k .table) (tick Unplaced (k .counts)))
+keepEvent node (body b) k = tallied (k .table) (tick (bodyMark (definitionOf b)) (k .counts))
+keepEvent node end k = tallied (k .table) (tick Ended (k .counts))
+keepEvent node (refused n) k = tallied (k .table) (tick (refusalMark n) (k .counts))
+
+-- the same of an answer, whose bytes stand in the decoder's store
+abbrev pub keep : ℤ → Answer → List ℕ → Tallied → Tallied
+keep node a s k = keepEvent node (eventOf a s s) k
+
+-- what a feed leaves
+pub record Feeding : Type 0 where
+  pub answer : FeedAnswer
+  pub counts : Counts
+  pub state : State
+  pub table : Table
+
+-- 01: a refused feed changes and counts nothing
+abbrev pub unfed : ℕ → State → Table → Feeding
+unfed why s t = record { answer = Unfed why; counts = none; state = s; table = t }
+
+-- next until "more", each answer kept
+unfoldable pub fedAll : State → Table → List ℕ → Fed Tallied
+fedAll s t bytes = feedOf keep (record { control = s .control; store = s .store; memo = tallied t none }) bytes
+
+abbrev pub fedFully : Fed Tallied → Feeding
+fedFully x = record { answer = Taken; counts = x .memo .counts; state = record { control = x .control; store = x .store }; table = x .memo .table }
+
+-- 01: feed takes up to 65,536 bytes; 8, 7, 14
+unfoldable pub mirrorFeed : State → Table → List ℕ → Feeding
+mirrorFeed s t bytes =
+    if (soundState s)
+    (if (usable t)
+    (if (leb (length bytes) 65536) (fedFully (fedAll s t bytes)) (unfed 14 s t))
+    (unfed 7 s t))
+    (unfed 8 s t)
+
+abbrev pub feeding : FeedReply → List ℕ → Feeding
+feeding r buffer = record { answer = r .answer; counts = r .counts; state = r .state; table = table buffer (r .count) }
+
+-- what a set leaves
+pub record Setting : Type 0 where
+  pub answer : Written
+  pub out : List ℕ
+  pub table : Table
+
+-- 01: refused, all is as it was
+abbrev pub unset : ℕ → Table → List ℕ → Setting
+unset why t out = record { answer = Refused why; out = out; table = t }
+
+-- 01: set through the mirror writes the command and stores the value; 7, 10, 1, 6, 9
+unfoldable pub mirrorSet : ℤ → NodeValue → Table → List ℕ → Setting
+mirrorSet id v t out =
+    if (not (usable t)) (unset 7 t out)
+    (if (tooLong v) (unset 10 t out)
+    (if (notText v) (unset 1 t out)
+    (if (not (fits (entry id v) t)) (unset 6 t out)
+    (if (ltb (length out) (length (setBytes id v))) (unset 9 t out)
+    (record { answer = Bytes (length (setBytes id v)); out = setBytes id v ++ drop (length (setBytes id v)) out; table = put (entry id v) t })))))
+
+abbrev pub setting : SetReply → List ℕ → List ℕ → Setting
+setting r out buffer = record { answer = r .answer; out = out; table = table buffer (r .count) }

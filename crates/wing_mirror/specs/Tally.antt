@@ -1,0 +1,32 @@
+-- The code's structs of a feed as the records of Mirror.
+use Prim.Native.Nat.{ℕ}
+use mathlib.Core.List.{List}
+use Rattle.wing_wire.specs.Stream.{Fed}
+use Rattle.wing_wire.specs.declared.state.Control.{Control}
+use Rattle.wing_wire.specs.declared.state.State.{State}
+use Rattle.wing_mirror.specs.Table.{table}
+use Rattle.wing_mirror.specs.Counts.{none, tick}
+use Rattle.wing_mirror.specs.Mirror.{Tallied, tallied}
+use Rattle.wing_mirror.specs.declared.answer.Counts.{Counts}
+use Rattle.wing_mirror.specs.declared.answer.FeedAnswer.the-variants.{Refused}
+use Rattle.wing_mirror.specs.declared.answer.FeedReply.{FeedReply}
+use Rattle.wing_mirror.specs.declared.counts.Mark.{Mark}
+use Rattle.wing_mirror.specs.declared.keep.Tally.{Tally}
+use Rattle.wing_mirror.specs.declared.keep.FedOn.{FedOn}
+
+abbrev pub tallyOf : Tally → List ℕ → Tallied
+tallyOf t buffer = tallied (table buffer (t .count)) (t .counts)
+
+abbrev pub ticked : ℕ → Counts → Mark → Tally
+ticked count counts m = record { count = count; counts = tick m counts }
+
+abbrev pub stateOf : Control → List ℕ → State
+stateOf c s = record { control = c; store = s }
+
+-- a refused feed's reply
+abbrev pub refusedReply : ℕ → State → ℕ → FeedReply
+refusedReply why s count = record { answer = Refused why; counts = none; state = s; count = count }
+
+-- what a feed leaves, with the store and the table that were lent
+abbrev pub fedOf : FedOn → List ℕ → List ℕ → Fed Tallied
+fedOf r store buffer = record { control = r .control; store = store; memo = tallyOf (r .tally) buffer }

@@ -1,0 +1,98 @@
+// Feed: bytes through the decoder, each answer kept in the table.
+ghost use mathlib.Core.Path.{_≡_};
+ghost use mathlib.Core.Bool.{true};
+ghost use Prim.Native.Nat.{_≤_};
+ghost use lib.ListN.{length};
+ghost use Rattle.wing_wire.specs.State.{soundState};
+ghost use Rattle.wing_mirror.specs.Table.{table as tableOf, usable};
+ghost use Rattle.wing_mirror.specs.Mirror.{fedAll, fedFully, feeding, mirrorFeed};
+ghost use Rattle.wing_mirror.specs.Tally.{fedOf, stateOf, refusedReply};
+use crate::answer::FeedAnswer;
+use crate::answer::FeedReply;
+use crate::counts::none;
+use crate::keep::FedOn;
+use crate::keep::Tally;
+use crate::keep::keep_answer;
+use crate::table::is_usable;
+use wing_wire::state::Control;
+use wing_wire::state::State;
+use wing_wire::state::is_sound;
+use wing_wire::stream::advance;
+use wing_wire::stream::is_more;
+use wing_wire::stream::release;
+
+fn feed_on(c: Control, store: &mut [u8], table: &mut [u8], count: usize, bytes: &[u8]) -> FedOn
+    requires { ⌜ (soundState (stateOf c (now store)) ≡ true) × (length (now store) ≡ 4096) × (usable (tableOf (now table) count) ≡ true) × (length (now bytes) ≤ 65536) ⌝ }
+    ensures { λ r. ⌜ fedOf r (now (store .exit)) (now (table .exit)) ≡ fedAll (stateOf c (now (store .entry))) (tableOf (now (table .entry)) count) (now (bytes .entry)) ⌝ }
+{
+    let counts = none();
+    let mut t = Tally {
+        count: count,
+        counts: counts,
+    };
+    let mut d = c;
+    let mut i = 0;
+    loop {
+        let r = advance(d, store, &bytes[i..]);
+        d = r.control;
+        i += r.taken;
+        let a = r.answer;
+        if is_more(a) {
+            return FedOn {
+                control: d,
+                tally: t,
+            };
+        }
+        t = keep_answer(table, t, d.node, a, store);
+        release(store, a);
+    }
+}
+
+fn fed(state: State, table: &mut [u8], count: usize, bytes: &[u8]) -> FeedReply
+    requires { ⌜ (soundState state ≡ true) × (usable (tableOf (now table) count) ≡ true) × (length (now bytes) ≤ 65536) ⌝ }
+    ensures { λ r. ⌜ feeding r (now (table .exit)) ≡ fedFully (fedAll state (tableOf (now (table .entry)) count) (now (bytes .entry))) ⌝ }
+{
+    let c = state.control;
+    let mut store = state.store;
+    let r = feed_on(c, &mut store, table, count, bytes);
+    let d = r.control;
+    let t = r.tally;
+    let counts = t.counts;
+    FeedReply {
+        answer: FeedAnswer::Taken,
+        counts: counts,
+        state: State {
+            control: d,
+            store: store,
+        },
+        count: t.count,
+    }
+}
+
+// 01: a refused feed changes and counts nothing.
+fn unfed(why: u8, state: State, count: usize) -> FeedReply
+    ensures { λ r. ⌜ r ≡ refusedReply why state count ⌝ }
+{
+    let counts = none();
+    FeedReply {
+        answer: FeedAnswer::Refused(why),
+        counts: counts,
+        state: state,
+        count: count,
+    }
+}
+
+pub fn feed(state: State, table: &mut [u8], count: usize, bytes: &[u8]) -> FeedReply
+    ensures { λ r. ⌜ feeding r (now (table .exit)) ≡ mirrorFeed state (tableOf (now (table .entry)) count) (now (bytes .entry)) ⌝ }
+{
+    if is_sound(state) {
+        if is_usable(table, count) {
+            if bytes.len() <= 65536 {
+                return fed(state, table, count, bytes);
+            }
+            return unfed(14, state, count);
+        }
+        return unfed(7, state, count);
+    }
+    unfed(8, state, count)
+}
