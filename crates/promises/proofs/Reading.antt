@@ -112,6 +112,46 @@ unit-says node (InString want left) s u a =
 unit-says node (InBody want left stored) s u a =
     branch SaysOut (keeps want stored a) _ _ (λ _. body-says node want left (stored + 1)) (λ _. body-says node want left stored)
 
+-- ---- the node stays: what alters it is no refusal
+
+abbrev Kept : ℤ → Taken → Type 0
+Kept node t = (n : ℕ) → t .answer ≡ Refused n → t .node ≡ node
+
+abbrev KeptOut : ℤ → Out → Type 0
+KeptOut node o = Kept node (o .taken)
+
+number-kept : (node : ℤ) (class : Class) (v : ℕ) → Kept node (numberOf node class v)
+unfolding numberOf countOf
+number-kept node NoEvent v = λ n e. refl
+number-kept node Integer v = λ n e. refl
+number-kept node String v = λ n e. refl
+number-kept node Length v = λ n e. refl
+number-kept node Int16 v = λ n e. refl
+number-kept node Int32 v = λ n e. refl
+number-kept node Float v = λ n e. refl
+number-kept node Node v = λ n e. absurd (let z = ap number e in omega arith)
+number-kept node End v = λ n e. refl
+number-kept node Count v = branch (Kept node) (eqb (v % 0x10000) 0) _ _ (λ _ n e. refl) (λ _ n e. refl)
+number-kept node ZeroCount v = λ n e. refl
+
+body-kept : (node : ℤ) (want left stored : ℕ) → Kept node (bodyNext node want left stored)
+unfolding bodyNext bodyDone
+body-kept node want left stored =
+    branch (Kept node) (leb left 1) _ _ (λ _. branch (Kept node) (leb want 4096) _ _ (λ _ n e. refl) (λ _ n e. refl)) (λ _ n e. refl)
+
+pub unit-kept : (node : ℤ) (t : Token) (s : List ℕ) (u : ℕ) (a : Bool) → KeptOut node (unitOf node t s u a)
+unfolding unitOf beginOf numberUnit stringUnit stringDone bodyUnit
+unit-kept node Between s u a = branch (Kept node) (eqb (ruleOf u .wants) 0) _ _ (λ _ n e. refl) (λ _ n e. refl)
+unit-kept node (Number class left v) s u a = branch (Kept node) (leb left 1) _ _ (λ _. number-kept node class (shiftIn v u)) (λ _ n e. refl)
+unit-kept node (InString want left) s u a =
+    branch (KeptOut node) (leb left 1) _ _
+    (λ _. branch (KeptOut node) (utf8 (take want (set s (want - left) u))) _ _ (λ _ n e. refl) (λ _ n e. refl))
+    (λ _ n e. refl)
+unit-kept node (InBody want left stored) s u a =
+    branch (KeptOut node) (keeps want stored a) _ _ (λ _. body-kept node want left (stored + 1)) (λ _. body-kept node want left stored)
+
+-- ---- from one unit to a call
+
 settle-says : (c : Control) (s : List ℕ) → SaysHeard (settleOf c s)
 unfolding settleOf
 settle-says c s = go (c .escape .pending)

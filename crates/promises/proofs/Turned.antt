@@ -1,8 +1,7 @@
 -- Demand 1, as specs/Refusals states it.
 use Prim.Native.Nat.{ℕ, _+_}
 use mathlib.Core.Bool.{Bool, true, false, not}
-use mathlib.Core.Path.{_≡_, refl, ap}
-use mathlib.Core.Logic.{_⊎_, inl, inr}
+use mathlib.Core.Path.{_≡_, refl, sym, _∙_, ap}
 use mathlib.Core.List.{List, [], _∷_}
 use native.Mathlib.Omega.{arith}
 use lib.Dec.{ltb, leb, eqb}
@@ -13,221 +12,215 @@ use Rattle.wing_node.specs.Utf8.{utf8}
 use Rattle.wing_node.specs.Value.{NodeValue, string}
 use Rattle.wing_wire.specs.State.{soundState}
 use Rattle.wing_wire.specs.Stream.{advanceOf}
-use Rattle.wing_wire.specs.Reader.{nextOf}
-use Rattle.wing_wire.specs.Write.{Wrote, wrote, writeOf}
+use Rattle.wing_wire.specs.Reader.{value, nextOf, nextFrom, refusedNext}
+use Rattle.wing_wire.specs.Write.{Wrote, writeOf}
 use Rattle.wing_wire.specs.Command.{setBytes, setString}
 use Rattle.wing_wire.specs.Meter.{Asked, askOf, meterRequest, requestMeter, Heard, readings, packetOf}
 use Rattle.wing_wire.specs.declared.state.State.{State}
 use Rattle.wing_wire.specs.declared.state.Token.the-variants.{Between}
-use Rattle.wing_wire.specs.declared.unit.Answer.{Answer}
-use Rattle.wing_wire.specs.declared.unit.Answer.the-variants.{More, Integer, Float, String, Body, End, Refused as Unread}
+use Rattle.wing_wire.specs.declared.unit.Answer.the-variants.{Refused as Unread}
 use Rattle.wing_wire.specs.declared.reader.Reply.{Reply}
-use Rattle.wing_wire.specs.declared.write.Written.{Written}
-use Rattle.wing_wire.specs.declared.write.Written.the-variants.{Bytes, Refused as Unwritten}
 use Rattle.wing_wire.specs.declared.meter.Meter.{Meter}
-use Rattle.wing_wire.specs.declared.meter.Requested.{Requested}
-use Rattle.wing_wire.specs.declared.meter.Requested.the-variants.{Bytes as Asks, Refused as Unrequested}
-use Rattle.wing_wire.specs.declared.meter.MetersRead.{MetersRead}
-use Rattle.wing_wire.specs.declared.meter.MetersRead.the-variants.{Readings, Refused as NoReadings}
-use Rattle.wing_wire.proofs.Branches.{branch}
 use Rattle.wing_mirror.specs.Rows.{Table, Found, found, nothing, In}
-use Rattle.wing_mirror.specs.Record.{entry, entryIn}
-use Rattle.wing_mirror.specs.Table.{rows, usable, fits, lookupOf}
-use Rattle.wing_mirror.specs.Query.{answerOf, lookupAnswer, readOf, recordAnswer, sameTables, sameAnswer}
+use Rattle.wing_mirror.specs.Record.{entry}
+use Rattle.wing_mirror.specs.Table.{usable, fits, lookupOf}
+use Rattle.wing_mirror.specs.Query.{answerOf, lookupAnswer, readOf, recordAnswer, unread, sameTables, sameAnswer}
 use Rattle.wing_mirror.specs.Call.{tooLong, notText}
-use Rattle.wing_mirror.specs.Mirror.{Feeding, fedAll, mirrorFeed, unfed, Setting, mirrorSet, unset}
+use Rattle.wing_mirror.specs.Mirror.{Tallied, keepEvent, Feeding, mirrorFeed, unfed, Setting, mirrorSet, unset}
 use Rattle.wing_mirror.specs.Recall.{recallBytes, recallOf}
-use Rattle.wing_mirror.specs.declared.answer.Lookup.{Lookup}
-use Rattle.wing_mirror.specs.declared.answer.Lookup.the-variants.{At, None, Refused as NotLookedUp}
-use Rattle.wing_mirror.specs.declared.answer.RecordAnswer.{RecordAnswer}
-use Rattle.wing_mirror.specs.declared.answer.RecordAnswer.the-variants.{Record, Refused as NoRecord}
-use Rattle.wing_mirror.specs.declared.answer.RecordRead.{RecordRead}
-use Rattle.wing_mirror.specs.declared.answer.Same.{Same}
+use Rattle.wing_mirror.specs.declared.answer.Lookup.the-variants.{Refused as NotLookedUp}
 use Rattle.wing_mirror.specs.declared.answer.Same.the-variants.{Yes, No, Refused as Uncompared}
-use Rattle.wing_mirror.specs.declared.answer.FeedAnswer.{FeedAnswer}
-use Rattle.wing_mirror.specs.declared.answer.FeedAnswer.the-variants.{Taken, Refused as Unfed}
-use Rattle.promises.specs.Refusals.{Refusals}
-use Rattle.promises.proofs.Reading.{advance-says}
+use Rattle.wing_mirror.specs.declared.answer.RecordRead.{RecordRead}
+use Rattle.promises.specs.Lines.{Line, _gives_, first, Told}
+use Rattle.promises.specs.Lines.{writtenNumber, requestNumber, packetNumber, lookupNumber, recordNumber, sameNumber, feedNumber}
+use Rattle.promises.specs.Refusals.{Refusals, nextLines, commandLines, stringLines, meterLines, packetLines, tableLines, recordLines, sameLines, setLines, feedLines, recallLines}
+use Rattle.promises.proofs.Reading.{advance-says, unit-kept}
 use Rattle.promises.proofs.Parsing.{definition-known, begin-known, step-known, item-known}
 
--- ---- the number of each kind of answer, one more than a refusal's, 0 for what is none
+-- ---- decision trees, line by line
 
-abbrev read : Answer → ℕ
-read More = 0
-read (Integer x) = 0
-read (Float bits) = 0
-read (String n) = 0
-read (Body n) = 0
-read End = 0
-read (Unread n) = n + 1
+-- a number found, and one more than it; 0 for none
+abbrev rank : Found ℕ → ℕ
+rank (found n) = n + 1
+rank nothing = 0
 
-abbrev written : Written → ℕ
-written (Bytes n) = 0
-written (Unwritten n) = n + 1
+-- taken, with no line left
+taken : {A : Type 0} (number : A → Found ℕ) (W : A → ℕ → Type 0) (x : A) → number x ≡ nothing → Told [] (number x) (W x)
+unfolding first
+taken number W x e = record { number = e; as-it-was = λ n p. absurd (let y = ap rank (sym p ∙ e) in omega arith) }
 
-abbrev requested : Requested → ℕ
-requested (Asks n id) = 0
-requested (Unrequested n) = n + 1
+-- sent back by this line, or told by the lines after it
+line : {A : Type 0} (number : A → Found ℕ) (W : A → ℕ → Type 0) (test : Bool) (k : ℕ) (ls : List Line) (x y : A) →
+    number x ≡ found k → W x k → Told ls (number y) (W y) → Told ((test gives k) ∷ ls) (number (if test x y)) (W (if test x y))
+unfolding first
+line number W true k ls x y e w t = record {
+  number = e;
+  as-it-was = λ n p. let z : n ≡ k = (let q = ap rank (sym p ∙ e) in omega arith) in rw z w;
+}
+line number W false k ls x y e w t = record { number = t .number; as-it-was = t .as-it-was }
 
-abbrev metered : MetersRead → ℕ
-metered (Readings id n) = 0
-metered (NoReadings n) = n + 1
+-- the same where the test says that the call goes on
+unless : {A : Type 0} (number : A → Found ℕ) (W : A → ℕ → Type 0) (test : Bool) (k : ℕ) (ls : List Line) (x y : A) →
+    number x ≡ found k → W x k → Told ls (number y) (W y) → Told ((not test gives k) ∷ ls) (number (if test y x)) (W (if test y x))
+unless number W true k ls x y e w t = line number W false k ls x y e w t
+unless number W false k ls x y e w t = line number W true k ls x y e w t
 
-abbrev looked : Lookup → ℕ
-looked (At n) = 0
-looked None = 0
-looked (NotLookedUp n) = n + 1
+-- the last line: sent back by it, or taken
+last-line : {A : Type 0} (number : A → Found ℕ) (W : A → ℕ → Type 0) (test : Bool) (k : ℕ) (x y : A) →
+    number x ≡ found k → W x k → number y ≡ nothing → Told ((test gives k) ∷ []) (number (if test x y)) (W (if test x y))
+last-line number W test k x y e w t = line number W test k [] x y e w (taken number W y t)
 
-abbrev recorded : RecordAnswer → ℕ
-recorded (Record id v) = 0
-recorded (NoRecord n) = n + 1
-
-abbrev compared : Same → ℕ
-compared Yes = 0
-compared No = 0
-compared (Uncompared n) = n + 1
-
-abbrev fed : FeedAnswer → ℕ
-fed Taken = 0
-fed (Unfed n) = n + 1
+last-unless : {A : Type 0} (number : A → Found ℕ) (W : A → ℕ → Type 0) (test : Bool) (k : ℕ) (x y : A) →
+    number x ≡ found k → W x k → number y ≡ nothing → Told ((not test gives k) ∷ []) (number (if test y x)) (W (if test y x))
+last-unless number W test k x y e w t = unless number W test k [] x y e w (taken number W y t)
 
 -- ---- the wire
 
-next-turned : (s : State) (bytes : List ℕ) (n : ℕ) → nextOf s bytes .answer ≡ Unread n →
-    (In n (8 ∷ 14 ∷ []) × (nextOf s bytes .state ≡ s)) ⊎ (In n (1 ∷ 2 ∷ 3 ∷ []) × (nextOf s bytes .state .control .token ≡ Between))
-unfolding nextOf
-next-turned s bytes n =
-    branch P (soundState s) _ _
-    (λ _. branch P (leb (length bytes) 65536) _ _ (λ _ e. inr (advance-says (s .control) (s .store) bytes n e))
-    (λ _ e. let z : n ≡ 14 = (let y = ap read e in omega arith) in inl (inr (inl z), refl)))
-    (λ _ e. let z : n ≡ 8 = (let y = ap read e in omega arith) in inl (inl z, refl))
+next-turned : (s : State) (bytes : List ℕ) (n : ℕ) → first (nextLines s bytes) ≡ found n → nextOf s bytes ≡ refusedNext n s
+unfolding nextOf first
+next-turned s bytes n = go (soundState s) (leb (length bytes) 65536)
   where
-    P : Reply → Type 0
-    P x = x .answer ≡ Unread n → (In n (8 ∷ 14 ∷ []) × (x .state ≡ s)) ⊎ (In n (1 ∷ 2 ∷ 3 ∷ []) × (x .state .control .token ≡ Between))
+    go : (a b : Bool) → first ((not a gives 8) ∷ (not b gives 14) ∷ []) ≡ found n →
+        if a (if b (nextFrom (advanceOf (s .control) (s .store) bytes)) (refusedNext 14 s)) (refusedNext 8 s) ≡ refusedNext n s
+    go true true e = absurd (let y = ap rank e in omega arith)
+    go true false e = let z : n ≡ 14 = (let y = ap rank e in omega arith) in rw z
+    go false b e = let z : n ≡ 8 = (let y = ap rank e in omega arith) in rw z
 
-command-turned : (bytes out : List ℕ) (n : ℕ) → writeOf bytes out .answer ≡ Unwritten n → (n ≡ 9) × (writeOf bytes out .out ≡ out)
+reading-turned : (s : State) (bytes : List ℕ) → first (nextLines s bytes) ≡ nothing →
+    (n : ℕ) → nextOf s bytes .answer ≡ Unread n → In n (1 ∷ 2 ∷ 3 ∷ []) × (nextOf s bytes .state .control .token ≡ Between)
+unfolding nextOf first
+reading-turned s bytes = go (soundState s) (leb (length bytes) 65536)
+  where
+    go : (a b : Bool) → first ((not a gives 8) ∷ (not b gives 14) ∷ []) ≡ nothing →
+        let r : Reply = if a (if b (nextFrom (advanceOf (s .control) (s .store) bytes)) (refusedNext 14 s)) (refusedNext 8 s) in
+        (n : ℕ) → r .answer ≡ Unread n → In n (1 ∷ 2 ∷ 3 ∷ []) × (r .state .control .token ≡ Between)
+    go true true e = λ n. advance-says (s .control) (s .store) bytes n
+    go true false e = absurd (let y = ap rank e in omega arith)
+    go false b e = absurd (let y = ap rank e in omega arith)
+
+abbrev writes : Wrote → Found ℕ
+writes x = writtenNumber (x .answer)
+
+command-turned : (bytes out : List ℕ) → Told (commandLines bytes out) (writtenNumber (writeOf bytes out .answer)) (λ n. writeOf bytes out .out ≡ out)
 unfolding writeOf
-command-turned bytes out n =
-    branch P (ltb (length out) (length bytes)) _ _ (λ _ e. (let y = ap written e in omega arith, refl)) (λ _ e. absurd (let y = ap written e in omega arith))
+command-turned bytes out = last-line writes W (ltb (length out) (length bytes)) 9 _ _ refl refl refl
   where
-    P : Wrote → Type 0
-    P x = x .answer ≡ Unwritten n → (n ≡ 9) × (x .out ≡ out)
+    W : Wrote → ℕ → Type 0
+    W x n = x .out ≡ out
 
-string-turned : (id : ℤ) (s out : List ℕ) (n : ℕ) → setString id s out .answer ≡ Unwritten n → In n (10 ∷ 1 ∷ 9 ∷ []) × (setString id s out .out ≡ out)
+string-turned : (id : ℤ) (s out : List ℕ) → Told (stringLines id s out) (writtenNumber (setString id s out .answer)) (λ n. setString id s out .out ≡ out)
 unfolding setString
-string-turned id s out n =
-    branch P (leb (length s) 256) _ _
-    (λ _. branch P (utf8 s) _ _
-    (λ _ e. let c = command-turned (setBytes id (string s)) out n e in (inr (inr (inl (c .0))), c .1))
-    (λ _ e. (inr (inl (let y = ap written e in omega arith)), refl)))
-    (λ _ e. (inl (let y = ap written e in omega arith), refl))
+string-turned id s out =
+    unless writes W (leb (length s) 256) 10 _ _ _ refl refl
+    (unless writes W (utf8 s) 1 _ _ _ refl refl (command-turned (setBytes id (string s)) out))
   where
-    P : Wrote → Type 0
-    P x = x .answer ≡ Unwritten n → In n (10 ∷ 1 ∷ 9 ∷ []) × (x .out ≡ out)
+    W : Wrote → ℕ → Type 0
+    W x n = x .out ≡ out
 
-meters-turned : (port last : ℕ) (ms : List Meter) (count : ℕ) (out : List ℕ) (n : ℕ) → requestMeter port last ms count out .answer ≡ Unrequested n →
-    In n (11 ∷ 12 ∷ 9 ∷ []) × (requestMeter port last ms count out .out ≡ out)
+meters-turned : (port last : ℕ) (ms : List Meter) (count : ℕ) (out : List ℕ) →
+    Told (meterLines port last ms count out) (requestNumber (requestMeter port last ms count out .answer)) (λ n. requestMeter port last ms count out .out ≡ out)
 unfolding requestMeter askOf
-meters-turned port last ms count out n =
-    branch P (leb count 64) _ _
-    (λ _. branch P (eqb last 65535) _ _ (λ _ e. (inr (inl (let y = ap requested e in omega arith)), refl))
-    (λ _. branch P (ltb (length out) (length (meterRequest port (last + 1) (take count ms)))) _ _
-    (λ _ e. (inr (inr (inl (let y = ap requested e in omega arith))), refl)) (λ _ e. absurd (let y = ap requested e in omega arith))))
-    (λ _ e. (inl (let y = ap requested e in omega arith), refl))
+meters-turned port last ms count out =
+    unless asks W (leb count 64) 11 _ _ _ refl refl
+    (line asks W (eqb last 65535) 12 _ _ _ refl refl
+    (last-line asks W (ltb (length out) (length (meterRequest port (last + 1) (take count ms)))) 9 _ _ refl refl refl))
   where
-    P : Asked → Type 0
-    P x = x .answer ≡ Unrequested n → In n (11 ∷ 12 ∷ 9 ∷ []) × (x .out ≡ out)
+    asks : Asked → Found ℕ
+    asks x = requestNumber (x .answer)
 
-packet-turned : (p : List ℕ) (out : List ℤ) (n : ℕ) → packetOf p out .answer ≡ NoReadings n → In n (13 ∷ 9 ∷ []) × (packetOf p out .out ≡ out)
+    W : Asked → ℕ → Type 0
+    W x n = x .out ≡ out
+
+packet-turned : (p : List ℕ) (out : List ℤ) → Told (packetLines p out) (packetNumber (packetOf p out .answer)) (λ n. packetOf p out .out ≡ out)
 unfolding packetOf
-packet-turned p out n =
-    branch P (ltb (length p) 4) _ _ (λ _ e. (inl (let y = ap metered e in omega arith), refl))
-    (λ _. branch P (ltb 8192 (length p)) _ _ (λ _ e. (inl (let y = ap metered e in omega arith), refl))
-    (λ _. branch P (ltb (length out) (length (readings (drop 4 p)))) _ _
-    (λ _ e. (inr (inl (let y = ap metered e in omega arith)), refl)) (λ _ e. absurd (let y = ap metered e in omega arith))))
+packet-turned p out =
+    line hears W (ltb (length p) 4) 13 _ _ _ refl refl
+    (line hears W (ltb 8192 (length p)) 13 _ _ _ refl refl
+    (last-line hears W (ltb (length out) (length (readings (drop 4 p)))) 9 _ _ refl refl refl))
   where
-    P : Heard → Type 0
-    P x = x .answer ≡ NoReadings n → In n (13 ∷ 9 ∷ []) × (x .out ≡ out)
+    hears : Heard → Found ℕ
+    hears x = packetNumber (x .answer)
+
+    W : Heard → ℕ → Type 0
+    W x n = x .out ≡ out
 
 -- ---- the mirror
 
-lookup-turned : (t : Table) (id : ℤ) (n : ℕ) → lookupAnswer t id ≡ NotLookedUp n → n ≡ 7
-unfolding lookupAnswer answerOf
-lookup-turned t id n = branch P (usable t) _ _ (λ _. known (lookupOf id t)) (λ _ e. let y = ap looked e in omega arith)
+lookup-turned : (t : Table) (id : ℤ) → lookupNumber (lookupAnswer t id) ≡ first (tableLines t)
+unfolding lookupAnswer answerOf first
+lookup-turned t id = go (usable t) (lookupOf id t)
   where
-    P : Lookup → Type 0
-    P x = x ≡ NotLookedUp n → n ≡ 7
+    go : (a : Bool) (f : Found ℕ) → lookupNumber (if a (answerOf f) (NotLookedUp 7)) ≡ first ((not a gives 7) ∷ [])
+    go true (found k) = refl
+    go true nothing = refl
+    go false f = refl
 
-    known : (f : Found ℕ) → answerOf f ≡ NotLookedUp n → n ≡ 7
-    known (found k) e = absurd (let y = ap looked e in omega arith)
-    known nothing e = absurd (let y = ap looked e in omega arith)
-
-record-turned : (t : Table) (number n : ℕ) → recordAnswer t number .answer ≡ NoRecord n → In n (7 ∷ 14 ∷ [])
+record-turned : (t : Table) (number : ℕ) → Told (recordLines t number) (recordNumber (recordAnswer t number .answer)) (λ n. recordAnswer t number ≡ unread n)
 unfolding recordAnswer readOf
-record-turned t number n =
-    branch P (usable t) _ _
-    (λ _. branch P (ltb number (t .count)) _ _ (λ _ e. absurd (let y = ap recorded e in omega arith)) (λ _ e. inr (inl (let y = ap recorded e in omega arith))))
-    (λ _ e. inl (let y = ap recorded e in omega arith))
+record-turned t number =
+    unless reads W (usable t) 7 _ _ _ refl refl (last-unless reads W (ltb number (t .count)) 14 _ _ refl refl refl)
   where
-    P : RecordRead → Type 0
-    P x = x .answer ≡ NoRecord n → In n (7 ∷ 14 ∷ [])
+    reads : RecordRead → Found ℕ
+    reads x = recordNumber (x .answer)
 
-same-turned : (t u : Table) (n : ℕ) → sameAnswer t u ≡ Uncompared n → n ≡ 7
-unfolding sameAnswer
-same-turned t u n =
-    branch P (usable t) _ _
-    (λ _. branch P (usable u) _ _
-    (λ _. branch P (sameTables t u) _ _ (λ _ e. absurd (let y = ap compared e in omega arith)) (λ _ e. absurd (let y = ap compared e in omega arith)))
-    (λ _ e. let y = ap compared e in omega arith))
-    (λ _ e. let y = ap compared e in omega arith)
+    W : RecordRead → ℕ → Type 0
+    W x n = x ≡ unread n
+
+same-turned : (t u : Table) → sameNumber (sameAnswer t u) ≡ first (sameLines t u)
+unfolding sameAnswer first
+same-turned t u = go (usable t) (usable u) (sameTables t u)
   where
-    P : Same → Type 0
-    P x = x ≡ Uncompared n → n ≡ 7
+    go : (a b c : Bool) → sameNumber (if a (if b (if c Yes No) (Uncompared 7)) (Uncompared 7)) ≡ first ((not a gives 7) ∷ (not b gives 7) ∷ [])
+    go true true true = refl
+    go true true false = refl
+    go true false c = refl
+    go false b c = refl
 
-set-turned : (id : ℤ) (v : NodeValue) (t : Table) (out : List ℕ) (n : ℕ) → mirrorSet id v t out .answer ≡ Unwritten n →
-    In n (7 ∷ 10 ∷ 1 ∷ 6 ∷ 9 ∷ []) × (mirrorSet id v t out ≡ unset n t out)
+set-turned : (id : ℤ) (v : NodeValue) (t : Table) (out : List ℕ) → Told (setLines id v t out) (writtenNumber (mirrorSet id v t out .answer)) (λ n. mirrorSet id v t out ≡ unset n t out)
 unfolding mirrorSet
-set-turned id v t out n =
-    branch P (not (usable t)) _ _ (λ _. leaf 7 (inl refl))
-    (λ _. branch P (tooLong v) _ _ (λ _. leaf 10 (inr (inl refl)))
-    (λ _. branch P (notText v) _ _ (λ _. leaf 1 (inr (inr (inl refl))))
-    (λ _. branch P (not (fits (entry id v) t)) _ _ (λ _. leaf 6 (inr (inr (inr (inl refl)))))
-    (λ _. branch P (ltb (length out) (length (setBytes id v))) _ _ (λ _. leaf 9 (inr (inr (inr (inr (inl refl))))))
-    (λ _ e. absurd (let y = ap written e in omega arith))))))
+set-turned id v t out =
+    line sets W (not (usable t)) 7 _ _ _ refl refl
+    (line sets W (tooLong v) 10 _ _ _ refl refl
+    (line sets W (notText v) 1 _ _ _ refl refl
+    (line sets W (not (fits (entry id v) t)) 6 _ _ _ refl refl
+    (last-line sets W (ltb (length out) (length (setBytes id v))) 9 _ _ refl refl refl))))
   where
-    P : Setting → Type 0
-    P x = x .answer ≡ Unwritten n → In n (7 ∷ 10 ∷ 1 ∷ 6 ∷ 9 ∷ []) × (x ≡ unset n t out)
+    sets : Setting → Found ℕ
+    sets x = writtenNumber (x .answer)
 
-    leaf : (k : ℕ) → In k (7 ∷ 10 ∷ 1 ∷ 6 ∷ 9 ∷ []) → P (unset k t out)
-    leaf k i e = let z : n ≡ k = (let y = ap written e in omega arith) in rw z (i, refl)
+    W : Setting → ℕ → Type 0
+    W x n = x ≡ unset n t out
 
-feed-turned : (s : State) (t : Table) (bytes : List ℕ) (n : ℕ) → mirrorFeed s t bytes .answer ≡ Unfed n → In n (8 ∷ 7 ∷ 14 ∷ []) × (mirrorFeed s t bytes ≡ unfed n s t)
+feed-turned : (s : State) (t : Table) (bytes : List ℕ) → Told (feedLines s t bytes) (feedNumber (mirrorFeed s t bytes .answer)) (λ n. mirrorFeed s t bytes ≡ unfed n s t)
 unfolding mirrorFeed
-feed-turned s t bytes n =
-    branch P (soundState s) _ _
-    (λ _. branch P (usable t) _ _
-    (λ _. branch P (leb (length bytes) 65536) _ _ (λ _ e. absurd (let y = ap fed e in omega arith)) (λ _. leaf 14 (inr (inr (inl refl)))))
-    (λ _. leaf 7 (inr (inl refl))))
-    (λ _. leaf 8 (inl refl))
+feed-turned s t bytes =
+    unless feeds W (soundState s) 8 _ _ _ refl refl
+    (unless feeds W (usable t) 7 _ _ _ refl refl
+    (last-unless feeds W (leb (length bytes) 65536) 14 _ _ refl refl refl))
   where
-    P : Feeding → Type 0
-    P x = x .answer ≡ Unfed n → In n (8 ∷ 7 ∷ 14 ∷ []) × (x ≡ unfed n s t)
+    feeds : Feeding → Found ℕ
+    feeds x = feedNumber (x .answer)
 
-    leaf : (k : ℕ) → In k (8 ∷ 7 ∷ 14 ∷ []) → P (unfed k s t)
-    leaf k i e = let z : n ≡ k = (let y = ap fed e in omega arith) in rw z (i, refl)
+    W : Feeding → ℕ → Type 0
+    W x n = x ≡ unfed n s t
 
-recall-turned : (t : Table) (out : List ℕ) (n : ℕ) → recallOf t out .answer ≡ Unwritten n → In n (7 ∷ 9 ∷ []) × (recallOf t out .out ≡ out)
+unplaced-turned : (node : ℤ) (v : NodeValue) (k : Tallied) → fits (entry node v) (k .table) ≡ false → keepEvent node (value v) k .table ≡ k .table
+unfolding keepEvent
+unplaced-turned node v k e = rw e
+
+recall-turned : (t : Table) (out : List ℕ) → Told (recallLines t out) (writtenNumber (recallOf t out .answer)) (λ n. recallOf t out .out ≡ out)
 unfolding recallOf
-recall-turned t out n =
-    branch P (usable t) _ _ (λ _ e. let c = command-turned (recallBytes t) out n e in (inr (inl (c .0)), c .1)) (λ _ e. (inl (let y = ap written e in omega arith), refl))
+recall-turned t out = unless writes W (usable t) 7 _ _ _ refl refl (command-turned (recallBytes t) out)
   where
-    P : Wrote → Type 0
-    P x = x .answer ≡ Unwritten n → In n (7 ∷ 9 ∷ []) × (x .out ≡ out)
+    W : Wrote → ℕ → Type 0
+    W x n = x .out ≡ out
 
 pub refusals : Refusals
 refusals =
     record {
       next = next-turned;
+      reading = reading-turned;
+      node = unit-kept;
       definition = definition-known;
       begin = begin-known;
       step = λ body at left kind n. step-known body at left kind n;
@@ -241,5 +234,6 @@ refusals =
       same = same-turned;
       set = set-turned;
       feed = feed-turned;
+      unplaced = unplaced-turned;
       recall = recall-turned;
     }

@@ -8,8 +8,8 @@ ghost use Rattle.wing_mirror.specs.Machine.{Reading, reading};
 ghost use Rattle.wing_mirror.specs.History.{Agreement, Equality, Rebuilding, Histories};
 ghost use Rattle.promises.specs.Refusals.{Refusals};
 
-// Demand 1. Whatever it is given, every call answers, or refuses with a number of its row in 01's table and leaves every
-// lent buffer as it was.
+// Demand 1. Whatever it is given, every call is taken, or sent back with the number of the first of 01's lines that applies,
+// and then leaves every lent buffer as it was.
 pub fn demand_1_refusals()
     ensures { λ _. ⌜ Refusals ⌝ }
 {}
