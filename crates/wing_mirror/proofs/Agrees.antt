@@ -5,13 +5,16 @@ use mathlib.Core.Path.{_≡_, refl, sym, _∙_, ap, subst}
 use mathlib.Core.Logic.{_↔_}
 use mathlib.Core.List.{List, map}
 use lib.ListN.{length}
-use Rattle.wing_mirror.specs.Rows.{rising, In, All}
-use Rattle.wing_mirror.specs.Record.{Entry, recordOf, entryIn}
+use Rattle.wing_node.specs.Signed.{InBits}
+use Rattle.wing_mirror.specs.Rows.{In, All}
+use Rattle.wing_mirror.specs.Record.{Entry, risingIds, ids, recordOf, entryIn}
 use Rattle.wing_mirror.specs.Call.{Call, TypedCall}
 use Rattle.wing_mirror.specs.Machine.{newMachine}
 use Rattle.wing_mirror.specs.History.{rank, inOrder, mirrorRun, machineRun, placesIn, Agree, Equal, SameMap}
 use Rattle.wing_mirror.proofs.Members.{one-list}
-use Rattle.wing_mirror.proofs.Maps.{Fine, order-rising}
+use Rattle.wing_mirror.proofs.Maps.{Proper, Fine, all-order, order-rising}
+use Rattle.wing_mirror.proofs.Images.{all-also}
+use Rattle.wing_mirror.proofs.Ids.{rising-ids}
 use Rattle.wing_mirror.proofs.Mirrored.{rows-image, recs-back, rest-image, size-image}
 use Rattle.wing_mirror.proofs.InOrder.{order-in, in-order}
 use Rattle.wing_mirror.proofs.Wells.{start, run-well}
@@ -38,11 +41,14 @@ run-agrees buffer calls t =
 
 -- in rising id order, exactly the entries of the map
 pub run-order : (places : ℕ) (calls : List Call) → All TypedCall calls →
-    (rising rank (inOrder (machineRun places calls .state .map)) ≡ true)
+    (risingIds (ids (inOrder (machineRun places calls .state .map))) ≡ true)
     × SameMap (inOrder (machineRun places calls .state .map)) (machineRun places calls .state .map)
 run-order places calls t =
     let m : List Entry = machineRun places calls .state .map in
-    (order-rising m, λ e. (order-in e m, in-order e m (map-fine places calls t .apart)))
+    let f : Fine places m = map-fine places calls t in
+    let typed : All (λ (e : Entry). InBits 31 (e .id)) (inOrder m) =
+    all-also Proper (λ (e : Entry). InBits 31 (e .id)) (inOrder m) (λ e p. p .node) (all-order Proper m (f .proper)) in
+    (sym (rising-ids (inOrder m) typed) ∙ order-rising m, λ e. (order-in e m, in-order e m (f .apart)))
 
 -- two mirrors are equal exactly if their machines' maps hold the same
 pub run-equal : (b c : List ℕ) (xs ys : List Call) → All TypedCall xs → All TypedCall ys →

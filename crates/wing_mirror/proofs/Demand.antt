@@ -13,9 +13,10 @@ use Rattle.wing_mirror.specs.Recall.{recallBytes}
 use Rattle.wing_mirror.specs.History.{rank, inOrder, newMirror, mirrorRun, machineRun, placesIn, Agree, Equal, Agreement, RisingOrder, Equality, Rebuilds, Rebuilding, RebuildingTables, Bounds, Histories}
 use Rattle.wing_mirror.proofs.Chunks.{length-records}
 use Rattle.wing_mirror.proofs.Maps.{Proper, all-order, order-rising}
-use Rattle.wing_mirror.proofs.Entries.{rows-proper, rows-back, rows-rise}
+use Rattle.wing_mirror.proofs.Entries.{rows-proper, rows-back, rows-rise, rows-signed}
 use Rattle.wing_mirror.proofs.Rebuilt.{order-own, map-rebuilt}
 use Rattle.wing_mirror.proofs.Agrees.{map-fine, run-agrees, run-order, run-equal}
+use Rattle.wing_mirror.proofs.Asked.{comparing, recalling}
 use Rattle.wing_mirror.proofs.Bounds.{run-bounded}
 
 -- a table whose records say proper entries in rising order, and are the records of these
@@ -49,7 +50,10 @@ histories =
     record {
       agreement = run-agrees;
       order = run-order;
+      signed = rows-signed;
       equality = run-equal;
+      comparing = comparing;
+      recalling = recalling;
       rebuilding = rebuilding;
       tables = rebuilding-tables;
       bounds = λ buffer calls typed. run-bounded (newMirror buffer) calls;

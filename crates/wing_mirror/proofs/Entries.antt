@@ -1,27 +1,30 @@
 -- What the records of a usable table say: proper entries, whose records they are, in the same order.
-use Prim.Native.Nat.{ℕ, zero, suc, _^_, _<_, _*_, _≤_}
+use Prim.Native.Nat.{ℕ, zero, suc, _^_, _<_, _*_, _/_, _≤_}
 use mathlib.Core.Bool.{Bool, true, false}
 use mathlib.Core.Path.{_≡_, refl, sym, _∙_, ap, ap₂}
 use mathlib.Core.List.{List, [], _∷_, map}
 use native.Mathlib.Omega.{arith}
+use native.Mathlib.Nat.{mul-div-le}
+use borrow.Author.Tests.{le-leb}
 use lib.Dec.{eqb}
 use lib.ListN.{length, take, drop, getD, length-drop}
 use lib.Seq.{length-take-le}
 use Rattle.wing_node.specs.Bool.{if}
 use Rattle.wing_node.specs.Field.{big}
-use Rattle.wing_node.specs.Signed.{signed}
+use Rattle.wing_node.specs.Signed.{signed, InBits}
 use Rattle.wing_node.specs.Value.{NodeValue, integer, float, string}
 use Rattle.wing_node.proofs.Numbers.{Digits, digits-take, digits-drop, number-below}
 use Rattle.wing_node.proofs.Signs.{unsigned-signed}
 use Rattle.wing_wire.specs.Range.{AreBytes, noBytes, byteThen}
 use Rattle.wing_wire.proofs.Branches.{branch}
 use Rattle.wing_wire.proofs.Ranges.{signed-in}
-use Rattle.wing_mirror.specs.Rows.{Table, records, rising, All}
-use Rattle.wing_mirror.specs.Record.{Entry, width, flipped, keyOf, recordOf, entryIn, valueIn, kindIn, lengthIn, payloadIn, Typed, wellFormed}
-use Rattle.wing_mirror.specs.Table.{rows, every, usable}
+use Rattle.wing_mirror.specs.Rows.{Table, places, records, rising, All}
+use Rattle.wing_mirror.specs.Record.{Entry, width, risingIds, ids, flipped, keyOf, recordOf, entryIn, valueIn, kindIn, lengthIn, payloadIn, Typed, wellFormed}
+use Rattle.wing_mirror.specs.Table.{rows, every, checked, soundTable, usable}
 use Rattle.wing_mirror.specs.History.{rank}
 use Rattle.wing_mirror.proofs.Chunks.{Wide, wide-records}
-use Rattle.wing_mirror.proofs.Images.{Stands, rising-map}
+use Rattle.wing_mirror.proofs.Images.{Stands, rising-map, all-also}
+use Rattle.wing_mirror.proofs.Ids.{rising-ids}
 use Rattle.wing_mirror.proofs.Maps.{Proper}
 use Rattle.wing_mirror.proofs.Trips.{read-storable, record-back}
 use Rattle.wing_mirror.proofs.Usables.{both, room, formed, up}
@@ -100,3 +103,12 @@ module _ (t : Table) (b : AreBytes (t .buffer)) (u : usable t ≡ true) where
 
   pub rows-rise : rising rank (map entryIn (rows t)) ≡ true
   rows-rise = rising-map rank keyOf entryIn (rows t) (entries-stand (rows t) each) ∙ up t u
+
+-- where the records are there and have 01's form, a table is sound exactly if their signed ids rise
+pub rows-signed : (t : Table) → AreBytes (t .buffer) → t .count ≤ places width t → every wellFormed (rows t) ≡ true → soundTable t ≡ risingIds (ids (map entryIn (rows t)))
+unfolding soundTable checked
+rows-signed t b h e =
+    let each : All Row (rows t) = all-rows (t .count) (t .buffer) (omega (arith, h, mul-div-le (length (t .buffer)) width)) (are-digits (t .buffer) b) e in
+    let stand = rising-map rank keyOf entryIn (rows t) (entries-stand (rows t) each) in
+    rw (le-leb (t .count) (places width t) h, e)
+    (sym stand ∙ rising-ids (map entryIn (rows t)) (all-also Proper (λ (x : Entry). InBits 31 (x .id)) (map entryIn (rows t)) (λ x p. p .node) (entries-proper (rows t) each)))

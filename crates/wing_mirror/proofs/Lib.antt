@@ -35,4 +35,5 @@ pub mod Bounds
 pub mod Recalls
 pub mod Rebuilt
 pub mod Entries
+pub mod Asked
 pub mod Demand

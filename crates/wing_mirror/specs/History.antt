@@ -7,18 +7,21 @@ use mathlib.Core.List.{List, [], _∷_, _++_, map}
 use lib.ListN.{length, take, drop}
 use Rattle.wing_wire.specs.State.{freshState}
 use Rattle.wing_wire.specs.Range.{AreBytes}
+use Rattle.wing_wire.specs.Write.{writeOf}
 use Rattle.wing_wire.specs.declared.state.State.{State}
 use Rattle.wing_wire.specs.declared.write.Written.{Written}
 use Rattle.wing_wire.specs.declared.write.Written.the-variants.{Bytes, Refused}
-use Rattle.wing_mirror.specs.Rows.{Table, All, joined, rising, insert, In}
-use Rattle.wing_mirror.specs.Record.{Entry, width, rankOf, recordOf, entryIn}
-use Rattle.wing_mirror.specs.Table.{table, rows, inRange, usable}
-use Rattle.wing_mirror.specs.Recall.{recallBytes}
+use Rattle.wing_mirror.specs.Rows.{Table, All, places, joined, insert, In}
+use Rattle.wing_mirror.specs.Record.{Entry, width, risingIds, ids, rankOf, recordOf, entryIn, wellFormed}
+use Rattle.wing_mirror.specs.Table.{table, rows, every, soundTable, inRange, usable}
+use Rattle.wing_mirror.specs.Recall.{recallBytes, recallOf}
+use Rattle.wing_mirror.specs.Query.{sameAnswer}
 use Rattle.wing_mirror.specs.Counts.{total}
 use Rattle.wing_mirror.specs.Call.{Call, feed, set, Outcome, fed, sent, refused, Step, History, runAll, TypedCall}
 use Rattle.wing_mirror.specs.Mirror.{mirrorFeed, mirrorSet}
 use Rattle.wing_mirror.specs.Machine.{Machine, newMachine, machineStep}
 use Rattle.wing_mirror.specs.declared.answer.Counts.{Counts}
+use Rattle.wing_mirror.specs.declared.answer.Same.the-variants.{Yes}
 use Rattle.wing_mirror.specs.declared.answer.FeedAnswer.{FeedAnswer}
 use Rattle.wing_mirror.specs.declared.answer.FeedAnswer.the-variants.{Taken, Refused as Unfed}
 
@@ -112,17 +115,34 @@ Each P (c ∷ cs) (o ∷ os) = P c o × Each P cs os
 abbrev pub Agreement : Type 0
 Agreement = (buffer : List ℕ) (calls : List Call) → All TypedCall calls → Agree buffer (mirrorRun buffer calls) (machineRun (placesIn buffer) calls)
 
--- 'in rising id order' means that: strictly rising, and exactly the entries of the map
+-- 'in rising id order' means that: signed ids, strictly rising, and exactly the entries of the map
 abbrev pub RisingOrder : Type 0
 RisingOrder = (places : ℕ) (calls : List Call) → All TypedCall calls →
     let m = machineRun places calls .state .map in
-    (rising rank (inOrder m) ≡ true) × SameMap (inOrder m) m
+    (risingIds (ids (inOrder m)) ≡ true) × SameMap (inOrder m) m
+
+-- of any table: where its records are there and have 01's form, it is sound exactly if their signed ids rise
+abbrev pub SignedOrder : Type 0
+SignedOrder = (t : Table) → AreBytes (t .buffer) → t .count ≤ places width t → every wellFormed (rows t) ≡ true →
+    soundTable t ≡ risingIds (ids (map entryIn (rows t)))
 
 -- two mirrors are equal exactly when their machines' maps are the same
 abbrev pub Equality : Type 0
 Equality = (b c : List ℕ) (xs ys : List Call) → All TypedCall xs → All TypedCall ys →
     (Equal (mirrorRun b xs .state .table) (mirrorRun c ys .state .table)
     ↔ SameMap (machineRun (placesIn b) xs .state .map) (machineRun (placesIn c) ys .state .map))
+
+-- and the call that compares them says so
+abbrev pub Comparing : Type 0
+Comparing = (b c : List ℕ) (xs ys : List Call) → All TypedCall xs → All TypedCall ys → inRange (placesIn b) ≡ true → inRange (placesIn c) ≡ true →
+    ((sameAnswer (mirrorRun b xs .state .table) (mirrorRun c ys .state .table) ≡ Yes)
+    ↔ SameMap (machineRun (placesIn b) xs .state .map) (machineRun (placesIn c) ys .state .map))
+
+-- recall of a mirror with 1 to 1,024 places, after any history: its bytes, or 9 where the output is too short for them
+abbrev pub Recalling : Type 0
+Recalling = (b : List ℕ) (calls : List Call) → All TypedCall calls → inRange (placesIn b) ≡ true → (out : List ℕ) →
+    let t = mirrorRun b calls .state .table in
+    recallOf t out ≡ writeOf (recallBytes t) out
 
 -- feeds of at most 65,536 bytes each, to a fresh mirror with 1 to 1,024 places and at least as many as t has records, whose bytes join
 -- to what recall writes of t, make it equal to t
@@ -146,7 +166,10 @@ Bounds = (buffer : List ℕ) (calls : List Call) → All TypedCall calls → Eac
 pub record Histories : Type 0 where
   pub agreement : Agreement
   pub order : RisingOrder
+  pub signed : SignedOrder
   pub equality : Equality
+  pub comparing : Comparing
+  pub recalling : Recalling
   pub rebuilding : Rebuilding
   pub tables : RebuildingTables
   pub bounds : Bounds

@@ -1,9 +1,10 @@
 -- 01: a place is 264 bytes: id (4, signed), kind (1: 0 integer, 1 float, 2 string), 00, length (2: 4 for numbers, 0 to 256 for strings), payload (256, zero-filled).
 use Prim.Native.Nat.{ℕ, _+_, _-_, _^_, _<_}
 use mathlib.Core.Bool.{Bool, true, false}
-use mathlib.Core.List.{List, _∷_, _++_}
+use mathlib.Core.List.{List, [], _∷_, _++_, map}
 use lib.Dec.{ltb, leb, eqb}
 use lib.IntN.{ℤ}
+use lib.Signed.{ltZ}
 use lib.ListN.{length, take, drop, getD, set}
 use lib.Seq.{sets}
 use Rattle.wing_node.specs.Bool.{if}
@@ -46,14 +47,24 @@ recordOf e =
 abbrev pub laidFrom : List ℕ → ℕ → List ℕ → List ℕ
 laidFrom out kind p = sets (sets (set out 4 kind) 6 (bytesOf 2 (length p))) 8 p
 
+-- 01: strictly rising signed ids
+unfoldable pub risingIds : List ℤ → Bool
+risingIds [] = true
+risingIds (i ∷ []) = true
+risingIds (i ∷ j ∷ is) = if (ltZ i j) (risingIds (j ∷ is)) false
+
+abbrev pub ids : List Entry → List ℤ
+ids es = map (λ (e : Entry). e .id) es
+
 -- signed order as the order of numbers: the top bit of an id's 32 bits the other way
 abbrev pub flipped : ℕ → ℕ
 flipped n = if (ltb n 0x80000000) (n + 0x80000000) (n - 0x80000000)
 
--- where an id stands in the order
+-- where an id stands in the order: rank-less (proofs/Ids.antt) says that this is signed order
 abbrev pub rankOf : ℤ → ℕ
 rankOf id = flipped (unsigned 31 id)
 
+-- where a record stands in the order: its id's place
 unfoldable pub keyOf : List ℕ → ℕ
 keyOf r = flipped (big (take 4 r))
 
