@@ -1,3 +1,4 @@
 mod Reading
 mod Parsing
 pub mod Turned
+mod Mores

@@ -7,6 +7,7 @@ ghost use Rattle.wing_wire.specs.Cases.{Case, cases};
 ghost use Rattle.wing_mirror.specs.Machine.{Reading, reading};
 ghost use Rattle.wing_mirror.specs.History.{Agreement, Equality, Rebuilding, Histories};
 ghost use Rattle.promises.specs.Refusals.{Refusals};
+ghost use Rattle.promises.specs.Bodies.{MoreTakesAll, Bodies};
 
 // Demand 1. Whatever it is given, every call is taken, or sent back with the number of the first of 01's lines that applies,
 // and then leaves every lent buffer as it was.
@@ -25,6 +26,16 @@ pub fn demand_2_in_pieces()
     ensures { λ _. ⌜ RoundTripPieces (λ node e (rs : List Reading). rs ++ (reading node e ∷ [])) ⌝ }
 {}
 
+// Demand 2, for definitions of all eight types: fields that fit their forms, one after the other, are read as these fields.
+pub fn demand_2_definitions()
+    ensures { λ _. ⌜ Bodies ⌝ }
+{}
+
+// Demand 2, for the decoder: it says 'more' only when all bytes are taken and none is pending.
+pub fn demand_2_more()
+    ensures { λ _. ⌜ MoreTakesAll ⌝ }
+{}
+
 // Demand 3. After any list of feed and set calls, refused ones included, a mirror has answered each call as the plain
 // machine does and holds exactly the machine's nodes with their last values.
 pub fn demand_3_histories()
@@ -41,7 +52,8 @@ pub fn demand_3_recall()
     ensures { λ _. ⌜ Rebuilding ⌝ }
 {}
 
-// Demand 3 in one piece, with the order of the records, recall of any sound table and the bounds of the counts.
+// Demand 3 in one piece, with the signed order of the records, what comparing and recalling answer, recall of any sound table and
+// the bounds of the counts.
 pub fn demand_3_whole()
     ensures { λ _. ⌜ Histories ⌝ }
 {}
