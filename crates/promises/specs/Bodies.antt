@@ -21,6 +21,7 @@ MoreTakesAll = (s : State) (bytes : List ℕ) → nextOf s bytes .answer ≡ Mor
 
 -- a definition written field by field: `held` gives the bytes that each name holds, `each` those of its items, and `rest` may follow
 module _ (held : FieldName → List ℕ) (each : List (List ℕ)) (rest : List ℕ) where
+  -- the fields of these names, one after the other
   abbrev pub laidOf : List FieldName → List ℕ
   laidOf names = laidAll (map form names) (map held names)
 
@@ -28,15 +29,19 @@ module _ (held : FieldName → List ℕ) (each : List (List ℕ)) (rest : List �
   abbrev pub saidBy : List FieldName → ℕ → FieldName → FieldRead
   saidBy names at = look names (readings (map form names) (map held names) at)
 
+  -- 01: the type, by the flags
   abbrev pub kind : NodeType
   kind = kindFrom (saidBy header 0)
 
+  -- where the fields that the type adds begin
   abbrev pub second : ℕ
   second = length (laidOf header)
 
+  -- 01: items for types 5 and 6, count of them
   abbrev pub items : List Field
   items = itemsOf kind (saidBy (added kind) second Count .value)
 
+  -- the whole
   abbrev pub body : List ℕ
   body = laidOf header ++ (laidOf (added kind) ++ (laidAll items each ++ rest))
 

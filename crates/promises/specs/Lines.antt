@@ -26,10 +26,11 @@ pub record Line : Type 0 where
   pub number : ℕ
 
 infixl 20 _gives_
+-- a line by its test and number
 abbrev pub _gives_ : Bool → ℕ → Line
 test gives n = record { applies = test; number = n }
 
--- 01: the first that applies, in the order of the table; where none does, the call is taken
+-- the first line that applies; where none does, the call is taken
 unfoldable pub first : List Line → Found ℕ
 first [] = nothing
 first (l ∷ ls) = if (l .applies) (found (l .number)) (first ls)
@@ -41,32 +42,39 @@ pub record Told (lines : List Line) (said : Found ℕ) (AsItWas : ℕ → Type 0
 
 -- ---- the number that an answer says; none where the call was taken
 
+-- of a command
 abbrev pub writtenNumber : Written → Found ℕ
 writtenNumber (Bytes n) = nothing
 writtenNumber (Unwritten n) = found n
 
+-- of a meter request
 abbrev pub requestNumber : Requested → Found ℕ
 requestNumber (Asks n id) = nothing
 requestNumber (Unrequested n) = found n
 
+-- of a packet
 abbrev pub packetNumber : MetersRead → Found ℕ
 packetNumber (Readings id n) = nothing
 packetNumber (NoReadings n) = found n
 
+-- of a lookup
 abbrev pub lookupNumber : Lookup → Found ℕ
 lookupNumber (At n) = nothing
 lookupNumber None = nothing
 lookupNumber (NotLookedUp n) = found n
 
+-- of a record read
 abbrev pub recordNumber : RecordAnswer → Found ℕ
 recordNumber (Record id v) = nothing
 recordNumber (NoRecord n) = found n
 
+-- of a comparison
 abbrev pub sameNumber : Same → Found ℕ
 sameNumber Yes = nothing
 sameNumber No = nothing
 sameNumber (Uncompared n) = found n
 
+-- of a feed
 abbrev pub feedNumber : FeedAnswer → Found ℕ
 feedNumber Taken = nothing
 feedNumber (Unfed n) = found n

@@ -64,9 +64,11 @@ packetLines p out =
 abbrev pub tableLines : Table → List Line
 tableLines t = (not (usable t) gives 7) ∷ []
 
+-- a record by number: a number that is not below the count as well
 abbrev pub recordLines : Table → ℕ → List Line
 recordLines t number = (not (usable t) gives 7) ∷ (not (ltb number (t .count)) gives 14) ∷ []
 
+-- two tables
 abbrev pub sameLines : Table → Table → List Line
 sameLines t u = (not (usable t) gives 7) ∷ (not (usable u) gives 7) ∷ []
 
@@ -83,6 +85,7 @@ feedLines s t bytes = (not (soundState s) gives 8) ∷ (not (usable t) gives 7) 
 abbrev pub recallLines : Table → List ℕ → List Line
 recallLines t out = (not (usable t) gives 7) ∷ commandLines (recallBytes t) out
 
+-- what is said of every call
 pub record Refusals : Type 0 where
   -- console bytes, by next: sent back as the lines have it, nothing taken and the state as it was
   pub next : (s : State) (bytes : List ℕ) (n : ℕ) → first (nextLines s bytes) ≡ found n → nextOf s bytes ≡ refusedNext n s

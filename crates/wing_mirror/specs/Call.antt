@@ -12,17 +12,18 @@ use Rattle.wing_wire.specs.Range.{AreBytes}
 use Rattle.wing_mirror.specs.Record.{Typed}
 use Rattle.wing_mirror.specs.declared.answer.Counts.{Counts}
 
--- 01: a feed's bytes; a set's node, value and output, given by the bytes that it holds before
+-- a feed by its bytes; a set by its node, its value and the bytes that its output holds before
 pub data Call : Type 0 where
   feed : List ℕ → Call
   set : ℤ → NodeValue → List ℕ → Call
 
--- 01: string over 256; string not UTF-8
+-- 01: a string over 256 bytes
 unfoldable pub tooLong : NodeValue → Bool
 tooLong (integer x) = false
 tooLong (float bits) = false
 tooLong (string s) = not (leb (length s) 256)
 
+-- 01: a string that is not UTF-8
 unfoldable pub notText : NodeValue → Bool
 notText (integer x) = false
 notText (float bits) = false
@@ -34,6 +35,7 @@ pub data Outcome : Type 0 where
   sent : List ℕ → Outcome
   refused : ℕ → Outcome
 
+-- what one call leaves, and how it came out
 pub record Step (S : Type 0) : Type 0 where
   pub state : S
   pub outcome : Outcome
@@ -42,6 +44,7 @@ pub record Step (S : Type 0) : Type 0 where
 abbrev pub refuse : {S : Type 0} → S → ℕ → Step S
 refuse s n = record { state = s; outcome = refused n }
 
+-- what all calls leave, and how each came out
 pub record History (S : Type 0) : Type 0 where
   pub state : S
   pub outcomes : List Outcome

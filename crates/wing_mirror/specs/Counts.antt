@@ -8,6 +8,7 @@ use Rattle.wing_mirror.specs.declared.answer.Counts.{Counts}
 use Rattle.wing_mirror.specs.declared.counts.Mark.{Mark}
 use Rattle.wing_mirror.specs.declared.counts.Mark.the-variants.{Stored, Unplaced, StringRefused, DefinitionRead, DefinitionRefused, Ended}
 
+-- 01's six counts, all 0
 abbrev pub none : Counts
 none = record { stored = 0; unplaced = 0; «strings_refused» = 0; «definitions_read» = 0; «definitions_refused» = 0; ends = 0 }
 

@@ -36,14 +36,17 @@ pub record Mirror : Type 0 where
 abbrev pub newMirror : List ℕ → Mirror
 newMirror buffer = record { decoder = freshState; table = table buffer 0 }
 
+-- how a feed came out, by its answer and counts
 abbrev pub feedOutcome : FeedAnswer → Counts → Outcome
 feedOutcome Taken c = fed c
 feedOutcome (Unfed n) c = refused n
 
+-- how a set came out, by its answer and the bytes written
 abbrev pub setOutcome : Written → List ℕ → Outcome
 setOutcome (Bytes n) out = sent (take n out)
 setOutcome (Refused n) out = refused n
 
+-- 01: each call gets what the one before returned or left; a set leaves the decoder alone
 unfoldable pub mirrorStep : Mirror → Call → Step Mirror
 mirrorStep m (feed bytes) =
     let x = mirrorFeed (m .decoder) (m .table) bytes in
@@ -52,9 +55,11 @@ mirrorStep m (set id v out) =
     let x = mirrorSet id v (m .table) out in
     record { state = record { decoder = m .decoder; table = x .table }; outcome = setOutcome (x .answer) (x .out) }
 
+-- a history of a fresh mirror over this buffer
 abbrev pub mirrorRun : List ℕ → List Call → History Mirror
 mirrorRun buffer calls = runAll mirrorStep (newMirror buffer) calls
 
+-- the same history of the plain machine with so many places
 abbrev pub machineRun : ℕ → List Call → History Machine
 machineRun places calls = runAll (machineStep places) newMachine calls
 
@@ -155,6 +160,7 @@ Rebuilds t = (buffer : List ℕ) → inRange (placesIn buffer) ≡ true → t .c
 abbrev pub Rebuilding : Type 0
 Rebuilding = (b : List ℕ) (calls : List Call) → All TypedCall calls → Rebuilds (mirrorRun b calls .state .table)
 
+-- any table that recall takes
 abbrev pub RebuildingTables : Type 0
 RebuildingTables = (t : Table) → AreBytes (t .buffer) → usable t ≡ true → Rebuilds t
 

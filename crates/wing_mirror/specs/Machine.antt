@@ -28,24 +28,29 @@ pub record Reading : Type 0 where
   pub node : ℤ
   pub event : Event
 
+-- a node and an event
 abbrev pub reading : ℤ → Event → Reading
 reading node e = record { node = node; event = e }
 
+-- one reading more
 abbrev pub noted : ℤ → Answer → List ℕ → List Reading → List Reading
 noted node a s rs = rs ++ (reading node (eventOf a s s) ∷ [])
 
--- next until "more": the events in order
+-- 01: next until "more" (wing_wire's feedOf): the events in order
 unfoldable pub decoded : State → List ℕ → Fed (List Reading)
 decoded s bytes = feedOf noted (record { control = s .control; store = s .store; memo = [] }) bytes
 
+-- the decoder after the bytes
 abbrev pub stateAfter : State → List ℕ → State
 stateAfter s bytes = record { control = decoded s bytes .control; store = decoded s bytes .store }
 
+-- the readings that the bytes give, in order
 abbrev pub readings : State → List ℕ → List Reading
 readings s bytes = decoded s bytes .memo
 
 -- ---- the map
 
+-- two ids are one
 abbrev pub sameId : ℤ → ℤ → Bool
 sameId (pos m) (pos n) = eqb m n
 sameId (pos m) (negsuc n) = false
@@ -77,10 +82,12 @@ pub record Machine : Type 0 where
 abbrev pub newMachine : Machine
 newMachine = record { decoder = freshState; map = [] }
 
+-- the map, and the counts so far
 pub record Noticed : Type 0 where
   pub map : List Entry
   pub counts : Counts
 
+-- the same by its parts
 abbrev pub noticed : List Entry → Counts → Noticed
 noticed m c = record { map = m; counts = c }
 
@@ -94,10 +101,12 @@ hear places node (body b) h = noticed (h .map) (tick (bodyMark (definitionOf b))
 hear places node end h = noticed (h .map) (tick Ended (h .counts))
 hear places node (refused n) h = noticed (h .map) (tick (refusalMark n) (h .counts))
 
+-- readings one after the other
 unfoldable pub hearAll : ℕ → List Reading → Noticed → Noticed
 hearAll places [] h = h
 hearAll places (r ∷ rs) h = hearAll places rs (hear places (r .node) (r .event) h)
 
+-- what a feed makes of the map, with counts from 0
 abbrev pub heardFrom : ℕ → Machine → List ℕ → Noticed
 heardFrom places s bytes = hearAll places (readings (s .decoder) bytes) (noticed (s .map) none)
 

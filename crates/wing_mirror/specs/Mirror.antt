@@ -33,6 +33,7 @@ pub record Tallied : Type 0 where
   pub table : Table
   pub counts : Counts
 
+-- the same by its parts
 abbrev pub tallied : Table → Counts → Tallied
 tallied t c = record { table = t; counts = c }
 
@@ -61,10 +62,11 @@ pub record Feeding : Type 0 where
 abbrev pub unfed : ℕ → State → Table → Feeding
 unfed why s t = record { answer = Unfed why; counts = none; state = s; table = t }
 
--- next until "more", each answer kept
+-- 01: next until "more" (wing_wire's feedOf), each answer kept
 unfoldable pub fedAll : State → Table → List ℕ → Fed Tallied
 fedAll s t bytes = feedOf keep (record { control = s .control; store = s .store; memo = tallied t none }) bytes
 
+-- 01: a feed that is taken: the six counts, the state and the table
 abbrev pub fedFully : Fed Tallied → Feeding
 fedFully x = record { answer = Taken; counts = x .memo .counts; state = record { control = x .control; store = x .store }; table = x .memo .table }
 
@@ -77,6 +79,7 @@ mirrorFeed s t bytes =
     (unfed 7 s t))
     (unfed 8 s t)
 
+-- what the call leaves, by its reply and the lent buffer
 abbrev pub feeding : FeedReply → List ℕ → Feeding
 feeding r buffer = record { answer = r .answer; counts = r .counts; state = r .state; table = table buffer (r .count) }
 
@@ -100,5 +103,6 @@ mirrorSet id v t out =
     (if (ltb (length out) (length (setBytes id v))) (unset 9 t out)
     (record { answer = Bytes (length (setBytes id v)); out = setBytes id v ++ drop (length (setBytes id v)) out; table = put (entry id v) t })))))
 
+-- what the call leaves, by its reply and the lent buffers
 abbrev pub setting : SetReply → List ℕ → List ℕ → Setting
 setting r out buffer = record { answer = r .answer; out = out; table = table buffer (r .count) }

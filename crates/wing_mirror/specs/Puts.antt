@@ -8,6 +8,7 @@ use Rattle.wing_mirror.specs.Record.{width, keyOf}
 use Rattle.wing_mirror.specs.Table.{table}
 use Rattle.wing_mirror.specs.declared.store.Kept.{Kept}
 
+-- the table after a put, and whether there was a place
 pub record Done : Type 0 where
   pub after : Table
   pub taken : Bool
@@ -16,5 +17,6 @@ pub record Done : Type 0 where
 unfoldable pub putOf : List ℕ → Table → Done
 putOf r t = if (takes width keyOf r t) (record { after = store width keyOf r t; taken = true }) (record { after = t; taken = false })
 
+-- the same, by what the code returns and the lent buffer
 abbrev pub done : Kept → List ℕ → Done
 done k buffer = record { after = table buffer (k .count); taken = k .taken }

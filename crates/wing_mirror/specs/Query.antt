@@ -20,6 +20,7 @@ use Rattle.wing_mirror.specs.declared.answer.RecordRead.{RecordRead}
 use Rattle.wing_mirror.specs.declared.answer.Same.{Same}
 use Rattle.wing_mirror.specs.declared.answer.Same.the-variants.{Yes, No, Refused as Uncompared}
 
+-- 01: an id's record number, or none
 unfoldable pub answerOf : Found ℕ → Lookup
 answerOf (found n) = At n
 answerOf nothing = None
@@ -40,12 +41,15 @@ bytesBeside (integer x) = replicate 256 0
 bytesBeside (float bits) = replicate 256 0
 bytesBeside (string s) = filled 256 s
 
+-- a value that is no string, with the bytes beside it all 0
 abbrev pub besideZeros : ℤ → Value → RecordRead
 besideZeros id value = record { answer = Record id value; string = replicate 256 0 }
 
+-- 01: a record read gives id, value and string
 unfoldable pub readOf : Entry → RecordRead
 readOf e = record { answer = Record (e .id) (valueOf (e .value)); string = bytesBeside (e .value) }
 
+-- a refused read, with the bytes beside it all 0
 abbrev pub unread : ℕ → RecordRead
 unread why = record { answer = Unread why; string = replicate 256 0 }
 
@@ -53,12 +57,14 @@ unread why = record { answer = Unread why; string = replicate 256 0 }
 unfoldable pub recordAnswer : Table → ℕ → RecordRead
 recordAnswer t number = if (usable t) (if (ltb number (t .count)) (readOf (entryIn (getD (rows t) number []))) (unread 14)) (unread 7)
 
+-- two lists of bytes are one
 unfoldable pub sameBytes : List ℕ → List ℕ → Bool
 sameBytes [] [] = true
 sameBytes [] (y ∷ ys) = false
 sameBytes (x ∷ xs) [] = false
 sameBytes (x ∷ xs) (y ∷ ys) = if (eqb x y) (sameBytes xs ys) false
 
+-- two lists of records are one
 unfoldable pub sameRows : List (List ℕ) → List (List ℕ) → Bool
 sameRows [] [] = true
 sameRows [] (q ∷ qs) = false
@@ -69,5 +75,6 @@ sameRows (r ∷ rs) (q ∷ qs) = if (sameBytes r q) (sameRows rs qs) false
 unfoldable pub sameTables : Table → Table → Bool
 sameTables s t = if (eqb (s .count) (t .count)) (sameRows (rows s) (rows t)) false
 
+-- 01: 7 for either table
 unfoldable pub sameAnswer : Table → Table → Same
 sameAnswer s t = if (usable s) (if (usable t) (if (sameTables s t) Yes No) (Uncompared 7)) (Uncompared 7)

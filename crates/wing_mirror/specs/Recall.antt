@@ -13,6 +13,7 @@ use Rattle.wing_mirror.specs.Table.{rows, usable}
 abbrev pub setOf : Entry → List ℕ
 setOf e = setBytes (e .id) (e .value)
 
+-- 01: df d1, then the set bytes of each record in order
 unfoldable pub recallBytes : Table → List ℕ
 recallBytes t = 0xdf ∷ 0xd1 ∷ joined (map setOf (map entryIn (rows t)))
 

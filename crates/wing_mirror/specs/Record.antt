@@ -20,9 +20,11 @@ pub record Entry : Type 0 where
   pub id : ℤ
   pub value : NodeValue
 
+-- the same by its parts
 abbrev pub entry : ℤ → NodeValue → Entry
 entry id value = record { id = id; value = value }
 
+-- 01: a place is 264 bytes
 abbrev pub width : ℕ
 width = 264
 
@@ -32,6 +34,7 @@ kindOf (integer x) = 0
 kindOf (float bits) = 1
 kindOf (string s) = 2
 
+-- 01: the payload of a number is its four bytes, that of a string its bytes
 unfoldable pub payloadOf : NodeValue → List ℕ
 payloadOf (integer x) = bytesOf 4 (unsigned 31 x)
 payloadOf (float bits) = bytesOf 4 bits
@@ -53,6 +56,7 @@ risingIds [] = true
 risingIds (i ∷ []) = true
 risingIds (i ∷ j ∷ is) = if (ltZ i j) (risingIds (j ∷ is)) false
 
+-- the ids of entries, in order
 abbrev pub ids : List Entry → List ℤ
 ids es = map (λ (e : Entry). e .id) es
 
@@ -72,20 +76,25 @@ keyOf r = flipped (big (take 4 r))
 abbrev pub idIn : List ℕ → ℤ
 idIn r = signed 31 (big (take 4 r))
 
+-- 01: the kind, one byte
 abbrev pub kindIn : List ℕ → ℕ
 kindIn r = getD r 4 0
 
+-- 01: the length, two bytes
 abbrev pub lengthIn : List ℕ → ℕ
 lengthIn r = big (take 2 (drop 6 r))
 
+-- 01: the payload, from the ninth byte on
 abbrev pub payloadIn : List ℕ → List ℕ
 payloadIn r = drop 8 r
 
+-- the value, by the kind: 0 integer, 1 float, 2 string
 unfoldable pub valueIn : List ℕ → NodeValue
 valueIn r =
     if (eqb (kindIn r) 0) (integer (signed 31 (big (take 4 (payloadIn r)))))
     (if (eqb (kindIn r) 1) (float (big (take 4 (payloadIn r)))) (string (take (lengthIn r) (payloadIn r))))
 
+-- what a record says
 unfoldable pub entryIn : List ℕ → Entry
 entryIn r = entry (idIn r) (valueIn r)
 

@@ -8,6 +8,7 @@ use lib.Dec.{ltb, eqb}
 use lib.ListN.{length, take, drop}
 use Rattle.wing_node.specs.Bool.{if}
 
+-- one, or none
 pub data Found (A : Type 0) : Type 0 where
   found : A → Found A
   nothing : Found A
@@ -17,6 +18,7 @@ unfoldable pub records : ℕ → ℕ → List ℕ → List (List ℕ)
 records w zero buf = []
 records w (suc n) buf = take w buf ∷ records w n (drop w buf)
 
+-- bytes one after the other
 unfoldable pub joined : List (List ℕ) → List ℕ
 joined [] = []
 joined (r ∷ rs) = r ++ joined rs
@@ -66,9 +68,11 @@ pub record Table : Type 0 where
   pub count : ℕ
 
 module _ (w : ℕ) where
+  -- 01: places = buffer length div the width
   abbrev pub places : Table → ℕ
   places t = length (t .buffer) / w
 
+  -- a table's records
   abbrev pub rowsOf : Table → List (List ℕ)
   rowsOf t = records w (t .count) (t .buffer)
 

@@ -15,6 +15,7 @@ orderIn r = setOf (entryIn r)
 abbrev pub ordersOf : List (List ℕ) → List ℕ
 ordersOf rs = joined (map setOf (map entryIn rs))
 
+-- the bytes that a writer wrote, 0 if it refused
 unfoldable pub sizeIn : Written → ℕ
 sizeIn (Bytes n) = n
 sizeIn (Refused why) = 0

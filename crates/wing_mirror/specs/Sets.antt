@@ -8,13 +8,16 @@ use Rattle.wing_mirror.specs.Table.{table}
 use Rattle.wing_mirror.specs.Puts.{putOf}
 use Rattle.wing_mirror.specs.declared.answer.SetReply.{SetReply}
 
+-- the answer, and the table after it
 pub record Replied : Type 0 where
   pub answer : Written
   pub after : Table
 
+-- the same, by what the code returns and the lent buffer
 abbrev pub replied : SetReply → List ℕ → Replied
 replied r buffer = record { answer = r .answer; after = table buffer (r .count) }
 
+-- refused, with the count as it was
 abbrev pub unkept : ℕ → ℕ → SetReply
 unkept why count = record { answer = Refused why; count = count }
 

@@ -9,12 +9,15 @@ use Rattle.wing_node.specs.Bool.{if}
 use Rattle.wing_mirror.specs.Rows.{Table, Found, rising, places, rowsOf, takes, store, numberOf}
 use Rattle.wing_mirror.specs.Record.{Entry, width, keyOf, rankOf, recordOf, wellFormed}
 
+-- a table by its buffer and count
 abbrev pub table : List ℕ → ℕ → Table
 table buffer count = record { buffer = buffer; count = count }
 
+-- its records
 abbrev pub rows : Table → List (List ℕ)
 rows t = rowsOf width t
 
+-- each element passes
 unfoldable pub every : {A : Type 0} → (A → Bool) → List A → Bool
 every p [] = true
 every p (x ∷ xs) = if (p x) (every p xs) false

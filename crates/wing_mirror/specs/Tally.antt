@@ -14,12 +14,15 @@ use Rattle.wing_mirror.specs.declared.counts.Mark.{Mark}
 use Rattle.wing_mirror.specs.declared.keep.Tally.{Tally}
 use Rattle.wing_mirror.specs.declared.keep.FedOn.{FedOn}
 
+-- the same, by what the code holds and the lent buffer
 abbrev pub tallyOf : Tally → List ℕ → Tallied
 tallyOf t buffer = tallied (table buffer (t .count)) (t .counts)
 
+-- one count more
 abbrev pub ticked : ℕ → Counts → Mark → Tally
 ticked count counts m = record { count = count; counts = tick m counts }
 
+-- a state by its parts
 abbrev pub stateOf : Control → List ℕ → State
 stateOf c s = record { control = c; store = s }
 

@@ -16,6 +16,7 @@ use Rattle.wing_node.specs.declared.definition.Details.the-variants.{Non
 use Rattle.wing_node.specs.declared.definition.Parsed.{Parsed}
 use Rattle.wing_node.specs.declared.definition.Parsed.the-variants.{Good, Refused}
 
+-- 01's definition of 15 bytes
 abbrev pub fifteen : List ℕ
 fifteen = 0 ∷ 0 ∷ 0 ∷ 1 ∷ 255 ∷ 255 ∷ 255 ∷ 254 ∷ 0 ∷ 7 ∷ 1 ∷ 65 ∷ 0 ∷ 2 ∷ 1 ∷ []
 

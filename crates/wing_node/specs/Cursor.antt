@@ -12,6 +12,7 @@ use Rattle.wing_node.specs.declared.cursor.Cursor.{Cursor}
 use Rattle.wing_node.specs.declared.cursor.FieldRead.{FieldRead}
 use Rattle.wing_node.specs.declared.cursor.ShortRead.{ShortRead}
 
+-- 01: a field is a number of so many bytes, or a string: its length in one byte, then its bytes
 pub data Field : Type 0 where
   number : ℕ → Field
   string : Field
@@ -49,9 +50,11 @@ begins string at = at + 1
 abbrev pub cursor : ℕ → ℕ → Cursor
 cursor at why = record { at = at; refused = why }
 
+-- at the front, with nothing refused
 abbrev pub start : Cursor
 start = cursor 0 0
 
+-- the place stays, with the number of the refusal
 abbrev pub stopped : Cursor → ℕ → Cursor
 stopped c why = cursor (c .at) why
 
@@ -59,12 +62,15 @@ stopped c why = cursor (c .at) why
 abbrev pub from : List ℕ → Cursor → List ℕ
 from body c = drop (c .at) body
 
+-- what a field says: its number or length, where its bytes start, and the cursor after it
 abbrev pub fieldRead : ℕ → ℕ → Cursor → FieldRead
 fieldRead value start next = record { value = value; start = start; next = next }
 
+-- what a field says after a refusal
 abbrev pub nothing : Cursor → FieldRead
 nothing c = fieldRead 0 0 c
 
+-- the same without the start
 abbrev pub shortOf : FieldRead → ShortRead
 shortOf r = record { value = r .value; next = r .next }
 
@@ -82,6 +88,7 @@ unfoldable pub reads : List Field → List ℕ → Cursor → List FieldRead
 reads [] body c = []
 reads (f ∷ fs) body c = readAt f body c ∷ reads fs body (readAt f body c .next)
 
+-- the cursor after fields in a row
 unfoldable pub after : List Field → List ℕ → Cursor → Cursor
 after [] body c = c
 after (f ∷ fs) body c = after fs body (readAt f body c .next)

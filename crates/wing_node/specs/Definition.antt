@@ -77,6 +77,7 @@ itemOf StringEnum = string ∷ string ∷ []
 itemOf FloatEnum = number 4 ∷ string ∷ []
 itemOf String = []
 
+-- 01: count times
 unfoldable pub times : ℕ → List Field → List Field
 times zero fs = []
 times (suc n) fs = fs ++ times n fs
@@ -89,6 +90,7 @@ itemsOf t count = times count (itemOf t)
 abbrev pub spanOf : FieldRead → Span
 spanOf r = record { start = r .start; len = r .value }
 
+-- the number of a field among the names
 abbrev pub order : FieldName → ℕ
 order ParentId = 0
 order Id = 1
@@ -108,6 +110,7 @@ look [] rs k = nothing start
 look (j ∷ js) [] k = nothing start
 look (j ∷ js) (r ∷ rs) k = if (eqb (order j) (order k)) r (look js rs k)
 
+-- the fields of these names, read one after the other from a cursor on
 abbrev pub named : List FieldName → List ℕ → Cursor → FieldName → FieldRead
 named ks body c = look ks (reads (map form ks) body c)
 
@@ -130,9 +133,11 @@ itemFrom StringEnum rs = Strings (spanOf (nth rs 0)) (spanOf (nth rs 1))
 itemFrom FloatEnum rs = Float (nth rs 0 .value) (spanOf (nth rs 1))
 itemFrom String rs = noItem
 
+-- after a refusal no item
 abbrev pub withoutItem : Cursor → ItemRead
 withoutItem c = record { item = noItem; next = c }
 
+-- after a refusal no details
 abbrev pub withoutDetails : Cursor → DetailsRead
 withoutDetails c = record { details = None; next = c }
 
@@ -184,6 +189,7 @@ definitionFrom f details =
       details = details;
     }
 
+-- 01: 4 or 5 by the first field that fails, else the definition
 abbrev pub parsedFrom : ℕ → Definition → Parsed
 parsedFrom refused d = if (eqb refused 0) (Good d) (Refused refused)
 

@@ -25,6 +25,7 @@ pub record Put : Type 0 where
   pub fits : Bool
   pub bytes : List ℕ
 
+-- whether there was room, and the bytes
 abbrev pub put : Bool → List ℕ → Put
 put fits bytes = record { fits = fits; bytes = bytes }
 

@@ -20,9 +20,11 @@ use Rattle.wing_node.specs.declared.items.Step.{Step}
 use Rattle.wing_node.specs.declared.items.Begun.{Begun}
 use Rattle.wing_node.specs.declared.items.Begun.the-variants.{Good as Begun·Good, Refused as Begun·Refused}
 
+-- a walk by its place, the items left and the type
 abbrev pub walk : ℕ → ℕ → NodeType → Walk
 walk at left kind = record { at = at; left = left; kind = kind }
 
+-- an answer with the walk as it was
 abbrev pub stayed : Item → ℕ → ℕ → NodeType → Step
 stayed item at left kind = record { item = item; next = walk at left kind }
 
@@ -34,6 +36,7 @@ walkFrom t (Floats min max steps) = walk 0 0 t
 walkFrom t (Integers min max) = walk 0 0 t
 walkFrom t (maxLen n) = walk 0 0 t
 
+-- 01: a refused body is refused here with its number
 abbrev pub beginFrom : Parsed → Begun
 beginFrom (Good d) = Begun·Good (walkFrom (d .«node_type») (d .details))
 beginFrom (Parsed·Refused why) = Begun·Refused why
@@ -58,6 +61,7 @@ unfoldable pub numberedFrom : List ℕ → ℕ → Walk → Item
 numberedFrom body n w =
     if (leb (w .left) n) (Refused 14) (stepAt body (after (itemsOf (w .kind) n) body (cursor (w .at) 0) .at) (w .left - n) (w .kind) .item)
 
+-- 01: the body's 4 or 5 comes before 14
 abbrev pub numberedIn : List ℕ → ℕ → Begun → Item
 numberedIn body n (Begun·Good w) = numberedFrom body n w
 numberedIn body n (Begun·Refused why) = Refused why

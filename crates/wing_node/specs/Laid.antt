@@ -15,6 +15,7 @@ unfoldable pub laid : Field → List ℕ → List ℕ
 laid (number w) v = v
 laid string v = length v ∷ v
 
+-- fields one after the other, each with what it holds
 unfoldable pub laidAll : List Field → List (List ℕ) → List ℕ
 laidAll [] vs = []
 laidAll (f ∷ fs) [] = []
@@ -25,6 +26,7 @@ abbrev pub Fits : Field → List ℕ → Type 0
 Fits (number w) v = length v ≡ w
 Fits string v = utf8 v ≡ true
 
+-- each fits its form
 pub data FitsAll : List Field → List (List ℕ) → Type 0 where
   none : FitsAll [] []
   more : {f : Field} {v : List ℕ} {fs : List Field} {vs : List (List ℕ)} → Fits f v → FitsAll fs vs → FitsAll (f ∷ fs) (v ∷ vs)
@@ -51,6 +53,7 @@ abbrev pub held : List ℕ → Field → FieldRead → List ℕ
 held body (number w) r = bytesOf w (r .value)
 held body string r = take (r .value) (drop (r .start) body)
 
+-- what fields held, told by what was read of them
 abbrev pub heldAll : List ℕ → List Field → List FieldRead → List (List ℕ)
 heldAll body [] rs = []
 heldAll body (f ∷ fs) [] = []

@@ -12,6 +12,7 @@ use Rattle.wing_node.specs.declared.node_type.NodeUnit.the-variants.{Non
 abbrev pub types : List NodeType
 types = Node ∷ LinearFloat ∷ LogarithmicFloat ∷ FaderLevel ∷ Integer ∷ StringEnum ∷ FloatEnum ∷ String ∷ []
 
+-- 01's eight units, by number
 abbrev pub units : List NodeUnit
 units = None ∷ Db ∷ Percent ∷ Milliseconds ∷ Hertz ∷ Meters ∷ Seconds ∷ Octaves ∷ []
 
@@ -19,6 +20,7 @@ units = None ∷ Db ∷ Percent ∷ Milliseconds ∷ Hertz ∷ Meters ∷ Second
 unfoldable pub typeOf : ℕ → NodeType
 typeOf n = getD types n Node
 
+-- 01: a unit over 7 is 0
 unfoldable pub unitOf : ℕ → NodeUnit
 unitOf n = getD units n None
 

@@ -13,9 +13,11 @@ pub record Range : Type 0 where
   pub high : ℕ
 
 infixl 20 _to_
+-- the ABNF's %xA0-BF
 abbrev pub _to_ : ℕ → ℕ → Range
 low to high = record { low = low; high = high }
 
+-- the ABNF's %xE0
 abbrev pub only : ℕ → Range
 only b = b to b
 

@@ -19,6 +19,7 @@ abbrev pub startOf : Begun → Start
 startOf (Begun·Good w) = record { opening = Good; at = w .at; left = w .left; kind = w .kind }
 startOf (Begun·Refused why) = record { opening = Refused why; at = 0; left = 0; kind = Node }
 
+-- a walker over this body, from what the covered call began with
 abbrev pub openedAt : RefT (List ℕ) → Start → Opened
 openedAt b p = record { opening = p .opening; walker = record { body = b; at = p .at; left = p .left; kind = p .kind } }
 
@@ -30,6 +31,7 @@ openedOf b = openedAt b (startOf (beginOf (now b)))
 abbrev pub movedTo : Walker → Walk → Walker
 movedTo w p = record { body = w .body; at = p .at; left = p .left; kind = p .kind }
 
+-- the item, and the walker where the covered call left it
 abbrev pub steppedFrom : Walker → Step → Stepped
 steppedFrom w s = record { item = s .item; next = movedTo w (s .next) }
 

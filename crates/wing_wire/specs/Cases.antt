@@ -37,7 +37,7 @@ appended u = given u true
 abbrev pub bare : ℕ → Given
 bare u = given u false
 
--- the units that bytes give
+-- the units that bytes give; feed-units (proofs/ByUnits.antt) says that a feed takes exactly these
 unfoldable pub gives : List ℕ → List Given → Case
 gives bytes us = case (units (unitsOf (freshControl .escape) bytes .units)) (units us)
 
@@ -55,6 +55,7 @@ reads bytes e =
 unfoldable pub sets : ℤ → List ℕ → Case
 sets x bs = case (written (setBytes (pos 7) (integer x))) (written bs)
 
+-- what follows the id in a set order of node 7
 unfoldable pub setEnds : ℤ → List ℕ → Case
 setEnds x bs = case (written (drop 5 (setBytes (pos 7) (integer x)))) (written bs)
 

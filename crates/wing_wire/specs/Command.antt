@@ -37,9 +37,11 @@ lengthBytes n =
     (if (leb n 64) ((0x80 + (n - 1)) ∷ [])
     (0xd1 ∷ escaped ((n - 1) ∷ [])))
 
+-- 01: the length, then the bytes, each df followed by de
 unfoldable pub stringBytes : List ℕ → List ℕ
 stringBytes s = lengthBytes (length s) ++ escaped s
 
+-- a value by its kind
 unfoldable pub valueBytes : NodeValue → List ℕ
 valueBytes (integer x) = integerBytes x
 valueBytes (float bits) = floatBytes bits

@@ -13,6 +13,7 @@ use Rattle.wing_wire.specs.declared.escape.Unit.{Unit}
 use Rattle.wing_wire.specs.declared.escape.Unit.the-variants.{Nothing, Bare, Appended}
 use Rattle.wing_wire.specs.declared.escape.Decoded.{Decoded}
 
+-- the escapes after a byte, and its unit
 abbrev pub decoded : Escape → Unit → Decoded
 decoded e u = record { escape = e; unit = u }
 
@@ -39,6 +40,6 @@ escapedOf e b =
 unfoldable pub plainOf : Escape → ℕ → Decoded
 plainOf e b = if (eqb b 0xdf) (decoded (escape true (e .channel) (e .pending)) Nothing) (decoded e (Appended b))
 
--- one byte, where nothing is pending
+-- 01: one byte, where nothing is pending: a pending byte is a unit first (settleOf)
 unfoldable pub decodeOf : Escape → ℕ → Decoded
 decodeOf e b = if (e .escaped) (escapedOf e b) (plainOf e b)

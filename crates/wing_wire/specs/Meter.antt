@@ -37,13 +37,16 @@ itemOf (Bus2 n) = Indexed 0xad n
 itemOf (Main2 n) = Indexed 0xae n
 itemOf (Matrix2 n) = Indexed 0xaf n
 
+-- 01: the byte of the kind, alone or with the index
 unfoldable pub itemBytes : MeterItem → List ℕ
 itemBytes (Alone kind) = kind ∷ []
 itemBytes (Indexed kind n) = kind ∷ escaped (n ∷ [])
 
+-- one meter
 abbrev pub meterBytes : Meter → List ℕ
 meterBytes m = itemBytes (itemOf m)
 
+-- meters one after the other
 unfoldable pub metersBytes : List Meter → List ℕ
 metersBytes [] = []
 metersBytes (m ∷ ms) = meterBytes m ++ metersBytes ms
@@ -52,6 +55,7 @@ metersBytes (m ∷ ms) = meterBytes m ++ metersBytes ms
 unfoldable pub requestHead : ℕ → ℕ → List ℕ
 requestHead port id = 0xdf ∷ 0xd3 ∷ 0xd3 ∷ (field 2 port ++ (0xd4 ∷ (field 2 id ++ (field 2 port ++ (0xdc ∷ [])))))
 
+-- 01: the head, the items, de df d1
 unfoldable pub meterRequest : ℕ → ℕ → List Meter → List ℕ
 meterRequest port id ms = requestHead port id ++ (metersBytes ms ++ (0xde ∷ 0xdf ∷ 0xd1 ∷ []))
 
@@ -60,9 +64,11 @@ pub record Asked : Type 0 where
   pub answer : Requested
   pub out : List ℕ
 
+-- an answer and the output
 abbrev pub asked : Requested → List ℕ → Asked
 asked answer out = record { answer = answer; out = out }
 
+-- 01: output too short for the whole is 9, as it was; else the bytes, and the new id
 unfoldable pub askOf : List ℕ → ℕ → List ℕ → Asked
 askOf bytes id out =
     if (ltb (length out) (length bytes)) (asked (Refused 9) out)
@@ -95,6 +101,7 @@ pub record Heard : Type 0 where
   pub answer : MetersRead
   pub out : List ℤ
 
+-- an answer and the buffer
 abbrev pub heard : MetersRead → List ℤ → Heard
 heard answer out = record { answer = answer; out = out }
 

@@ -24,25 +24,30 @@ use Rattle.wing_wire.specs.declared.stream.Upcoming.{Upcoming}
 use Rattle.wing_wire.specs.declared.stream.Inside.{Inside}
 use Rattle.wing_wire.specs.declared.stream.Stepped.{Stepped}
 
+-- whether a byte is pending
 abbrev pub isWaiting : Pending → Bool
 isWaiting None = false
 isWaiting (Byte u) = true
 
+-- whether a byte gave no unit
 abbrev pub isNothing : Unit → Bool
 isNothing Nothing = true
 isNothing (Bare u) = false
 isNothing (Appended u) = false
 
+-- whether a unit is appended to a body
 abbrev pub isAppended : Unit → Bool
 isAppended Nothing = false
 isAppended (Bare u) = false
 isAppended (Appended u) = true
 
+-- a unit's value, 0 for none
 abbrev pub valueOf : Unit → ℕ
 valueOf Nothing = 0
 valueOf (Bare u) = u
 valueOf (Appended u) = u
 
+-- the escapes, the next unit, and the place after it
 abbrev pub coming : Escape → Unit → ℕ → Upcoming
 coming e u n = record { escape = e; unit = u; at = n }
 
@@ -52,6 +57,7 @@ byteComing e bytes n =
     if (ltb n (length bytes)) (coming (decodeOf e (getD bytes n 0) .escape) (decodeOf e (getD bytes n 0) .unit) (n + 1))
     (coming e Nothing n)
 
+-- a pending byte is the next unit; else the bytes are read on
 abbrev pub comingBy : Pending → Escape → List ℕ → ℕ → Upcoming
 comingBy None e bytes n = byteComing e bytes n
 comingBy (Byte u) e bytes n = coming (escape (e .escaped) (e .channel) None) (Appended u) n
@@ -64,6 +70,7 @@ comingOf e bytes n = comingBy (e .pending) e bytes n
 unfoldable pub isInner : ℕ → ℕ → Bool
 isInner left b = if (leb left 1) false (not (eqb b 0xdf))
 
+-- a token and the place reached
 abbrev pub ahead : Token → ℕ → Inside
 ahead t n = record { token = t; at = n }
 
@@ -78,6 +85,7 @@ pub record Gone : Type 0 where
   pub ahead : Inside
   pub store : List ℕ
 
+-- the same with the store
 abbrev pub gone : Inside → List ℕ → Gone
 gone a s = record { ahead = a; store = s }
 
@@ -87,6 +95,7 @@ stringAhead want left s n [] = gone (ahead (String want left) n) s
 stringAhead want left s n (b ∷ bs) =
     if (isInner left b) (stringAhead want (left - 1) (set s (want - left) b) (n + 1) bs) (gone (ahead (String want left) n) s)
 
+-- the inner units of a number or a string, as far as they go without an escape
 unfoldable pub tokenAhead : Token → List ℕ → ℕ → List ℕ → Gone
 tokenAhead Between s n bs = gone (ahead Between n) s
 tokenAhead (Number class left v) s n bs = gone (numberAhead class left v n bs) s
@@ -106,12 +115,15 @@ pub record Turned : Type 0 where
   pub heard : Heard
   pub at : ℕ
 
+-- what was heard, and the place reached
 abbrev pub turned : Heard → ℕ → Turned
 turned h n = record { heard = h; at = n }
 
+-- the same of one unit
 abbrev pub stepped : Stepped → List ℕ → Turned
 stepped r s = turned (heard (r .told) s) (r .at)
 
+-- the control and the store after such a run
 unfoldable pub aheadOf : Control → List ℕ → ℕ → List ℕ → Turned
 aheadOf c s n bs =
     turned (quiet (control (c .escape) (c .node) (tokenAhead (c .token) s n bs .ahead .token)) (tokenAhead (c .token) s n bs .store))

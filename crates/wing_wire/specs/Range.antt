@@ -19,7 +19,7 @@ pub data AreBytes : List ℕ → Type 0 where
   noBytes : AreBytes []
   byteThen : {b : ℕ} {bs : List ℕ} → b < 256 → AreBytes bs → AreBytes (b ∷ bs)
 
--- 01: a pending byte is any byte
+-- a pending byte is any byte
 pub data PendingByte : Pending → Type 0 where
   noPending : PendingByte None
   pendingByte : {b : ℕ} → b < 256 → PendingByte (Byte b)

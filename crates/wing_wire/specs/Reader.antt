@@ -52,6 +52,7 @@ stringBeside (Body n) s = replicate 256 0
 stringBeside End s = replicate 256 0
 stringBeside (Refused n) s = replicate 256 0
 
+-- 01: the same of the body
 unfoldable pub bodyBeside : Answer → List ℕ → List ℕ
 bodyBeside More s = replicate 4096 0
 bodyBeside (Integer x) s = replicate 4096 0
@@ -65,6 +66,7 @@ bodyBeside (Refused n) s = replicate 4096 0
 abbrev pub refusedNext : ℕ → State → Reply
 refusedNext why s = record { answer = Refused why; taken = 0; state = s; string = replicate 256 0; body = replicate 4096 0 }
 
+-- the reply to a run: the store cleared of what was given out
 abbrev pub nextFrom : Run → Reply
 nextFrom r =
     let a = r .heard .told .answer in

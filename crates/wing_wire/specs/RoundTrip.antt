@@ -37,6 +37,7 @@ pub record Returned (ch node id : ℤ) (s : List ℕ) (v : NodeValue) : Type 0 w
 abbrev pub RoundTrip : Type 0
 RoundTrip = (ch node id : ℤ) (s : List ℕ) (v : NodeValue) → InBits 31 id → Settable v → length s ≡ 4096 → soundState (calmState ch node s) ≡ true → Returned ch node id s v
 
+-- pieces one after the other
 abbrev pub joint : List (List ℕ) → List ℕ
 joint [] = []
 joint (p ∷ ps) = p ++ joint ps

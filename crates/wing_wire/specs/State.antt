@@ -17,9 +17,11 @@ use Rattle.wing_wire.specs.declared.state.Token.the-variants.{Between, N
 use Rattle.wing_wire.specs.declared.state.Control.{Control}
 use Rattle.wing_wire.specs.declared.state.State.{State}
 
+-- escapes by their parts
 abbrev pub escape : Bool → ℤ → Pending → Escape
 escape escaped channel pending = record { escaped = escaped; channel = channel; pending = pending }
 
+-- a control by its parts
 abbrev pub control : Escape → ℤ → Token → Control
 control e node token = record { escape = e; node = node; token = token }
 
@@ -27,9 +29,11 @@ control e node token = record { escape = e; node = node; token = token }
 abbrev pub freshControl : Control
 freshControl = control (escape false (negsuc 0) None) (pos 0) Between
 
+-- 01: a fresh state; no unit is stored
 unfoldable pub freshState : State
 freshState = record { control = freshControl; store = replicate 4096 0 }
 
+-- both tests
 abbrev pub and : Bool → Bool → Bool
 and true b = b
 and false b = false
@@ -64,6 +68,7 @@ soundString want left = and (underway left want) (leb want 256)
 unfoldable pub soundBody : ℕ → ℕ → ℕ → Bool
 soundBody want left stored = and (underway left want) (if (leb want 4096) (leb stored (want - left)) (eqb stored 0))
 
+-- 01: fewer units collected than wanted, no more stored than collected
 unfoldable pub soundCounts : Token → Bool
 soundCounts Between = true
 soundCounts (Number class left value) = soundNumber class left value
@@ -81,5 +86,6 @@ storedBy (Body want left stored) = stored
 unfoldable pub soundToken : Token → List ℕ → Bool
 soundToken token store = and (soundCounts token) (zeros (drop (storedBy token) store))
 
+-- 01: the states that a caller may hand back; any other gets 8
 unfoldable pub soundState : State → Bool
 soundState s = and (soundEscape (s .control .escape)) (soundToken (s .control .token) (s .store))

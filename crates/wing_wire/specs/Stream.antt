@@ -18,6 +18,7 @@ use Rattle.wing_wire.specs.declared.unit.Answer.the-variants.{More, Inte
 use Rattle.wing_wire.specs.declared.stream.Told.{Told}
 use Rattle.wing_wire.specs.declared.stream.Advanced.{Advanced}
 
+-- an answer and the control after it
 abbrev pub told : Answer → Control → Told
 told answer c = record { answer = answer; control = c }
 
@@ -26,6 +27,7 @@ pub record Heard : Type 0 where
   pub told : Told
   pub store : List ℕ
 
+-- the same with the store
 abbrev pub heard : Told → List ℕ → Heard
 heard t s = record { told = t; store = s }
 
@@ -33,6 +35,7 @@ heard t s = record { told = t; store = s }
 abbrev pub quiet : Control → List ℕ → Heard
 quiet c s = heard (told More c) s
 
+-- 01's 'more'
 abbrev pub isMore : Answer → Bool
 isMore More = true
 isMore (Integer x) = false
@@ -51,9 +54,11 @@ abbrev pub pendingOf : Pending → Control → List ℕ → Heard
 pendingOf None c s = quiet c s
 pendingOf (Byte u) c s = joined (escape (c .escape .escaped) (c .escape .channel) None) (unitOf (c .node) (c .token) s u true)
 
+-- 01: a pending byte is the next unit
 unfoldable pub settleOf : Control → List ℕ → Heard
 settleOf c s = pendingOf (c .escape .pending) c s
 
+-- the unit that a byte gave, if any, taken by the token in progress
 abbrev pub givenOf : Unit → Escape → Control → List ℕ → Heard
 givenOf Nothing e c s = quiet (control e (c .node) (c .token)) s
 givenOf (Bare u) e c s = joined e (unitOf (c .node) (c .token) s u false)
@@ -80,6 +85,7 @@ pub record Run : Type 0 where
 abbrev pub onward : Run → ℕ → Run
 onward r b = if (isMore (r .heard .told .answer)) (record { heard = stepOf (r .heard .told .control) (r .heard .store) b; taken = r .taken + 1 }) r
 
+-- bytes one after the other, up to an answer: after one, onward takes no more
 unfoldable pub runOf : Run → List ℕ → Run
 runOf r [] = r
 runOf r (b ∷ bs) = runOf (onward r b) bs
@@ -88,6 +94,7 @@ runOf r (b ∷ bs) = runOf (onward r b) bs
 unfoldable pub advanceOf : Control → List ℕ → List ℕ → Run
 advanceOf c s bytes = runOf (record { heard = settleOf c s; taken = 0 }) bytes
 
+-- what the core answers, as a run
 abbrev pub run : Advanced → List ℕ → Run
 run r s = record { heard = heard (told (r .answer) (r .control)) s; taken = r .taken }
 
@@ -103,12 +110,14 @@ released (Refused n) s = s
 
 -- ---- through every answer: each is handed, with the current node and the store that holds its bytes, to a handler
 
+-- a decoder and what a handler has made of its answers so far
 pub record Fed (M : Type 0) : Type 0 where
   pub control : Control
   pub store : List ℕ
   pub memo : M
 
 module _ {M : Type 0} (h : ℤ → Answer → List ℕ → M → M) where
+  -- an answer other than 'more' is handed on with its node, and its bytes are released
   abbrev pub heed : Heard → M → Fed M
   heed x m =
       record {
@@ -121,12 +130,15 @@ module _ {M : Type 0} (h : ℤ → Answer → List ℕ → M → M) where
   abbrev pub calm : Fed M → Fed M
   calm x = heed (settleOf (x .control) (x .store)) (x .memo)
 
+  -- one byte, with the byte that it made pending
   abbrev pub fedByte : Fed M → ℕ → Fed M
   fedByte x b = calm (heed (firstOf (x .control) (x .store) b) (x .memo))
 
+  -- bytes one after the other, through every answer
   unfoldable pub fedFrom : Fed M → List ℕ → Fed M
   fedFrom x [] = x
   fedFrom x (b ∷ bs) = fedFrom (fedByte x b) bs
 
+  -- 01: next until 'more': feed-again and feed-ends (proofs/Steps.antt) say that it is that
   unfoldable pub feedOf : Fed M → List ℕ → Fed M
   feedOf x bs = fedFrom (calm x) bs

@@ -9,6 +9,7 @@ use Rattle.wing_wire.specs.declared.token.Class.{Class}
 use Rattle.wing_wire.specs.declared.token.Class.the-variants.{NoEvent, Integer, String, Length, Int16, Int32, Float, Node, End, Count, ZeroCount}
 use Rattle.wing_wire.specs.declared.token.Rule.{Rule}
 
+-- a class and the units wanted
 abbrev pub rule : Class → ℕ → Rule
 rule class wants = record { class = class; wants = wants }
 
@@ -18,12 +19,15 @@ pub record Row : Type 0 where
   pub high : ℕ
   pub gives : ℕ → Rule
 
+-- a row of the table: first units from low to high
 abbrev pub from : ℕ → ℕ → (ℕ → Rule) → Row
 from low high gives = record { low = low; high = high; gives = gives }
 
+-- a row of one first unit
 abbrev pub only : ℕ → Class → ℕ → Row
 only t class wants = from t t (λ t. rule class wants)
 
+-- 01's table of first units, row by row
 abbrev pub table : List Row
 table =
     from 0x00 0x3f (λ t. rule Integer 0) ∷
@@ -45,6 +49,7 @@ unfoldable pub ruleIn : List Row → ℕ → Rule
 ruleIn [] t = rule NoEvent 0
 ruleIn (r ∷ rs) t = if (leb (r .low) t) (if (leb t (r .high)) (r .gives t) (ruleIn rs t)) (ruleIn rs t)
 
+-- 01: what a first unit begins
 unfoldable pub ruleOf : ℕ → Rule
 ruleOf t = ruleIn table t
 
@@ -52,6 +57,7 @@ ruleOf t = ruleIn table t
 abbrev pub classes : List Class
 classes = NoEvent ∷ Integer ∷ String ∷ Length ∷ Int16 ∷ Int32 ∷ Float ∷ Node ∷ End ∷ Count ∷ []
 
+-- a class by its number in the columns
 unfoldable pub classOf : ℕ → Class
 classOf n = getD classes n NoEvent
 

@@ -18,6 +18,7 @@ use Rattle.wing_wire.specs.declared.unit.Answer.{Answer}
 use Rattle.wing_wire.specs.declared.unit.Answer.the-variants.{More, Integer as anInteger, Float as aFloat, String as aString, Body as aBody, End as anEnd, Refused}
 use Rattle.wing_wire.specs.declared.unit.Taken.{Taken}
 
+-- an answer, the node and the token after it
 abbrev pub taken : Answer → ℤ → Token → Taken
 taken answer node token = record { answer = answer; node = node; token = token }
 
@@ -43,6 +44,7 @@ singleOf End t = anEnd
 singleOf Count t = More
 singleOf ZeroCount t = More
 
+-- whether a class is that of strings
 unfoldable pub isString : Class → Bool
 isString NoEvent = false
 isString Integer = false
@@ -88,6 +90,7 @@ numberOf node ZeroCount v = gives node (Refused 3)
 abbrev pub shiftIn : ℕ → ℕ → ℕ
 shiftIn v u = v % 0x1000000 * 256 + u
 
+-- one more unit of a number: its last one gives what the number gives
 unfoldable pub numberUnit : ℤ → Class → ℕ → ℕ → ℕ → Taken
 numberUnit node class left v u =
     if (leb left 1) (numberOf node class (shiftIn v u)) (awaits node (Number class (left - 1) (shiftIn v u)))
@@ -97,6 +100,7 @@ pub record Out : Type 0 where
   pub taken : Taken
   pub store : List ℕ
 
+-- with the store
 abbrev pub out : Taken → List ℕ → Out
 out t s = record { taken = t; store = s }
 
@@ -123,10 +127,12 @@ keeps want stored appended = if appended (if (leb want 4096) (ltb stored 4096) f
 unfoldable pub bodyDone : ℤ → ℕ → ℕ → Taken
 bodyDone node want stored = if (leb want 4096) (gives node (aBody stored)) (gives node (Refused 2))
 
+-- one unit less is wanted; the last one gives the body
 unfoldable pub bodyNext : ℤ → ℕ → ℕ → ℕ → Taken
 bodyNext node want left stored =
     if (leb left 1) (bodyDone node want stored) (awaits node (InBody want (left - 1) stored))
 
+-- 01: a body's units, appended or not
 unfoldable pub bodyUnit : ℤ → ℕ → ℕ → ℕ → List ℕ → ℕ → Bool → Out
 bodyUnit node want left stored s u appended =
     if (keeps want stored appended) (out (bodyNext node want left (stored + 1)) (set s stored u))

@@ -29,6 +29,7 @@ pub record Wrote : Type 0 where
   pub answer : Written
   pub out : List ℕ
 
+-- an answer and the output
 abbrev pub wrote : Written → List ℕ → Wrote
 wrote answer out = record { answer = answer; out = out }
 

@@ -99,7 +99,7 @@ fn decode_plain(e: Escape, b: u8) -> Decoded
     }
 }
 
-// The escapes after one byte, where nothing is pending, and the unit that it gives.
+// The escapes after one byte, where nothing is pending, and the unit that it gives. The core takes a pending byte before.
 pub fn decode_next(e: Escape, b: u8) -> Decoded
     ensures { λ r. ⌜ r ≡ decodeOf e b ⌝ }
 {
