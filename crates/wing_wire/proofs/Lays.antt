@@ -10,11 +10,22 @@ use native.Mathlib.Numerals.{add-one}
 use lib.Dec.{eqb}
 use borrow.Rule.Slice.PartMut.{putMid}
 use lib.ListN.{length, set, take, drop, getD, length-append, length-drop, take-append-drop, drop-of-length-le}
-use lib.Seq.{sets, sets-eq, set-out, drop-set-add, take-set-le, take-suc, take-all}
+use lib.Seq.{sets, sets-eq, set-out, drop-set-add, take-set-le, take-suc, take-all, take-append-seam}
 use borrow.Author.Tests.{le-ltb, lt-ltb, ne-eqb}
 use Rattle.wing_node.specs.Bool.{if}
 use Rattle.wing_wire.specs.declared.write.Written.the-variants.{Bytes, Refused}
 use Rattle.wing_wire.specs.Write.{escaped, Laid, wrote, writeOf}
+
+-- one byte, stored where there is room
+pub stored : (d : List ℕ) (at b : ℕ) → Laid (b ∷ []) at d (set d at b) (at + 1)
+stored d at b = record { bytes = refl; next = refl }
+
+pub past : (d : List ℕ) (at b : ℕ) → length d ≤ at → Laid (b ∷ []) at d d (at + 1)
+past d at b h = record { bytes = sym (set-out d at b h); next = refl }
+
+-- nothing laid
+pub nothing : (d : List ℕ) (at : ℕ) → Laid [] at d d at
+nothing d at = record { bytes = refl; next = omega arith }
 
 pub sets-append : (s t d : List ℕ) (at : ℕ) → sets (sets d at s) (at + length s) t ≡ sets d at (s ++ t)
 sets-append [] t d at = rw (add-zero at)
@@ -28,17 +39,6 @@ then {s} {t} {d} {e} {f} {at} {n} {m} a b = record {
   bytes = b .bytes ∙ rw (a .bytes, a .next) (sets-append s t d at);
   next = omega (arith, a .next, b .next, length-append s t);
 }
-
--- nothing laid
-pub nothing : (d : List ℕ) (at : ℕ) → Laid [] at d d at
-nothing d at = record { bytes = refl; next = omega arith }
-
--- one byte, stored where there is room
-pub stored : (d : List ℕ) (at b : ℕ) → Laid (b ∷ []) at d (set d at b) (at + 1)
-stored d at b = record { bytes = refl; next = refl }
-
-pub past : (d : List ℕ) (at b : ℕ) → length d ≤ at → Laid (b ∷ []) at d d (at + 1)
-past d at b h = record { bytes = sym (set-out d at b h); next = refl }
 
 pub escaped-append : (s t : List ℕ) → escaped (s ++ t) ≡ escaped s ++ escaped t
 unfolding escaped
@@ -58,23 +58,30 @@ pub escaped-other : (s : List ℕ) (i : ℕ) → i < length s → (getD s i 0 �
 unfolding escaped
 escaped-other s i h n = rw (add-one i, take-suc s i 0 h, escaped-append (take i s) (getD s i 0 ∷ [])) (simp (ne-eqb (getD s i 0) 0xdf n))
 
--- a command laid whole, where there is room for it
-pub written : {s d e : List ℕ} {n : ℕ} → Laid s 0 d e n → length s ≤ length d → wrote (Bytes n) e ≡ writeOf s d
+-- a command where there is room for it
+pub whole : (s d : List ℕ) {n : ℕ} → n ≡ length s → length s ≤ length d → wrote (Bytes n) (s ++ drop (length s) d) ≡ writeOf s d
 unfolding writeOf
-written {s} {d} {e} {n} a h =
-    let z : 0 + length s ≡ length s = omega arith in
-    let w : e ≡ s ++ drop (length s) d = a .bytes ∙ sets-eq s d 0 (omega arith) ∙ rw z in
-    let m : n ≡ length s = a .next ∙ z in
-    rw (w, m, le-ltb (length d) (length s) h)
+whole s d m h = rw (m, le-ltb (length d) (length s) h)
 
 -- and where there is none
 pub short : (s d : List ℕ) → length d < length s → wrote (Refused 9) d ≡ writeOf s d
 unfolding writeOf
 short s d h = rw (lt-ltb (length d) (length s) h)
 
--- as the scratch buffer told
-pub refused : {s d x y : List ℕ} {n : ℕ} → Laid s 0 x y n → length d < n → wrote (Refused 9) d ≡ writeOf s d
-refused {s} {d} a h = short s d (omega (arith, a .next))
+module _ {s d e : List ℕ} {n : ℕ} (a : Laid s 0 d e n) (h : length s ≤ length d) where
+  told : n ≡ length s
+  told = omega (arith, a .next)
+
+  in-front : e ≡ s ++ drop (length s) d
+  in-front = let z : 0 + length s ≡ length s = omega arith in a .bytes ∙ sets-eq s d 0 (omega arith) ∙ rw z
+
+  -- a command laid straight into the output
+  pub written : wrote (Bytes n) e ≡ writeOf s d
+  written = rw in-front (whole s d told h)
+
+  -- and one laid into a scratch buffer: its first n bytes are handed over
+  pub handed : (out : List ℕ) → writeOf (take n e) out ≡ writeOf s out
+  handed out = let f : take n e ≡ s = rw (in-front, told) (take-append-seam s (drop (length s) d)) in rw f
 
 -- bytes laid after others go on where these end
 pub goes-on : {s d e : List ℕ} {at n : ℕ} → Laid s at d e n → (t : List ℕ) → sets e n t ≡ sets d at (s ++ t)

@@ -1,12 +1,12 @@
 -- Bytes over the front of others, one after the other.
 -- Assumes nothing.
 use mathlib.Core.Path.{_≡_, refl, ap, _∙_}
-use mathlib.Core.List.{List, [], _∷_}
+use mathlib.Core.List.{List, [], _∷_, _++_}
 use Prim.Native.Nat.{ℕ, zero, suc, _+_, _≤_, _<_, min}
 use native.Mathlib.Omega.{arith}
 use native.Mathlib.Nat.{zero-min, min-zero, suc-min-suc, le-of-suc-le-suc, not-suc-le-zero}
 use native.Mathlib.Numerals.{add-one}
-use lib.ListN.{length, take, getD, set}
+use lib.ListN.{length, take, drop, getD, set}
 use Rattle.wing_wire.specs.Reader.{over}
 
 over-suc : (s d : List ℕ) (i : ℕ) → i < length s → set (over (take i s) d) i (getD s i 0) ≡ over (take (suc i) s) d
@@ -31,3 +31,9 @@ over-least zero s d = rw (zero-min, zero-min)
 over-least (suc n) [] d = rw (min-zero, zero-min)
 over-least (suc n) (a ∷ s) [] = rw min-zero
 over-least (suc n) (a ∷ s) (b ∷ d) = rw (suc-min-suc, suc-min-suc) (ap (λ (l : List ℕ). a ∷ l) (over-least n s d))
+
+-- and where the other reaches as far
+pub over-whole : (s d : List ℕ) → length s ≤ length d → over s d ≡ s ++ drop (length s) d
+over-whole [] d h = refl
+over-whole (a ∷ s) [] h = absurd (not-suc-le-zero h)
+over-whole (a ∷ s) (b ∷ d) h = ap (λ (l : List ℕ). a ∷ l) (over-whole s d (le-of-suc-le-suc h))

@@ -8,7 +8,7 @@ use mathlib.Core.List.{List, [], _∷_, _++_, List·Memᴰ, List·Memᴰ·cases-
 use native.Mathlib.Omega.{arith}
 use lib.Dec.{T, eqb, leb, ltb, leb→le}
 use lib.IntN.{ℤ, pos, negsuc, natAbs}
-use lib.ListN.{length, replicate, length-append}
+use lib.ListN.{length, take, replicate, length-append, length-take}
 use Rattle.wing_node.specs.Bool.{if}
 use Rattle.wing_node.specs.Digits.{digitsIn}
 use Rattle.wing_node.specs.Field.{bytesOf}
@@ -160,10 +160,10 @@ unfolding requestHead
 head-le port id =
     simp length-append (omega (arith, field-le 2 port, field-le 2 id))
 
-pub meter-request-le : (port id : ℕ) (ms : List Meter) → length ms ≤ 64 → length (meterRequest port id ms) ≤ 212
+pub meter-request-le : (port id : ℕ) (ms : List Meter) (count : ℕ) → count ≤ 64 → length (meterRequest port id (take count ms)) ≤ 212
 unfolding meterRequest
-meter-request-le port id ms h =
-    simp length-append (omega (arith, head-le port id, meters-le ms))
+meter-request-le port id ms count h =
+    simp length-append (omega (arith, head-le port id, meters-le (take count ms), length-take count ms))
 
 pub keep-alive-le : (port id : ℕ) → length (keepAlive port id) ≤ 13
 unfolding keepAlive

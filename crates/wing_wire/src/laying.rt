@@ -1,5 +1,5 @@
 // Laying bytes into a lent buffer, plain or with every df followed by de. A byte past the buffer's end is counted and
-// not stored, so that laying a command into a scratch buffer tells its length.
+// not stored, so that laying a keep-alive into a scratch buffer of one byte tells its length.
 // Each says exactly what it leaves; where a second promise stands it bounds the place after, for the next one's `requires`.
 ghost use mathlib.Core.Path.{_≡_};
 ghost use mathlib.Core.List.{_∷_, []};

@@ -9,6 +9,7 @@ use crate::laying::lay;
 use crate::laying::lay_8;
 use crate::laying::lay_16;
 use crate::write::Written;
+use crate::write::hand_over;
 use wing_node::field::i16_at;
 use wing_node::field::u16_at;
 
@@ -149,14 +150,17 @@ pub fn request_meter(
         return Requested::Refused(12);
     }
     let id = last_id + 1;
-    if out.len() < 212 {
-        let mut scratch = [0u8; 1];
-        if out.len() < lay_meter_request(&mut scratch, port, id, meters, count) {
-            return Requested::Refused(9);
-        }
+    if 212 <= out.len() {
+        let len = lay_meter_request(out, port, id, meters, count);
+        return Requested::Bytes { len: len, id: id };
     }
-    let len = lay_meter_request(out, port, id, meters, count);
-    Requested::Bytes { len: len, id: id }
+    let mut scratch = [0u8; 212];
+    let n = lay_meter_request(&mut scratch, port, id, meters, count);
+    let w = hand_over(out, &scratch, n);
+    match w {
+        Written::Bytes(len) => Requested::Bytes { len: len, id: id },
+        Written::Refused(why) => Requested::Refused(why),
+    }
 }
 
 // 01: df d3 d4 id port df d1.

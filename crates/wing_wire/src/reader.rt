@@ -27,7 +27,7 @@ fn least(a: usize, b: usize) -> usize
 }
 
 // The first n bytes of s to the front of out, as far as both reach.
-fn copy_front(out: &mut [u8], s: &[u8], n: usize)
+pub(crate) fn copy_front(out: &mut [u8], s: &[u8], n: usize)
     ensures { λ _. ⌜ now (out .exit) ≡ over (take n (now (s .entry))) (now (out .entry)) ⌝ }
 {
     let most = least(least(n, s.len()), out.len());

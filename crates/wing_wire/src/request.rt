@@ -5,6 +5,7 @@ ghost use Rattle.wing_wire.specs.Command.{requestBytes};
 use crate::laying::lay;
 use crate::laying::lay_id;
 use crate::write::Written;
+use crate::write::hand_over;
 
 // 01: da and the request for id 0, else d7, id and the request.
 fn lay_request(out: &mut [u8], what: u8, id: i32) -> usize
@@ -21,13 +22,12 @@ fn lay_request(out: &mut [u8], what: u8, id: i32) -> usize
 fn ask(out: &mut [u8], what: u8, id: i32) -> Written
     ensures { λ r. ⌜ wrote r (now (out .exit)) ≡ writeOf (requestBytes what id) (now (out .entry)) ⌝ }
 {
-    if out.len() < 10 {
-        let mut scratch = [0u8; 1];
-        if out.len() < lay_request(&mut scratch, what, id) {
-            return Written::Refused(9);
-        }
+    if 10 <= out.len() {
+        return Written::Bytes(lay_request(out, what, id));
     }
-    Written::Bytes(lay_request(out, what, id))
+    let mut scratch = [0u8; 10];
+    let n = lay_request(&mut scratch, what, id);
+    hand_over(out, &scratch, n)
 }
 
 pub fn request_node_definition(out: &mut [u8], id: i32) -> Written

@@ -1,6 +1,7 @@
 // Set orders (libwing's set_int, set_float, set_string) and format_id.
 // 01: output too short for the whole is refused, as it was. An output of the largest size has room for any command of its
-// kind (proofs/Sizes.antt); for a shorter one the command is laid into a scratch buffer first, which tells its length.
+// kind (proofs/Sizes.antt); for a shorter one the command is laid into a scratch buffer of that size and handed over if it
+// fits. Either way it is laid once.
 ghost use mathlib.Core.Path.{_≡_};
 ghost use Prim.Native.Nat.{_+_, _≤_};
 ghost use lib.ListN.{length};
@@ -14,6 +15,7 @@ use crate::laying::lay_32;
 use crate::laying::lay_escaped;
 use crate::laying::lay_id;
 use crate::write::Written;
+use crate::write::hand_over;
 use wing_node::field::of_i16;
 use wing_node::field::of_i32;
 use wing_node::utf8::is_utf8;
@@ -38,13 +40,12 @@ fn lay_format(out: &mut [u8], id: i32, prefix: u8, suffix: Suffix) -> usize
 pub fn format_id(out: &mut [u8], id: i32, prefix: u8, suffix: Suffix) -> Written
     ensures { λ r. ⌜ wrote r (now (out .exit)) ≡ writeOf (idBytes prefix id (suffixBytes suffix)) (now (out .entry)) ⌝ }
 {
-    if out.len() < 10 {
-        let mut scratch = [0u8; 1];
-        if out.len() < lay_format(&mut scratch, id, prefix, suffix) {
-            return Written::Refused(9);
-        }
+    if 10 <= out.len() {
+        return Written::Bytes(lay_format(out, id, prefix, suffix));
     }
-    Written::Bytes(lay_format(out, id, prefix, suffix))
+    let mut scratch = [0u8; 10];
+    let n = lay_format(&mut scratch, id, prefix, suffix);
+    hand_over(out, &scratch, n)
 }
 
 // Whether x is from low to high.
@@ -83,13 +84,12 @@ fn lay_set_int(out: &mut [u8], id: i32, value: i32) -> usize
 pub fn set_int(out: &mut [u8], id: i32, value: i32) -> Written
     ensures { λ r. ⌜ wrote r (now (out .exit)) ≡ writeOf (setBytes id (integer value)) (now (out .entry)) ⌝ }
 {
-    if out.len() < 18 {
-        let mut scratch = [0u8; 1];
-        if out.len() < lay_set_int(&mut scratch, id, value) {
-            return Written::Refused(9);
-        }
+    if 18 <= out.len() {
+        return Written::Bytes(lay_set_int(out, id, value));
     }
-    Written::Bytes(lay_set_int(out, id, value))
+    let mut scratch = [0u8; 18];
+    let n = lay_set_int(&mut scratch, id, value);
+    hand_over(out, &scratch, n)
 }
 
 fn lay_set_float(out: &mut [u8], id: i32, bits: u32) -> usize
@@ -103,13 +103,12 @@ fn lay_set_float(out: &mut [u8], id: i32, bits: u32) -> usize
 pub fn set_float(out: &mut [u8], id: i32, bits: u32) -> Written
     ensures { λ r. ⌜ wrote r (now (out .exit)) ≡ writeOf (setBytes id (float bits)) (now (out .entry)) ⌝ }
 {
-    if out.len() < 18 {
-        let mut scratch = [0u8; 1];
-        if out.len() < lay_set_float(&mut scratch, id, bits) {
-            return Written::Refused(9);
-        }
+    if 18 <= out.len() {
+        return Written::Bytes(lay_set_float(out, id, bits));
     }
-    Written::Bytes(lay_set_float(out, id, bits))
+    let mut scratch = [0u8; 18];
+    let n = lay_set_float(&mut scratch, id, bits);
+    hand_over(out, &scratch, n)
 }
 
 // What stands before a string's bytes. 01: d0; 80 + length − 1 up to 64; d1 and length − 1 up to 256.
@@ -145,13 +144,12 @@ pub fn set_string(out: &mut [u8], id: i32, value: &[u8]) -> Written
         return Written::Refused(10);
     }
     if is_utf8(value) {
-        if out.len() < 395 {
-            let mut scratch = [0u8; 1];
-            if out.len() < lay_set_string(&mut scratch, id, value) {
-                return Written::Refused(9);
-            }
+        if 395 <= out.len() {
+            return Written::Bytes(lay_set_string(out, id, value));
         }
-        return Written::Bytes(lay_set_string(out, id, value));
+        let mut scratch = [0u8; 395];
+        let n = lay_set_string(&mut scratch, id, value);
+        return hand_over(out, &scratch, n);
     }
     Written::Refused(1)
 }

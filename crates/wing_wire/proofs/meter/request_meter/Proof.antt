@@ -1,10 +1,10 @@
-use Rattle.wing_wire.proofs.Asks.{asked-whole, asked-short, too-many, spent, asks}
-use mathlib.Core.Path.{_∙_}
+use Prim.Native.Nat.{_+_}
+use mathlib.Core.Path.{sym, ap, _∙_}
 use native.Mathlib.Omega.{arith}
+use Rattle.wing_wire.specs.declared.write.Written.{Written}
+use Rattle.wing_wire.specs.Write.{wrote}
+use Rattle.wing_wire.proofs.Asks.{too-many, spent, asks-whole, asks-handed}
 use Rattle.wing_wire.proofs.Sizes.{meter-request-le}
-use Prim.Native.Nat.{_+_, _≤_}
-use lib.ListN.{length, take, length-take}
-use mathlib.Core.Logic.{⊎-elim}
 use borrow.Author.Needs.{needs}
 use Rattle.wing_wire.proofs.meter.request_meter.Statement.{statement}
 use Rattle.wing_wire.proofs.meter.request_meter.Tie as tie
@@ -24,38 +24,62 @@ returns-2 c =
 add-id : tie.Need-add-id
 add-id c = search needs
 
-slice-aggregate-lay-meter-request : tie.Need-slice-aggregate-lay-meter-request
-slice-aggregate-lay-meter-request c = search needs
-
 lay-meter-request-requires : tie.Need-lay-meter-request-requires
 lay-meter-request-requires c κs = search needs
-
-returns-3 : tie.Need-returns-3
-returns-3 c =
-    let k1 = c .before .before in
-    let k2 = k1 .before .before .before in
-    let entry = k2 .before .before .before in
-    asked-short (entry .args .last-id + 1) (k1 .lay-meter-request .ensures) (c .if4 .taken) ∙
-    asks (entry .args .port) (entry .args .last-id) (entry .args .meters) (entry .args .count) (entry .args .out .now) (omega arith) (k2 .if2 .left)
-
-lay-meter-request-requires-2 : tie.Need-lay-meter-request-requires-2
-lay-meter-request-requires-2 c κs = search needs
 
 same-length : tie.Need-same-length
 same-length c = search needs
 
+returns-3 : tie.Need-returns-3
+returns-3 c =
+    let k = c .before .before .before .before .before in
+    let a = k .before .before .before .args in
+    asks-whole (a .port) (a .last-id) (a .meters) (a .count) (a .out .now) (omega arith) (k .if2 .left) (omega arith) (c .before .before .lay-meter-request .ensures)
+
+slice-aggregate-lay-meter-request : tie.Need-slice-aggregate-lay-meter-request
+slice-aggregate-lay-meter-request c = search needs
+
+lay-meter-request-requires-2 : tie.Need-lay-meter-request-requires-2
+lay-meter-request-requires-2 c κs = search needs
+
+slice-aggregate-hand-over : tie.Need-slice-aggregate-hand-over
+slice-aggregate-hand-over c = search needs
+
+hand-over-requires : tie.Need-hand-over-requires
+hand-over-requires c κs =
+    let k = c .before .before .before in
+    let a = k .before .before .before .before .before .before .args in
+    omega (arith, k .lay-meter-request2 .ensures .next, meter-request-le (a .port) (a .last-id + 1) (a .meters) (a .count) (omega arith))
+
+enum-known-w : tie.Need-enum-known-w
+enum-known-w c = search needs
+
+enum-known-w-2 : tie.Need-enum-known-w-2
+enum-known-w-2 c = search needs
+
+same-length-2 : tie.Need-same-length-2
+same-length-2 c = search needs
+
 returns-4 : tie.Need-returns-4
 returns-4 c =
-    let k1 = c .before .before in
-    let k2 = k1 .before .before in
-    let k3 = k2 .before in
-    let entry = k3 .before .before .before in
-    let a = entry .args in
-    let l : length (take (a .count) (a .meters)) ≤ 64 = omega (arith, length-take (a .count) (a .meters)) in
-    asked-whole (a .last-id + 1) (k1 .lay-meter-request2 .ensures)
-    (⊎-elim (λ w. omega (arith, w .2 .ensures .next))
-    (λ w. omega (arith, meter-request-le (a .port) (a .last-id + 1) (take (a .count) (a .meters)) l)) (k2 .if3 .came))
-    ∙ asks (entry .args .port) (entry .args .last-id) (entry .args .meters) (entry .args .count) (entry .args .out .now) (omega arith) (k3 .if2 .left)
+    let k1 = c .before .before .before .before .before in
+    let k2 = k1 .before .before .before .before in
+    let k3 = k2 .before .before .before in
+    let a = k3 .before .before .before .args in
+    asks-handed (a .port) (a .last-id) (a .meters) (a .count) (a .out .now) (omega arith) (k3 .if2 .left) (omega arith) (k2 .lay-meter-request2 .ensures)
+    (ap (λ (r : Written). wrote r (k1 .hand-over .last .0)) (sym (c .before .w .given .1)) ∙ k1 .hand-over .ensures)
+
+same-length-3 : tie.Need-same-length-3
+same-length-3 c = search needs
+
+returns-5 : tie.Need-returns-5
+returns-5 c =
+    let k1 = c .before .before .before .before .before in
+    let k2 = k1 .before .before .before .before in
+    let k3 = k2 .before .before .before in
+    let a = k3 .before .before .before .args in
+    asks-handed (a .port) (a .last-id) (a .meters) (a .count) (a .out .now) (omega arith) (k3 .if2 .left) (omega arith) (k2 .lay-meter-request2 .ensures)
+    (ap (λ (r : Written). wrote r (k1 .hand-over .last .0)) (sym (c .before .w2 .given .1)) ∙ k1 .hand-over .ensures)
 
 pub request-meter-spec : {M : Type 1} → statement M
 request-meter-spec =
@@ -64,9 +88,16 @@ request-meter-spec =
     returns
     returns-2
     add-id
-    slice-aggregate-lay-meter-request
     lay-meter-request-requires
-    returns-3
-    lay-meter-request-requires-2
     same-length
-    returns-4)
+    returns-3
+    slice-aggregate-lay-meter-request
+    lay-meter-request-requires-2
+    slice-aggregate-hand-over
+    hand-over-requires
+    enum-known-w
+    enum-known-w-2
+    same-length-2
+    returns-4
+    same-length-3
+    returns-5)

@@ -1,10 +1,9 @@
 use mir.Facts.{toZ-ofZ}
-use Rattle.wing_wire.proofs.Lays.{written, refused}
-use Rattle.wing_wire.proofs.Sizes.{set-string-le}
-use native.Mathlib.Omega.{arith}
-use mathlib.Core.Logic.{⊎-elim}
 use mathlib.Core.Path.{sym, _∙_}
+use native.Mathlib.Omega.{arith}
 use Rattle.wing_wire.proofs.Choices.{string-long, string-bad, string-good}
+use Rattle.wing_wire.proofs.Lays.{written, handed}
+use Rattle.wing_wire.proofs.Sizes.{set-string-le}
 use borrow.Author.Needs.{needs}
 use Rattle.wing_wire.proofs.set.set_string.Statement.{statement}
 use Rattle.wing_wire.proofs.set.set_string.Tie as tie
@@ -18,40 +17,55 @@ returns c =
 is-utf8-requires : tie.Need-is-utf8-requires
 is-utf8-requires c κs = search needs
 
-slice-aggregate-lay-set-string : tie.Need-slice-aggregate-lay-set-string
-slice-aggregate-lay-set-string c = search needs
-
 lay-set-string-requires : tie.Need-lay-set-string-requires
 lay-set-string-requires c κs = search needs
-
-returns-2 : tie.Need-returns-2
-returns-2 c =
-    let k1 = c .before .before in
-    let k2 = k1 .before .before .before in
-    let k3 = k2 .before in
-    let entry = k3 .before .before .before .before in
-    let z = toZ-ofZ (entry .fits .id) in
-    refused (rw z at (k1 .lay-set-string .ensures)) (c .if4 .taken) ∙
-    string-good (entry .args .id) (entry .args .value .now) (entry .args .out .now) (omega arith) (sym (k3 .is-utf8 .ensures .0) ∙ k2 .if2 .taken)
-
-lay-set-string-requires-2 : tie.Need-lay-set-string-requires-2
-lay-set-string-requires-2 c κs = search needs
 
 same-length : tie.Need-same-length
 same-length c = search needs
 
+returns-2 : tie.Need-returns-2
+returns-2 c =
+    let k1 = c .before .before .before .before .before in
+    let k2 = k1 .before in
+    let entry = k2 .before .before .before .before in
+    let z = toZ-ofZ (entry .fits .id) in
+    let o = k2 .is-utf8 .ensures .1 .right (k1 .if2 .taken) in
+    written (rw z at (c .before .before .lay-set-string .ensures)) (omega (arith, set-string-le (entry .args .id) (entry .args .value .now) o (omega arith)))
+    ∙ string-good (entry .args .id) (entry .args .value .now) (entry .args .out .now) (omega arith) (sym (k2 .is-utf8 .ensures .0) ∙ k1 .if2 .taken)
+
+slice-aggregate-lay-set-string : tie.Need-slice-aggregate-lay-set-string
+slice-aggregate-lay-set-string c = search needs
+
+lay-set-string-requires-2 : tie.Need-lay-set-string-requires-2
+lay-set-string-requires-2 c κs = search needs
+
+slice-aggregate-hand-over : tie.Need-slice-aggregate-hand-over
+slice-aggregate-hand-over c = search needs
+
+hand-over-requires : tie.Need-hand-over-requires
+hand-over-requires c κs =
+    let k1 = c .before .before .before in
+    let k2 = k1 .before .before .before in
+    let k3 = k2 .before in
+    let entry = k3 .before .before .before .before in
+    let z = toZ-ofZ (entry .fits .id) in
+    let o = k3 .is-utf8 .ensures .1 .right (k2 .if2 .taken) in
+    omega (arith, (rw z at (k1 .lay-set-string2 .ensures)) .next, set-string-le (entry .args .id) (entry .args .value .now) o (omega arith))
+
+same-length-2 : tie.Need-same-length-2
+same-length-2 c = search needs
+
 returns-3 : tie.Need-returns-3
 returns-3 c =
     let k1 = c .before .before in
-    let k2 = k1 .before .before in
-    let k3 = k2 .before in
+    let k2 = k1 .before .before .before .before in
+    let k3 = k2 .before .before .before in
     let k4 = k3 .before in
     let entry = k4 .before .before .before .before in
     let z = toZ-ofZ (entry .fits .id) in
     let o = k4 .is-utf8 .ensures .1 .right (k3 .if2 .taken) in
-    written (rw z at (k1 .lay-set-string2 .ensures))
-    (⊎-elim (λ w. omega (arith, (rw z at (w .2 .ensures)) .next))
-    (λ w. omega (arith, set-string-le (entry .args .id) (entry .args .value .now) o (omega arith))) (k2 .if3 .came))
+    k1 .hand-over .ensures
+    ∙ handed (rw z at (k2 .lay-set-string2 .ensures)) (set-string-le (entry .args .id) (entry .args .value .now) o (omega arith)) (entry .args .out .now)
     ∙ string-good (entry .args .id) (entry .args .value .now) (entry .args .out .now) (omega arith) (sym (k4 .is-utf8 .ensures .0) ∙ k3 .if2 .taken)
 
 returns-4 : tie.Need-returns-4
@@ -67,10 +81,13 @@ set-string-spec =
     (tie.spec
     returns
     is-utf8-requires
-    slice-aggregate-lay-set-string
     lay-set-string-requires
-    returns-2
-    lay-set-string-requires-2
     same-length
+    returns-2
+    slice-aggregate-lay-set-string
+    lay-set-string-requires-2
+    slice-aggregate-hand-over
+    hand-over-requires
+    same-length-2
     returns-3
     returns-4)
