@@ -1,4 +1,4 @@
 mod Reading
 mod Parsing
 pub mod Turned
-mod Mores
+mod TakesAll

@@ -1,3 +1,3 @@
 pub mod Lines
 pub mod Refusals
-pub mod Bodies
+pub mod Mores

@@ -2,12 +2,13 @@
 // The statements stand in specs/ of the crates named; this page says in plain words what each of them says.
 ghost use mathlib.Core.Path.{_≡_};
 ghost use mathlib.Core.List.{List, [], _∷_, _++_, map};
+ghost use Rattle.wing_node.specs.Written.{ReadsBack};
 ghost use Rattle.wing_wire.specs.RoundTrip.{RoundTrip, RoundTripPieces};
 ghost use Rattle.wing_wire.specs.Cases.{Case, cases};
 ghost use Rattle.wing_mirror.specs.Machine.{Reading, reading};
 ghost use Rattle.wing_mirror.specs.History.{Agreement, Equality, Rebuilding, Histories};
 ghost use Rattle.promises.specs.Refusals.{Refusals};
-ghost use Rattle.promises.specs.Bodies.{MoreTakesAll, Bodies};
+ghost use Rattle.promises.specs.Mores.{MoreTakesAll};
 
 // Demand 1. Whatever it is given, every call is taken, or sent back with the number of the first of 01's lines that applies,
 // and then leaves every lent buffer as it was.
@@ -28,7 +29,7 @@ pub fn demand_2_in_pieces()
 
 // Demand 2, for definitions of all eight types: fields that fit their forms, one after the other, are read as these fields.
 pub fn demand_2_definitions()
-    ensures { λ _. ⌜ Bodies ⌝ }
+    ensures { λ _. ⌜ ReadsBack ⌝ }
 {}
 
 // Demand 2, for the decoder: it says 'more' only when all bytes are taken and none is pending.

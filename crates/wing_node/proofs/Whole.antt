@@ -15,6 +15,7 @@ use Rattle.wing_node.specs.Field.{big, bytesOf}
 use Rattle.wing_node.specs.Cursor.{Field, number, string, content, valueOf, begins, start, cursor, from, readAt, reads, after}
 use Rattle.wing_node.specs.Definition.{FieldName, ParentId, Id, Index, Name, LongName, Flags, Min, Max, Steps, Count, MaxLen, order, form, look, named, past, header, added, itemsOf, kindFrom, detailsFrom, detailsAt, definitionFrom, definitionOf, fieldsIn}
 use Rattle.wing_node.specs.Laid.{laid, laidAll, Fits, FitsAll, none, more, numberOf, readings, contents, heldAll}
+use Rattle.wing_node.specs.Written.{laidOf, kind, items, body, ReadsBack}
 use Rattle.wing_node.specs.declared.cursor.Cursor.{Cursor}
 use Rattle.wing_node.specs.declared.cursor.FieldRead.{FieldRead}
 use Rattle.wing_node.specs.declared.node_type.NodeType.{NodeType}
@@ -65,41 +66,20 @@ flags-read body d h =
     let others = map form (added t) ++ itemsOf t (named (added t) body (past header body start) Count .value) in
     value-read (number 2) body c5 (laid-reads others body (readAt (number 2) body c5 .next) (good-end body d h) .0)
 
--- fields that fit read back, whatever follows them. `d` gives what each name holds
-module _ (d : FieldName → List ℕ) (is : List (List ℕ)) (rest : List ℕ) where
-  abbrev pub laidOf : List FieldName → List ℕ
-  laidOf ks = laidAll (map form ks) (map d ks)
-
-  abbrev pub readFrom : List FieldName → ℕ → FieldName → FieldRead
-  readFrom ks at = look ks (readings (map form ks) (map d ks) at)
-
-  abbrev pub kind : NodeType
-  kind = kindFrom (readFrom header 0)
-
-  abbrev pub first : ℕ
-  first = length (laidOf header)
-
-  abbrev pub items : List Field
-  items = itemsOf kind (readFrom (added kind) first Count .value)
-
-  abbrev pub written : List ℕ
-  written = laidOf header ++ (laidOf (added kind) ++ (laidAll items is ++ rest))
-
-  pub reads-back : FitsAll (map form header) (map d header) → FitsAll (map form (added kind)) (map d (added kind)) → FitsAll items is →
-      definitionOf written ≡
-      Good (definitionFrom (readFrom header 0) (detailsFrom kind (readFrom (added kind) first) (first + length (laidOf (added kind)))))
-  unfolding definitionOf detailsAt
-  reads-back fh fd fi =
-      let H = laidOf header in
-      let D = laidOf (added kind) in
-      let I = laidAll items is in
-      let zero+ : 0 + length H ≡ length H = omega arith in
-      let head = reads-laid [] (D ++ (I ++ rest)) fh in
-      let begun : past header written start ≡ cursor (length H) 0 = head .1 ∙ ap (λ n. cursor n 0) zero+ in
-      let more = reads-laid H (I ++ rest) fd in
-      let listed : after items written (cursor (length H + length D) 0) ≡ cursor (length H + length D + length I) 0 =
-      simp (append-assoc, length-append) at (reads-laid (H ++ D) rest fi .1) in
-      rw (head .0, begun, more .0, more .1, listed)
+-- fields that fit read back, whatever follows them
+pub reads-back : ReadsBack
+unfolding definitionOf detailsAt
+reads-back held each rest fh fd fi =
+    let H = laidOf held each rest header in
+    let D = laidOf held each rest (added (kind held each rest)) in
+    let I = laidAll (items held each rest) each in
+    let zero+ : 0 + length H ≡ length H = omega arith in
+    let head = reads-laid [] (D ++ (I ++ rest)) fh in
+    let begun : past header (body held each rest) start ≡ cursor (length H) 0 = head .1 ∙ ap (λ n. cursor n 0) zero+ in
+    let more = reads-laid H (I ++ rest) fd in
+    let listed : after (items held each rest) (body held each rest) (cursor (length H + length D) 0) ≡ cursor (length H + length D + length I) 0 =
+    simp (append-assoc, length-append) at (reads-laid (H ++ D) rest fi .1) in
+    rw (head .0, begun, more .0, more .1, listed)
 
 -- the fields that a type has read back as what they held
 known : ℕ → FieldName

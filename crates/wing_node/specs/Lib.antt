@@ -10,6 +10,7 @@ pub mod Cursor
 pub mod Types
 pub mod Definition
 pub mod Laid
+pub mod Written
 pub mod Items
 pub mod Walker
 pub mod Cases

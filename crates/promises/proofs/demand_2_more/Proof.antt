@@ -1,4 +1,4 @@
-use Rattle.promises.proofs.Mores.{more-takes-all}
+use Rattle.promises.proofs.TakesAll.{more-takes-all}
 use Rattle.promises.proofs.demand_2_more.Statement.{statement}
 use Rattle.promises.proofs.demand_2_more.Tie as tie
 

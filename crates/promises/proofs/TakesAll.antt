@@ -1,4 +1,4 @@
--- 'More' only when all bytes are taken, as specs/Bodies states it.
+-- 'More' only when all bytes are taken, as specs/Mores states it.
 use Prim.Native.Nat.{ℕ}
 use mathlib.Core.Bool.{Bool, true, false}
 use mathlib.Core.Path.{_≡_, refl, ap}
@@ -17,7 +17,7 @@ use Rattle.wing_wire.specs.declared.unit.Answer.{Answer}
 use Rattle.wing_wire.specs.declared.unit.Answer.the-variants.{More}
 use Rattle.wing_wire.proofs.Branches.{branch}
 use Rattle.wing_wire.proofs.Steps.{next-more}
-use Rattle.promises.specs.Bodies.{MoreTakesAll}
+use Rattle.promises.specs.Mores.{MoreTakesAll}
 
 abbrev mark : Answer → ℕ
 mark a = if (isMore a) 1 0

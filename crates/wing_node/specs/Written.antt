@@ -1,23 +1,14 @@
--- Demand 2, for what is no set order: a parser that sends bodies back and a decoder that leaves bytes are shut out.
+-- A definition written field by field, and that it is read back: for all eight types at once.
 use Prim.Native.Nat.{ℕ, _+_}
 use mathlib.Core.Path.{_≡_}
 use mathlib.Core.List.{List, [], _∷_, _++_, map}
 use lib.ListN.{length}
 use Rattle.wing_node.specs.Cursor.{Field}
 use Rattle.wing_node.specs.Definition.{FieldName, Count, form, look, header, added, itemsOf, kindFrom, detailsFrom, definitionFrom, definitionOf}
 use Rattle.wing_node.specs.Laid.{laidAll, FitsAll, readings}
 use Rattle.wing_node.specs.declared.cursor.FieldRead.{FieldRead}
 use Rattle.wing_node.specs.declared.node_type.NodeType.{NodeType}
 use Rattle.wing_node.specs.declared.definition.Parsed.the-variants.{Good}
-use Rattle.wing_wire.specs.Reader.{nextOf}
-use Rattle.wing_wire.specs.declared.state.State.{State}
-use Rattle.wing_wire.specs.declared.state.Pending.the-variants.{None}
-use Rattle.wing_wire.specs.declared.unit.Answer.the-variants.{More}
-
--- 01: 'more' only when all bytes are taken and nothing is pending
-abbrev pub MoreTakesAll : Type 0
-MoreTakesAll = (s : State) (bytes : List ℕ) → nextOf s bytes .answer ≡ More →
-    (nextOf s bytes .taken ≡ length bytes) × (nextOf s bytes .state .control .escape .pending ≡ None)
 
 -- a definition written field by field: `held` gives the bytes that each name holds, `each` those of its items, and `rest` may follow
 module _ (held : FieldName → List ℕ) (each : List (List ℕ)) (rest : List ℕ) where
@@ -51,5 +42,5 @@ module _ (held : FieldName → List ℕ) (each : List (List ℕ)) (rest : List �
       definitionOf body ≡ Good (definitionFrom (saidBy header 0) (detailsFrom kind (saidBy (added kind) second) (second + length (laidOf (added kind)))))
 
 -- for all eight types
-abbrev pub Bodies : Type 0
-Bodies = (held : FieldName → List ℕ) (each : List (List ℕ)) (rest : List ℕ) → ReadBack held each rest
+abbrev pub ReadsBack : Type 0
+ReadsBack = (held : FieldName → List ℕ) (each : List (List ℕ)) (rest : List ℕ) → ReadBack held each rest
