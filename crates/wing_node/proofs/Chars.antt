@@ -10,9 +10,9 @@ use lib.Dec.{ltb, eqb, leb·zero}
 use lib.ListN.{length, drop, getD, replicate, length-drop, drop-of-length-le}
 use lib.Seq.{drop-cons, drop-drop}
 use Rattle.wing_node.specs.Bool.{if}
-use Rattle.wing_node.specs.Utf8.{Range, chars, holds, begins, firstThat, rowOf, leadLength, second, tail, charLength, charsFrom, utf8}
+use Rattle.wing_node.specs.Utf8.{Range, _to_, chars, holds, begins, firstThat, rowOf, leadLength, second, utf8Tail, charLength, charsFrom, utf8}
 use Rattle.wing_node.proofs.Rows.{first-passes, first-narrow}
-use Rattle.wing_node.proofs.Fronts.{begins-cons, begins-lead, begins-length}
+use Rattle.wing_node.proofs.Fronts.{if-both, if-if, holds-limits, begins-cons, begins-lead, begins-length, begins-inside, begins-at, begins-again}
 use Rattle.wing_node.proofs.LeadBytes.{leads, rest, lead}
 
 pub char-length-le : (s : List ℕ) → charLength s ≤ length s
@@ -36,26 +36,22 @@ by-row b s h =
 pub by-lead : (b : ℕ) (s : List ℕ) → b < 256 → charLength (b ∷ s) ≡ if (begins (rest b) s) (leadLength b) 0
 by-lead b s h = by-row b s h ∙ rw (begins-lead (rowOf b) b s, row-leads b, lead b h .follows)
 
-if-step : (p q : Bool) (n : ℕ) → if (if p q false) n 0 ≡ if p (if q n 0) 0
-if-step true q n = refl
-if-step false q n = refl
-
 -- the character at i, in the order in which the code looks at its bytes
 pub char-at : (s : List ℕ) (i b : ℕ) → i < length s → getD s i 0 ≡ b → b < 256 → charLength (drop i s) ≡
     if (ltb (leadLength b) 2) (leadLength b)
-    (if (begins (second b ∷ []) (drop (i + 1) s)) (if (begins (replicate (leadLength b - 2) tail) (drop (i + 2) s)) (leadLength b) 0) 0)
+    (if (begins (second b ∷ []) (drop (i + 1) s)) (if (begins (replicate (leadLength b - 2) utf8Tail) (drop (i + 2) s)) (leadLength b) 0) 0)
 unfolding begins
 char-at s i b h e l = rw (← drop-drop 2 i s, ← drop-drop 1 i s, drop-cons s i 0 h, e) (by-lead b (drop (suc i) s) l ∙ go (ltb (leadLength b) 2))
   where
     more : List Range
-    more = replicate (leadLength b - 2) tail
+    more = replicate (leadLength b - 2) utf8Tail
 
     t : List ℕ
     t = drop (suc i) s
 
     go : (q : Bool) → if (begins (if q [] (second b ∷ more)) t) (leadLength b) 0 ≡ if q (leadLength b) (if (begins (second b ∷ []) t) (if (begins more (drop 1 t)) (leadLength b) 0) 0)
     go true = refl
-    go false = rw (begins-cons (second b) more t) (if-step (begins (second b ∷ []) t) (begins more (drop 1 t)) (leadLength b))
+    go false = rw (begins-cons (second b) more t) (if-if (begins (second b ∷ []) t) (begins more (drop 1 t)) (leadLength b) 0)
 
 ascii : (b : ℕ) (s : List ℕ) → b < 0x80 → charLength (b ∷ s) ≡ 1
 unfolding charLength firstThat begins holds
@@ -94,3 +90,14 @@ module _ (s : List ℕ) (i n : ℕ) (h : i < length s) (e : n ≡ charLength (dr
 pub ended : (s : List ℕ) (i : ℕ) → length s ≤ i → utf8 (drop i s) ≡ true
 unfolding utf8 charsFrom
 ended s i h = rw (drop-of-length-le s h)
+
+-- a run of ASCII
+pub ascii-passed : (n : ℕ) (s : List ℕ) (i : ℕ) → begins (replicate n (0x00 to 0x7f)) (drop i s) ≡ true → utf8 (drop i s) ≡ utf8 (drop (i + n) s)
+ascii-passed zero s i e = let z : i + 0 ≡ i = omega arith in rw z
+ascii-passed (suc n) s i e =
+    let less : suc n - 1 ≡ n = omega arith in
+    let on : i + suc n ≡ i + 1 + n = omega arith in
+    let p = if-both _ _ (rw less at (sym (begins-again (0x00 to 0x7f) s i (suc n) (omega arith)) ∙ e)) in
+    let h = begins-inside (0x00 to 0x7f) s i (p .0) in
+    let b = holds-limits (0x00 to 0x7f) (getD s i 0) (sym (begins-at (0x00 to 0x7f) s i h) ∙ p .0) .1 in
+    passed s i 1 h (ascii-at s i h (omega arith)) (λ z. omega arith) ∙ rw on (ascii-passed n s (i + 1) (p .1))

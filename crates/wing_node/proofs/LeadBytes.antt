@@ -7,7 +7,7 @@ use lib.Count.{leadingZeros}
 use lib.Dec.{T, eqb, ltb, eqb→eq}
 use lib.ListN.{take, drop, replicate}
 use Rattle.wing_node.specs.Bool.{if}
-use Rattle.wing_node.specs.Utf8.{Range, tail, chars, holds, begins, firstThat, rowOf, leadLength, second}
+use Rattle.wing_node.specs.Utf8.{Range, utf8Tail, chars, holds, begins, firstThat, rowOf, leadLength, second}
 use Rattle.wing_node.proofs.Below.{both, both-left, both-right, below}
 use Rattle.wing_node.proofs.Rows.{alone, same, same-eq}
 
@@ -16,7 +16,7 @@ leads b row = begins (take 1 row) (b ∷ [])
 
 -- what the grammar has after a lead byte
 abbrev pub rest : ℕ → List Range
-rest b = if (ltb (leadLength b) 2) [] (second b ∷ replicate (leadLength b - 2) tail)
+rest b = if (ltb (leadLength b) 2) [] (second b ∷ replicate (leadLength b - 2) utf8Tail)
 
 -- what the code decides
 abbrev pub byOnes : ℕ → ℕ → ℕ

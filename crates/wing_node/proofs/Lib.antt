@@ -6,6 +6,7 @@ pub mod Rows
 pub mod Fronts
 pub mod LeadBytes
 pub mod Chars
+pub mod HighBits
 pub mod Grammar
 pub mod Spelled
 pub mod Arrays

@@ -22,21 +22,21 @@ abbrev pub only : ℕ → Range
 only b = b to b
 
 -- UTF8-tail
-abbrev pub tail : Range
-tail = 0x80 to 0xbf
+abbrev pub utf8Tail : Range
+utf8Tail = 0x80 to 0xbf
 
 -- UTF8-char: the alternatives of UTF8-1, UTF8-2, UTF8-3 and UTF8-4, a row each
 abbrev pub chars : List (List Range)
 chars =
     ((0x00 to 0x7f) ∷ []) ∷
-    ((0xc2 to 0xdf) ∷ tail ∷ []) ∷
-    (only 0xe0 ∷ (0xa0 to 0xbf) ∷ tail ∷ []) ∷
-    ((0xe1 to 0xec) ∷ tail ∷ tail ∷ []) ∷
-    (only 0xed ∷ (0x80 to 0x9f) ∷ tail ∷ []) ∷
-    ((0xee to 0xef) ∷ tail ∷ tail ∷ []) ∷
-    (only 0xf0 ∷ (0x90 to 0xbf) ∷ tail ∷ tail ∷ []) ∷
-    ((0xf1 to 0xf3) ∷ tail ∷ tail ∷ tail ∷ []) ∷
-    (only 0xf4 ∷ (0x80 to 0x8f) ∷ tail ∷ tail ∷ []) ∷ []
+    ((0xc2 to 0xdf) ∷ utf8Tail ∷ []) ∷
+    (only 0xe0 ∷ (0xa0 to 0xbf) ∷ utf8Tail ∷ []) ∷
+    ((0xe1 to 0xec) ∷ utf8Tail ∷ utf8Tail ∷ []) ∷
+    (only 0xed ∷ (0x80 to 0x9f) ∷ utf8Tail ∷ []) ∷
+    ((0xee to 0xef) ∷ utf8Tail ∷ utf8Tail ∷ []) ∷
+    (only 0xf0 ∷ (0x90 to 0xbf) ∷ utf8Tail ∷ utf8Tail ∷ []) ∷
+    ((0xf1 to 0xf3) ∷ utf8Tail ∷ utf8Tail ∷ utf8Tail ∷ []) ∷
+    (only 0xf4 ∷ (0x80 to 0x8f) ∷ utf8Tail ∷ utf8Tail ∷ []) ∷ []
 
 -- bytes that match a row, one byte to a range
 pub data Matches : List Range → List ℕ → Type 0 where
@@ -77,7 +77,7 @@ leadLength lead = length (rowOf lead)
 
 -- the limits of the byte after a lead byte, those of a tail where its row has no second byte
 unfoldable pub second : ℕ → Range
-second lead = getD (rowOf lead) 1 tail
+second lead = getD (rowOf lead) 1 utf8Tail
 
 -- characters one after the other, once `skip` more bytes of the last one are passed
 unfoldable pub charsFrom : ℕ → List ℕ → Bool

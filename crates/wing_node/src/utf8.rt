@@ -3,7 +3,9 @@
 ghost use mathlib.Core.Path.{_≡_};
 ghost use mathlib.Core.List.{_∷_, []};
 ghost use lib.ListN.{drop, replicate};
-ghost use Rattle.wing_node.specs.Utf8.{_to_, tail, begins, leadLength, second, charLength, utf8, Octets, Decides};
+ghost use Rattle.wing_node.specs.Utf8.{_to_, utf8Tail, begins, leadLength, second, charLength, utf8, Octets, Decides};
+use crate::field::left;
+use crate::field::u32_at;
 
 // The length of the sequence that a lead byte begins, 0 where it begins none.
 // Its leading one bits are the leading zeros of 255 minus it. C0 and C1 would begin a character that one byte holds, F5 to F7 one past U+10FFFF.
@@ -60,7 +62,7 @@ fn held(s: &[u8], i: usize, low: u8, high: u8) -> bool
 
 // Whether n tail bytes stand at i.
 fn tails(s: &[u8], i: usize, n: usize) -> bool
-    ensures { λ r. ⌜ r ≡ begins (replicate n tail) (drop i (now (s .entry))) ⌝ }
+    ensures { λ r. ⌜ r ≡ begins (replicate n utf8Tail) (drop i (now (s .entry))) ⌝ }
 {
     let mut at = i;
     let mut left = n;
@@ -94,13 +96,13 @@ fn char_length(s: &[u8], i: usize) -> usize
     0
 }
 
-pub fn is_utf8(s: &[u8]) -> bool
-    ensures { λ r. ⌜ r ≡ utf8 (now (s .entry)) ⌝ }
-    ensures { λ r. ⌜ Decides r (Octets (now (s .entry))) ⌝ }
+// Whether the bytes from a place on are whole characters.
+fn is_utf8_from(s: &[u8], from: usize) -> bool
+    ensures { λ r. ⌜ r ≡ utf8 (drop from (now (s .entry))) ⌝ }
 {
-    let mut i = 0;
+    let mut i = from;
     while i < s.len() {
-        // ASCII, the common case, is passed without a call.
+        // ASCII is passed without a call.
         if s[i] < 0x80 {
             i += 1;
         } else {
@@ -112,4 +114,26 @@ pub fn is_utf8(s: &[u8]) -> bool
         }
     }
     true
+}
+
+// Whether four bytes of ASCII stand at i: no byte of the number that they make has its high bit.
+fn ascii_4(s: &[u8], i: usize) -> bool
+    ensures { λ r. ⌜ r ≡ begins (replicate 4 (0x00 to 0x7f)) (drop i (now (s .entry))) ⌝ }
+{
+    if left(s, i) < 4 {
+        return false;
+    }
+    u32_at(s, i) & 0x8080_8080 == 0
+}
+
+pub fn is_utf8(s: &[u8]) -> bool
+    ensures { λ r. ⌜ r ≡ utf8 (now (s .entry)) ⌝ }
+    ensures { λ r. ⌜ Decides r (Octets (now (s .entry))) ⌝ }
+{
+    // ASCII at the front, often the whole, is passed four bytes at a time.
+    let mut i = 0;
+    while ascii_4(s, i) {
+        i += 4;
+    }
+    is_utf8_from(s, i)
 }

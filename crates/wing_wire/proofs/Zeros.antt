@@ -1,27 +1,40 @@
--- Whether all bytes from a place on are 0, one byte at a time.
-use mathlib.Core.Bool.{true, false}
+-- Whether all bytes from a place on are 0: the bytes so far joined by or, and those that are left.
+use mathlib.Core.Bool.{Bool, true, false}
 use mathlib.Core.Path.{_≡_, refl}
-use mathlib.Core.List.{List, [], _∷_}
-use Prim.Native.Nat.{ℕ, zero, suc, _+_, _≤_, _<_}
+use mathlib.Core.List.{List}
+use Prim.Native.Nat.{ℕ, suc, _+_, _≤_, _<_}
 use native.Mathlib.Numerals.{add-one}
-use native.Mathlib.Nat.{le-of-suc-le-suc, not-suc-le-zero}
-use borrow.Author.Tests.{eq-eqb, ne-eqb}
-use lib.ListN.{length, drop, getD}
+use native.Mathlib.Omega.{arith}
+use borrow.Author.Tests.{eq-eqb, ne-eqb, eqb-true, eqb-false}
+use lib.Bits.{bitOr, or-add-and, and-le-l, and-le-r}
+use lib.Dec.{eqb}
+use lib.ListN.{length, drop, getD, drop-of-length-le}
 use lib.Seq.{drop-cons}
-use Rattle.wing_wire.specs.State.{zeros}
+use Rattle.wing_wire.specs.State.{and, zeros}
 
-module _ (s : List ℕ) (i : ℕ) (h : i < length s) where
-  pub one-more : getD s i 0 ≡ 0 → zeros (drop i s) ≡ zeros (drop (i + 1) s)
-  unfolding zeros
-  one-more e = rw (add-one i, drop-cons s i 0 h, eq-eqb _ _ e)
+-- two numbers joined by or are 0 if both are
+or-eqb : (a b : ℕ) → eqb (bitOr a b) 0 ≡ and (eqb a 0) (eqb b 0)
+or-eqb a b = go (eqb a 0) (eqb b 0) refl refl
+  where
+    go : (p q : Bool) → eqb a 0 ≡ p → eqb b 0 ≡ q → eqb (bitOr a b) 0 ≡ and p q
+    go true true e f = eq-eqb (bitOr a b) 0 (omega (arith, or-add-and a b, eqb-true a 0 e, eqb-true b 0 f))
+    go true false e f = ne-eqb (bitOr a b) 0 (λ z. omega (arith, or-add-and a b, and-le-l a b, eqb-false b 0 f))
+    go false q e f = ne-eqb (bitOr a b) 0 (λ z. omega (arith, or-add-and a b, and-le-r a b, eqb-false a 0 e))
 
-  pub not-zero : (getD s i 0 ≡ 0 → ⊥) → zeros (drop i s) ≡ false
-  unfolding zeros
-  not-zero e = rw (drop-cons s i 0 h, ne-eqb _ _ e)
+and-assoc : (p q r : Bool) → and p (and q r) ≡ and (and p q) r
+and-assoc true q r = refl
+and-assoc false q r = refl
 
-pub no-more : (s : List ℕ) (i : ℕ) → length s ≤ i → zeros (drop i s) ≡ true
+pub one-more : (s : List ℕ) (i joined : ℕ) → i < length s →
+    and (eqb joined 0) (zeros (drop i s)) ≡ and (eqb (bitOr joined (getD s i 0)) 0) (zeros (drop (i + 1) s))
 unfolding zeros
-no-more [] zero h = refl
-no-more [] (suc i) h = refl
-no-more (b ∷ s) zero h = absurd (not-suc-le-zero h)
-no-more (b ∷ s) (suc i) h = no-more s i (le-of-suc-le-suc h)
+one-more s i joined h =
+    rw (or-eqb joined (getD s i 0), add-one i, drop-cons s i 0 h) (and-assoc (eqb joined 0) (eqb (getD s i 0) 0) (zeros (drop (suc i) s)))
+
+and-true : (p : Bool) → and p true ≡ p
+and-true true = refl
+and-true false = refl
+
+pub no-more : (s : List ℕ) (i joined : ℕ) → length s ≤ i → and (eqb joined 0) (zeros (drop i s)) ≡ eqb joined 0
+unfolding zeros
+no-more s i joined h = rw (drop-of-length-le s h) (and-true (eqb joined 0))

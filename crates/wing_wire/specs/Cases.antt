@@ -52,8 +52,8 @@ reads bytes e =
     case (event (eventOf (n .answer) (n .string) (n .body))) (event e)
 
 -- the bytes of an order that sets node 7, and those after the id
-unfoldable pub sets : ℤ → List ℕ → Case
-sets x bs = case (written (setBytes (pos 7) (integer x))) (written bs)
+unfoldable pub setGives : ℤ → List ℕ → Case
+setGives x bs = case (written (setBytes (pos 7) (integer x))) (written bs)
 
 -- what follows the id in a set order of node 7
 unfoldable pub setEnds : ℤ → List ℕ → Case
@@ -87,7 +87,7 @@ cases =
     -- 80 80 → 1
     reads (0x80 ∷ 0x80 ∷ []) (refused 1) ∷
     -- set 7 to 63: d7 00 00 00 07 3f
-    sets (pos 63) (0xd7 ∷ 0x00 ∷ 0x00 ∷ 0x00 ∷ 0x07 ∷ 0x3f ∷ []) ∷
+    setGives (pos 63) (0xd7 ∷ 0x00 ∷ 0x00 ∷ 0x00 ∷ 0x07 ∷ 0x3f ∷ []) ∷
     -- to 64: ends d3 00 40
     setEnds (pos 64) (0xd3 ∷ 0x00 ∷ 0x40 ∷ []) ∷
     -- to 223: ends d3 00 df de

@@ -1,57 +1,48 @@
-use Prim.Native.Nat.{_≤_, _-_}
+-- `utf8::is_utf8` meets its contract.
+use Prim.Native.Nat.{_-_}
 use mathlib.Core.Path.{_≡_, refl, sym, _∙_}
 use native.Mathlib.Omega.{arith}
 use borrow.Author.Needs.{needs}
 use lib.ListN.{length, drop}
 use Rattle.wing_node.specs.Utf8.{utf8}
-use Rattle.wing_node.proofs.Chars.{ascii-at, inside, passed, stopped, ended}
+use Rattle.wing_node.proofs.Fronts.{begins-room}
+use Rattle.wing_node.proofs.Chars.{ascii-passed}
 use Rattle.wing_node.proofs.Grammar.{decides-by}
 use Rattle.wing_node.proofs.utf8.is_utf8.Statement.{statement}
 use Rattle.wing_node.proofs.utf8.is_utf8.Tie as tie
 
 abbrev Inv-loop : tie.InvT-loop
-Inv-loop s i₀ i = (i ≤ length s) × (utf8 s ≡ utf8 (drop i s))
+Inv-loop s i₀ i = utf8 s ≡ utf8 (drop i s)
 
 abbrev μ-loop : tie.MeasureT-loop
 μ-loop s i₀ i = length s - i
 
 loop-holds : tie.Need-loop-holds Inv-loop μ-loop
-loop-holds c = (omega arith, refl)
+loop-holds c = refl
 
-shared-slice-read-if1 : tie.Need-shared-slice-read-if1 Inv-loop μ-loop
-shared-slice-read-if1 c = omega arith
+ascii-4-requires : tie.Need-ascii-4-requires Inv-loop μ-loop
+ascii-4-requires c κs = search needs
 
 add-i : tie.Need-add-i Inv-loop μ-loop
-add-i c = omega arith
+add-i c =
+    let s = c .before .before .before .before .args .s .now in
+    omega (arith, begins-room 4 _ s (c .before .before .loop .i) (sym (c .before .ascii-4 .ensures) ∙ c .if1 .taken))
 
 loop-less : tie.Need-loop-less Inv-loop μ-loop
-loop-less c = omega arith
+loop-less c =
+    let s = c .before .before .before .before .args .s .now in
+    omega (arith, begins-room 4 _ s (c .before .before .loop .i) (sym (c .before .ascii-4 .ensures) ∙ c .if1 .taken))
 
 loop-again : tie.Need-loop-again Inv-loop μ-loop
 loop-again c =
-    let h = c .before .before .loop-test .taken in
-    (omega arith, c .before .before .before .loop .inv .1 ∙ passed _ _ 1 h (ascii-at _ _ h (c .if1 .taken)) (λ z. omega arith))
+    let s = c .before .before .before .before .args .s .now in
+    c .before .before .loop .inv ∙ ascii-passed 4 s (c .before .before .loop .i) (sym (c .before .ascii-4 .ensures) ∙ c .if1 .taken)
 
-char-length-requires : tie.Need-char-length-requires Inv-loop μ-loop
-char-length-requires c κs = search needs
+is-utf8-from-requires : tie.Need-is-utf8-from-requires Inv-loop μ-loop
+is-utf8-from-requires c κs = search needs
 
 returns : tie.Need-returns Inv-loop μ-loop
-returns c = decides-by _ (sym (c .before .before .before .before .before .loop .inv .1 ∙ stopped _ _ _ (c .before .before .before .before .loop-test .taken) (c .before .char-length .ensures) (c .if2 .taken)))
-
-add-i-2 : tie.Need-add-i-2 Inv-loop μ-loop
-add-i-2 c = omega (arith, inside _ _ _ (c .before .before .before .before .loop-test .taken) (c .before .char-length .ensures))
-
-loop-less-2 : tie.Need-loop-less-2 Inv-loop μ-loop
-loop-less-2 c = omega (arith, inside _ _ _ (c .before .before .before .before .loop-test .taken) (c .before .char-length .ensures))
-
-loop-again-2 : tie.Need-loop-again-2 Inv-loop μ-loop
-loop-again-2 c =
-    let h = c .before .before .before .before .loop-test .taken in
-    let e = c .before .char-length .ensures in
-    (inside _ _ _ h e, c .before .before .before .before .before .loop .inv .1 ∙ passed _ _ _ h e (c .if2 .left))
-
-returns-2 : tie.Need-returns-2 Inv-loop μ-loop
-returns-2 c = decides-by _ (sym (c .before .loop .inv .1 ∙ ended _ _ (c .loop-test .left)))
+returns c = decides-by _ (c .is-utf8-from .ensures ∙ sym (c .before .before .before .loop .inv))
 
 pub is-utf8-spec : {M : Type 1} → statement M
 is-utf8-spec =
@@ -60,13 +51,9 @@ is-utf8-spec =
     Inv-loop
     μ-loop
     loop-holds
-    shared-slice-read-if1
+    ascii-4-requires
     add-i
     loop-less
     loop-again
-    char-length-requires
-    returns
-    add-i-2
-    loop-less-2
-    loop-again-2
-    returns-2)
+    is-utf8-from-requires
+    returns)

@@ -3,12 +3,12 @@ use native.Mathlib.Omega.{arith}
 use borrow.Author.Needs.{needs}
 use lib.ListN.{drop, replicate}
 use Rattle.wing_node.proofs.Fronts.{begins-inside, begins-again}
-use Rattle.wing_node.specs.Utf8.{tail, begins}
+use Rattle.wing_node.specs.Utf8.{utf8Tail, begins}
 use Rattle.wing_node.proofs.utf8.tails.Statement.{statement}
 use Rattle.wing_node.proofs.utf8.tails.Tie as tie
 
 abbrev Inv-loop : tie.InvT-loop
-Inv-loop s i n at₀ left₀ at left = begins (replicate n tail) (drop i s) ≡ begins (replicate left tail) (drop at s)
+Inv-loop s i n at₀ left₀ at left = begins (replicate n utf8Tail) (drop i s) ≡ begins (replicate left utf8Tail) (drop at s)
 
 abbrev μ-loop : tie.MeasureT-loop
 μ-loop s i n at₀ left₀ at left = left
@@ -22,7 +22,7 @@ held-requires c κs = search needs
 add-at : tie.Need-add-at Inv-loop μ-loop
 add-at c =
     let l = c .before .before .before .loop in
-    omega (arith, begins-inside tail (c .before .before .before .before .before .args .s .now) (l .at) (sym (c .before .held .ensures) ∙ c .if1 .taken))
+    omega (arith, begins-inside utf8Tail (c .before .before .before .before .before .args .s .now) (l .at) (sym (c .before .held .ensures) ∙ c .if1 .taken))
 
 sub-left : tie.Need-sub-left Inv-loop μ-loop
 sub-left c = omega arith
@@ -33,12 +33,12 @@ loop-less c = omega arith
 loop-again : tie.Need-loop-again Inv-loop μ-loop
 loop-again c =
     let l = c .before .before .before .loop in
-    l .inv ∙ begins-again tail (c .before .before .before .before .before .args .s .now) (l .at) (l .left) (c .before .before .loop-test .taken) ∙ simp (← c .before .held .ensures, c .if1 .taken)
+    l .inv ∙ begins-again utf8Tail (c .before .before .before .before .before .args .s .now) (l .at) (l .left) (c .before .before .loop-test .taken) ∙ simp (← c .before .held .ensures, c .if1 .taken)
 
 returns : tie.Need-returns Inv-loop μ-loop
 returns c =
     let l = c .before .before .before .loop in
-    sym (l .inv ∙ begins-again tail (c .before .before .before .before .before .args .s .now) (l .at) (l .left) (c .before .before .loop-test .taken) ∙ simp (← c .before .held .ensures, c .if1 .left))
+    sym (l .inv ∙ begins-again utf8Tail (c .before .before .before .before .before .args .s .now) (l .at) (l .left) (c .before .before .loop-test .taken) ∙ simp (← c .before .held .ensures, c .if1 .left))
 
 returns-2 : tie.Need-returns-2 Inv-loop μ-loop
 unfolding begins

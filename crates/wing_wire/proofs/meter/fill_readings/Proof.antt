@@ -21,14 +21,14 @@ abbrev μ-loop : tie.MeasureT-loop
 loop-holds : tie.Need-loop-holds Inv-loop μ-loop
 loop-holds c = search needs
 
-mul-i16-at : tie.Need-mul-i16-at Inv-loop μ-loop
-mul-i16-at c = search needs
+mul-reading-at : tie.Need-mul-reading-at Inv-loop μ-loop
+mul-reading-at c = search needs
 
-add-i16-at : tie.Need-add-i16-at Inv-loop μ-loop
-add-i16-at c = search needs
+add-reading-at : tie.Need-add-reading-at Inv-loop μ-loop
+add-reading-at c = search needs
 
-i16-at-requires : tie.Need-i16-at-requires Inv-loop μ-loop
-i16-at-requires c κs = search needs
+reading-at-requires : tie.Need-reading-at-requires Inv-loop μ-loop
+reading-at-requires c κs = search needs
 
 mul-v : tie.Need-mul-v Inv-loop μ-loop
 mul-v c = search needs
@@ -47,8 +47,8 @@ loop-again c =
     let k = c .before .before .loop in
     let a = c .before .before .before .before .args in
     let p = a .packet .now in
-    let v : toZ w16 (ofZ w16 (c .i16-at .result)) ≡ c .i16-at .result = search needs in
-    let r = c .i16-at .ensures ∙ reading-at p (k .i) (omega arith) in
+    let v : toZ w16 (ofZ w16 (c .reading-at .result)) ≡ c .reading-at .result = search needs in
+    let r = c .reading-at .ensures ∙ reading-at p (k .i) (omega arith) in
     let l = readings-length (drop 4 p) in (
       search needs,
       search needs,
@@ -70,9 +70,9 @@ fill-readings-spec =
     Inv-loop
     μ-loop
     loop-holds
-    mul-i16-at
-    add-i16-at
-    i16-at-requires
+    mul-reading-at
+    add-reading-at
+    reading-at-requires
     mul-v
     slice-set-from-v
     add-i

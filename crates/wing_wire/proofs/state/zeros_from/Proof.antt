@@ -1,27 +1,25 @@
 -- `state::zeros_from` meets its contract.
 use Prim.Native.Nat.{_-_}
 use mathlib.Core.Path.{_≡_, refl, sym, _∙_}
+use lib.Dec.{eqb}
 use lib.ListN.{length, drop}
 use borrow.Author.Needs.{needs}
-use Rattle.wing_wire.specs.State.{zeros}
-use Rattle.wing_wire.proofs.Zeros.{one-more, not-zero, no-more}
+use Rattle.wing_wire.specs.State.{and, zeros}
+use Rattle.wing_wire.proofs.Zeros.{one-more, no-more}
 use Rattle.wing_wire.proofs.state.zeros_from.Statement.{statement}
 use Rattle.wing_wire.proofs.state.zeros_from.Tie as tie
 
 abbrev Inv-loop : tie.InvT-loop
-Inv-loop store at i₀ i = zeros (drop at store) ≡ zeros (drop i store)
+Inv-loop store at joined₀ i₀ joined i = zeros (drop at store) ≡ and (eqb joined 0) (zeros (drop i store))
 
 abbrev μ-loop : tie.MeasureT-loop
-μ-loop store at i₀ i = length store - i
+μ-loop store at joined₀ i₀ joined i = length store - i
 
 loop-holds : tie.Need-loop-holds Inv-loop μ-loop
 loop-holds c = refl
 
-shared-slice-read-if1 : tie.Need-shared-slice-read-if1 Inv-loop μ-loop
-shared-slice-read-if1 c = search needs
-
-returns : tie.Need-returns Inv-loop μ-loop
-returns c = sym (c .before .before .before .loop .inv ∙ not-zero (c .before .before .before .before .args .store .now) _ (search needs) (c .if1 .taken))
+shared-slice-read-joined : tie.Need-shared-slice-read-joined Inv-loop μ-loop
+shared-slice-read-joined c = search needs
 
 add-i : tie.Need-add-i Inv-loop μ-loop
 add-i c = search needs
@@ -30,10 +28,14 @@ loop-less : tie.Need-loop-less Inv-loop μ-loop
 loop-less c = search needs
 
 loop-again : tie.Need-loop-again Inv-loop μ-loop
-loop-again c = c .before .before .before .loop .inv ∙ one-more (c .before .before .before .before .args .store .now) _ (search needs) (c .if1 .left)
+loop-again c =
+    let l = c .before .before .loop in
+    l .inv ∙ one-more (c .before .before .before .args .store .now) (l .i) (l .joined) (c .before .loop-test .taken)
 
-returns-2 : tie.Need-returns-2 Inv-loop μ-loop
-returns-2 c = sym (c .before .loop .inv ∙ no-more (c .before .before .args .store .now) (c .before .loop .i) (search needs))
+returns : tie.Need-returns Inv-loop μ-loop
+returns c =
+    let l = c .before .loop in
+    sym (l .inv ∙ no-more (c .before .before .args .store .now) (l .i) (l .joined) (c .loop-test .left))
 
 pub zeros-from-spec : {M : Type 1} → statement M
 zeros-from-spec =
@@ -42,9 +44,8 @@ zeros-from-spec =
     Inv-loop
     μ-loop
     loop-holds
-    shared-slice-read-if1
-    returns
+    shared-slice-read-joined
     add-i
     loop-less
     loop-again
-    returns-2)
+    returns)
