@@ -27,7 +27,7 @@ use Rattle.wing_node.specs.declared.items.Walk.{Walk}
 use Rattle.wing_node.specs.declared.items.Step.{Step}
 use Rattle.wing_node.specs.declared.items.Begun.{Begun}
 use Rattle.wing_node.specs.declared.items.Begun.the-variants.{Good as Begins, Refused as Unbegun}
-use Rattle.wing_wire.proofs.Branches.{branch}
+use Rattle.wing_wire.proofs.Reading.Branches.{branch}
 use Rattle.wing_mirror.specs.Rows.{In}
 
 -- a cursor's refusal: none, 4 or 5

@@ -15,8 +15,8 @@ use Rattle.wing_wire.specs.declared.state.Pending.the-variants.{None}
 use Rattle.wing_wire.specs.declared.reader.Reply.{Reply}
 use Rattle.wing_wire.specs.declared.unit.Answer.{Answer}
 use Rattle.wing_wire.specs.declared.unit.Answer.the-variants.{More}
-use Rattle.wing_wire.proofs.Branches.{branch}
-use Rattle.wing_wire.proofs.Steps.{next-more}
+use Rattle.wing_wire.proofs.Reading.Branches.{branch}
+use Rattle.wing_wire.proofs.Reading.Steps.{next-more}
 use Rattle.promises.specs.Mores.{MoreTakesAll}
 
 abbrev mark : Answer → ℕ

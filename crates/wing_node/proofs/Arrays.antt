@@ -10,7 +10,7 @@ use lib.ListN.{length, take, drop, set, replicate, length-set, length-take, take
 use lib.Seq.{take-all, take-suc-set, take-set-le, drop-cons, drop-set-lt, getD-set-same, lt-length-set}
 use Rattle.wing_node.specs.Bytes.{placed, zeroed}
 use Rattle.wing_node.specs.Decimal.{ascii, lastDigits}
-use Rattle.wing_node.proofs.Spelled.{length-lastDigits, lastDigits-suc, lastDigits-zero}
+use Rattle.wing_node.proofs.Numerals.Spelled.{length-lastDigits, lastDigits-suc, lastDigits-zero}
 
 -- one more zero leaves the same to do
 pub zeroed-turn : (d : List ℕ) (i : ℕ) → i < length d → zeroed (set d i 0) (i + 1) ≡ zeroed d i

@@ -37,7 +37,7 @@ appended u = given u true
 abbrev pub bare : ℕ → Given
 bare u = given u false
 
--- the units that bytes give; feed-units (proofs/ByUnits.antt) says that a feed takes exactly these
+-- the units that bytes give; feed-units (proofs/Reading/ByUnits.antt) says that a feed takes exactly these
 unfoldable pub gives : List ℕ → List Given → Case
 gives bytes us = case (units (unitsOf (freshControl .escape) bytes .units)) (units us)
 

@@ -1,5 +1,5 @@
 -- How the code takes bytes up to an answer: unit by unit, and fast through the plain bytes inside a number or a string.
--- proofs/Plains.antt: this is advanceOf.
+-- proofs/Reading/Plains.antt: this is advanceOf.
 use Prim.Native.Nat.{ℕ, _+_, _-_}
 use mathlib.Core.Bool.{Bool, true, false, not}
 use mathlib.Core.List.{List, [], _∷_}

@@ -1,6 +1,6 @@
 // Set orders (libwing's set_int, set_float, set_string) and format_id.
 // 01: output too short for the whole is refused, as it was. An output of the largest size has room for any command of its
-// kind (proofs/Sizes.antt); for a shorter one the command is laid into a scratch buffer of that size and handed over if it
+// kind (proofs/Writing/Sizes.antt); for a shorter one the command is laid into a scratch buffer of that size and handed over if it
 // fits. Either way it is laid once.
 ghost use mathlib.Core.Path.{_≡_};
 ghost use Prim.Native.Nat.{_+_, _≤_};

@@ -1,4 +1,4 @@
-use Rattle.wing_node.proofs.Whole.{reads-back}
+use Rattle.wing_node.proofs.Bodies.Whole.{reads-back}
 use Rattle.promises.proofs.demand_2_definitions.Statement.{statement}
 use Rattle.promises.proofs.demand_2_definitions.Tie as tie
 

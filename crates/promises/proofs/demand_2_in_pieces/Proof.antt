@@ -1,6 +1,6 @@
 use mathlib.Core.List.{List, [], _∷_, _++_}
 use Rattle.wing_mirror.specs.Machine.{Reading, reading}
-use Rattle.wing_wire.proofs.RoundTrip.{round-trip-pieces}
+use Rattle.wing_wire.proofs.BothWays.RoundTrip.{round-trip-pieces}
 use Rattle.promises.proofs.demand_2_in_pieces.Statement.{statement}
 use Rattle.promises.proofs.demand_2_in_pieces.Tie as tie
 

@@ -1,4 +1,4 @@
-use Rattle.wing_wire.proofs.RoundTrip.{round-trip}
+use Rattle.wing_wire.proofs.BothWays.RoundTrip.{round-trip}
 use Rattle.promises.proofs.demand_2_round_trip.Statement.{statement}
 use Rattle.promises.proofs.demand_2_round_trip.Tie as tie
 

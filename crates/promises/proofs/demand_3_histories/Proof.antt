@@ -1,4 +1,4 @@
-use Rattle.wing_mirror.proofs.Demand.{histories}
+use Rattle.wing_mirror.proofs.Histories.Demand.{histories}
 use Rattle.promises.proofs.demand_3_histories.Statement.{statement}
 use Rattle.promises.proofs.demand_3_histories.Tie as tie
 

@@ -1,4 +1,4 @@
-use Rattle.wing_mirror.proofs.Laying.{lay-more}
+use Rattle.wing_mirror.proofs.Tables.Laying.{lay-more}
 use lib.Seq.{sets, take-all}
 use lib.ListN.{length, take, length-set}
 use native.Mathlib.Omega.{arith}

@@ -1,4 +1,4 @@
-use Rattle.wing_mirror.proofs.Moves.{moved, none, again}
+use Rattle.wing_mirror.proofs.Tables.Moves.{moved, none, again}
 use lib.ListN.{length, length-set}
 use native.Mathlib.Omega.{arith}
 use mathlib.Core.Path.{_≡_, _∙_}

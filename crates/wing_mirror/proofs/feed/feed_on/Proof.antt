@@ -5,13 +5,13 @@ use mir.Syntax.{w32}
 use mir.Val.{toZ, ofZ}
 use borrow.Author.Needs.{needs}
 use lib.ListN.{length}
-use Rattle.wing_wire.proofs.Sound.{sound-tame}
-use Rattle.wing_wire.proofs.Steps.{fed}
+use Rattle.wing_wire.proofs.Reading.Sound.{sound-tame}
+use Rattle.wing_wire.proofs.Reading.Steps.{fed}
 use Rattle.wing_mirror.specs.Table.{table as tableOf}
 use Rattle.wing_mirror.specs.Counts.{none}
 use Rattle.wing_mirror.specs.Mirror.{tallied, keep, fedAll}
 use Rattle.wing_mirror.specs.Tally.{tallyOf, stateOf}
-use Rattle.wing_mirror.proofs.Turns.{Underway, left, begun, inside, ended, turned, heard-bounded, again}
+use Rattle.wing_mirror.proofs.Calls.Turns.{Underway, left, begun, inside, ended, turned, heard-bounded, again}
 use Rattle.wing_mirror.proofs.feed.feed_on.Statement.{statement}
 use Rattle.wing_mirror.proofs.feed.feed_on.Tie as tie
 

@@ -4,7 +4,7 @@ use mir.Facts.{toZ-ofZ}
 use Rattle.wing_node.specs.Value.{meant}
 use Rattle.wing_mirror.specs.Record.{recordOf, entry}
 use Rattle.wing_mirror.specs.Table.{table}
-use Rattle.wing_mirror.proofs.Turns.{stored-kept, unplaced-kept}
+use Rattle.wing_mirror.proofs.Calls.Turns.{stored-kept, unplaced-kept}
 use borrow.Author.Needs.{needs}
 use Rattle.wing_mirror.proofs.keep.keep_value.Statement.{statement}
 use Rattle.wing_mirror.proofs.keep.keep_value.Tie as tie

@@ -4,7 +4,7 @@ use mathlib.Core.Path.{_≡_, refl, sym, _∙_}
 use native.Mathlib.Omega.{arith}
 use Rattle.wing_mirror.specs.Rows.{below, records, rising}
 use Rattle.wing_mirror.specs.Record.{keyOf}
-use Rattle.wing_mirror.proofs.Finds.{down, stops, fewer, none-left}
+use Rattle.wing_mirror.proofs.Tables.Finds.{down, stops, fewer, none-left}
 use Rattle.wing_mirror.proofs.order.search.Statement.{statement}
 use Rattle.wing_mirror.proofs.order.search.Tie as tie
 

@@ -7,7 +7,7 @@ use Rattle.wing_mirror.specs.Rows.{records, numberOf}
 use Rattle.wing_mirror.specs.Record.{keyOf, rankOf}
 use Rattle.wing_mirror.specs.Table.{table, usable, lookupOf}
 use Rattle.wing_mirror.specs.Query.{answerOf, lookupAnswer}
-use Rattle.wing_mirror.proofs.Usables.{room, up}
+use Rattle.wing_mirror.proofs.Records.Usables.{room, up}
 use Rattle.wing_mirror.proofs.query.lookup.Statement.{statement}
 use Rattle.wing_mirror.proofs.query.lookup.Tie as tie
 

@@ -1,6 +1,6 @@
 use mathlib.Core.Path.{sym, _∙_, ap}
 use Rattle.wing_mirror.specs.Query.{answerOf}
-use Rattle.wing_mirror.proofs.Keys.{number-there, number-none}
+use Rattle.wing_mirror.proofs.Tables.Keys.{number-there, number-none}
 use borrow.Author.Needs.{needs}
 use Rattle.wing_mirror.proofs.query.number_of.Statement.{statement}
 use Rattle.wing_mirror.proofs.query.number_of.Tie as tie

@@ -1,7 +1,7 @@
 use mathlib.Core.Path.{_≡_, _∙_}
 use mir.Syntax.{w32}
 use mir.Val.{toZ, ofZ}
-use Rattle.wing_mirror.proofs.Said.{integer-said, float-said, string-read-said}
+use Rattle.wing_mirror.proofs.Records.Said.{integer-said, float-said, string-read-said}
 use borrow.Author.Needs.{needs}
 use Rattle.wing_mirror.proofs.query.read_record.Statement.{statement}
 use Rattle.wing_mirror.proofs.query.read_record.Tie as tie

@@ -6,8 +6,8 @@ use borrow.Author.Tests.{lt-ltb, le-ltb}
 use Rattle.wing_mirror.specs.Record.{entryIn}
 use Rattle.wing_mirror.specs.Table.{table}
 use Rattle.wing_mirror.specs.Query.{readOf, recordAnswer}
-use Rattle.wing_mirror.proofs.Usables.{room}
-use Rattle.wing_mirror.proofs.Said.{row-of}
+use Rattle.wing_mirror.proofs.Records.Usables.{room}
+use Rattle.wing_mirror.proofs.Records.Said.{row-of}
 use borrow.Author.Needs.{needs}
 use Rattle.wing_mirror.proofs.query.record.Statement.{statement}
 use Rattle.wing_mirror.proofs.query.record.Tie as tie

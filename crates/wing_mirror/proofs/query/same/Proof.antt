@@ -1,7 +1,7 @@
 use mathlib.Core.Path.{sym, _∙_}
 use Rattle.wing_mirror.specs.Table.{table}
 use Rattle.wing_mirror.specs.Query.{sameAnswer}
-use Rattle.wing_mirror.proofs.Usables.{room}
+use Rattle.wing_mirror.proofs.Records.Usables.{room}
 use borrow.Author.Needs.{needs}
 use Rattle.wing_mirror.proofs.query.same.Statement.{statement}
 use Rattle.wing_mirror.proofs.query.same.Tie as tie

@@ -4,7 +4,7 @@ use native.Mathlib.Omega.{arith}
 use borrow.Author.Needs.{needs}
 use lib.ListN.{length, drop}
 use Rattle.wing_mirror.specs.Query.{sameBytes}
-use Rattle.wing_mirror.proofs.Equals.{bytes-on, bytes-off, bytes-end}
+use Rattle.wing_mirror.proofs.Records.Equals.{bytes-on, bytes-off, bytes-end}
 use Rattle.wing_mirror.proofs.query.same_bytes.Statement.{statement}
 use Rattle.wing_mirror.proofs.query.same_bytes.Tie as tie
 

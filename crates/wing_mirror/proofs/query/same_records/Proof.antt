@@ -5,7 +5,7 @@ use native.Mathlib.Omega.{arith}
 use lib.Seq.{length-take-le}
 use Rattle.wing_mirror.specs.Rows.{records}
 use Rattle.wing_mirror.specs.Query.{sameRows, sameTables}
-use Rattle.wing_mirror.proofs.Equals.{rows-bytes}
+use Rattle.wing_mirror.proofs.Records.Equals.{rows-bytes}
 use borrow.Author.Needs.{needs}
 use Rattle.wing_mirror.proofs.query.same_records.Statement.{statement}
 use Rattle.wing_mirror.proofs.query.same_records.Tie as tie

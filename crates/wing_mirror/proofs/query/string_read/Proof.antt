@@ -3,7 +3,7 @@ use native.Mathlib.Omega.{arith}
 use mir.Facts.{toZ-ofZ}
 use lib.ListN.{length-take}
 use lib.Seq.{length-take-le}
-use Rattle.wing_mirror.proofs.Said.{string-said}
+use Rattle.wing_mirror.proofs.Records.Said.{string-said}
 use borrow.Author.Needs.{needs}
 use Rattle.wing_mirror.proofs.query.string_read.Statement.{statement}
 use Rattle.wing_mirror.proofs.query.string_read.Tie as tie

@@ -5,7 +5,7 @@ use lib.ListN.{drop, length-drop}
 use lib.Seq.{length-take-le}
 use Rattle.wing_mirror.specs.Table.{rowAt}
 use Rattle.wing_mirror.specs.Sending.{orderIn}
-use Rattle.wing_mirror.proofs.Sends.{laid-whole}
+use Rattle.wing_mirror.proofs.Calls.Sends.{laid-whole}
 use borrow.Author.Needs.{needs}
 use Rattle.wing_mirror.proofs.recall.lay_order.Statement.{statement}
 use Rattle.wing_mirror.proofs.recall.lay_order.Tie as tie

@@ -4,12 +4,12 @@ use native.Mathlib.Omega.{arith}
 use borrow.Author.Needs.{needs}
 use lib.ListN.{length, set, length-set}
 use lib.Seq.{sets, length-sets}
-use Rattle.wing_wire.proofs.Lays.{goes-on, in-part}
+use Rattle.wing_wire.proofs.Writing.Lays.{goes-on, in-part}
 use Rattle.wing_mirror.specs.Table.{table as tableOf, rowAt}
 use Rattle.wing_mirror.specs.Recall.{recallBytes}
 use Rattle.wing_mirror.specs.Sending.{orderIn}
-use Rattle.wing_mirror.proofs.Usables.{room}
-use Rattle.wing_mirror.proofs.Sends.{left, left-all, left-next, left-less, left-none, row-formed}
+use Rattle.wing_mirror.proofs.Records.Usables.{room}
+use Rattle.wing_mirror.proofs.Calls.Sends.{left, left-all, left-next, left-less, left-none, row-formed}
 use Rattle.wing_mirror.proofs.recall.lay_recall.Statement.{statement}
 use Rattle.wing_mirror.proofs.recall.lay_recall.Tie as tie
 

@@ -5,8 +5,8 @@ use borrow.Author.Needs.{needs}
 use lib.ListN.{length}
 use Rattle.wing_mirror.specs.Table.{table as tableOf, rows}
 use Rattle.wing_mirror.specs.Sending.{ordersOf}
-use Rattle.wing_mirror.proofs.Usables.{room}
-use Rattle.wing_mirror.proofs.Sends.{left, left-all, left-less, left-none, few-records, row-formed, row-le}
+use Rattle.wing_mirror.proofs.Records.Usables.{room}
+use Rattle.wing_mirror.proofs.Calls.Sends.{left, left-all, left-less, left-none, few-records, row-formed, row-le}
 use Rattle.wing_mirror.proofs.recall.orders_len.Statement.{statement}
 use Rattle.wing_mirror.proofs.recall.orders_len.Tie as tie
 

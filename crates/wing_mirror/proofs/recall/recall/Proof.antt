@@ -1,10 +1,10 @@
 use mathlib.Core.Path.{sym, _∙_}
 use mathlib.Core.Logic.{⊎-elim}
 use native.Mathlib.Omega.{arith}
-use Rattle.wing_wire.proofs.Lays.{written, short}
+use Rattle.wing_wire.proofs.Writing.Lays.{written, short}
 use Rattle.wing_mirror.specs.Table.{table as tableOf}
 use Rattle.wing_mirror.specs.Recall.{recallBytes}
-use Rattle.wing_mirror.proofs.Sends.{few-records, orders-le, recall-size, recalled, unusable}
+use Rattle.wing_mirror.proofs.Calls.Sends.{few-records, orders-le, recall-size, recalled, unusable}
 use borrow.Author.Needs.{needs}
 use Rattle.wing_mirror.proofs.recall.recall.Statement.{statement}
 use Rattle.wing_mirror.proofs.recall.recall.Tie as tie

@@ -3,12 +3,12 @@ use mathlib.Core.Path.{_≡_, _∙_, ap}
 use mir.Syntax.{w32}
 use mir.Val.{toZ, ofZ}
 use native.Mathlib.Omega.{arith}
-use Rattle.wing_node.proofs.Placed.{field-whole}
+use Rattle.wing_node.proofs.Numerals.Placed.{field-whole}
 use Rattle.wing_wire.specs.Write.{writeOf}
 use Rattle.wing_mirror.specs.Record.{Entry}
 use Rattle.wing_mirror.specs.Recall.{setOf}
-use Rattle.wing_mirror.proofs.Said.{integer-entry, float-entry}
-use Rattle.wing_mirror.proofs.Sends.{text, string-order}
+use Rattle.wing_mirror.proofs.Records.Said.{integer-entry, float-entry}
+use Rattle.wing_mirror.proofs.Calls.Sends.{text, string-order}
 use borrow.Author.Needs.{needs}
 use Rattle.wing_mirror.proofs.recall.send_record.Statement.{statement}
 use Rattle.wing_mirror.proofs.recall.send_record.Tie as tie

@@ -2,7 +2,7 @@ use mathlib.Core.Path.{sym}
 use native.Mathlib.Omega.{arith}
 use lib.ListN.{set, length-set, length-take}
 use lib.Seq.{length-take-le}
-use Rattle.wing_mirror.proofs.Laying.{field-sets, string-laid}
+use Rattle.wing_mirror.proofs.Tables.Laying.{field-sets, string-laid}
 use borrow.Author.Needs.{needs}
 use Rattle.wing_mirror.proofs.record.lay_string.Statement.{statement}
 use Rattle.wing_mirror.proofs.record.lay_string.Tie as tie

@@ -5,7 +5,7 @@ use native.Mathlib.Omega.{arith}
 use lib.ListN.{length, take, drop, getD, length-drop}
 use lib.Seq.{take-all}
 use Rattle.wing_node.specs.Field.{big, fieldAt}
-use Rattle.wing_node.proofs.Placed.{field-whole}
+use Rattle.wing_node.proofs.Numerals.Placed.{field-whole}
 use Rattle.wing_mirror.specs.Record.{wellKept, wellFormed}
 use borrow.Author.Needs.{needs}
 use Rattle.wing_mirror.proofs.record.well_formed.Statement.{statement}

@@ -10,7 +10,7 @@ use Rattle.wing_node.specs.Value.{NodeValue, string, meant}
 use Rattle.wing_wire.specs.Write.{writeOf}
 use Rattle.wing_wire.specs.Command.{setBytes}
 use Rattle.wing_mirror.specs.Record.{storable}
-use Rattle.wing_mirror.proofs.Orders.{string-sent}
+use Rattle.wing_mirror.proofs.Calls.Orders.{string-sent}
 use borrow.Author.Needs.{needs}
 use Rattle.wing_mirror.proofs.set.send.Statement.{statement}
 use Rattle.wing_mirror.proofs.set.send.Tie as tie

@@ -4,7 +4,7 @@ use native.Mathlib.Omega.{arith}
 use Rattle.wing_node.specs.Value.{integer, meant}
 use Rattle.wing_mirror.specs.Record.{storable}
 use Rattle.wing_mirror.specs.Table.{table}
-use Rattle.wing_mirror.proofs.Orders.{unusable}
+use Rattle.wing_mirror.proofs.Calls.Orders.{unusable}
 use borrow.Author.Needs.{needs}
 use Rattle.wing_mirror.proofs.set.set_int.Statement.{statement}
 use Rattle.wing_mirror.proofs.set.set_int.Tie as tie

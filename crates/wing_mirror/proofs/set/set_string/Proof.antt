@@ -5,7 +5,7 @@ use lib.ListN.{length}
 use lib.Seq.{take-all}
 use Rattle.wing_node.specs.Value.{string, meant}
 use Rattle.wing_mirror.specs.Table.{table}
-use Rattle.wing_mirror.proofs.Orders.{storable-string, unusable, long-string, bad-string}
+use Rattle.wing_mirror.proofs.Calls.Orders.{storable-string, unusable, long-string, bad-string}
 use borrow.Author.Needs.{needs}
 use Rattle.wing_mirror.proofs.set.set_string.Statement.{statement}
 use Rattle.wing_mirror.proofs.set.set_string.Tie as tie

@@ -1,7 +1,7 @@
 use mir.Facts.{toZ-ofZ}
 use Rattle.wing_node.specs.Value.{meant}
 use Rattle.wing_mirror.specs.Table.{table}
-use Rattle.wing_mirror.proofs.Orders.{no-room, kept-so}
+use Rattle.wing_mirror.proofs.Calls.Orders.{no-room, kept-so}
 use borrow.Author.Needs.{needs}
 use Rattle.wing_mirror.proofs.set.set_value.Statement.{statement}
 use Rattle.wing_mirror.proofs.set.set_value.Tie as tie

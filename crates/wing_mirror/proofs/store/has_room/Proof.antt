@@ -1,6 +1,6 @@
 use Rattle.wing_mirror.specs.Table.{table}
-use Rattle.wing_mirror.proofs.Usables.{room, up}
-use Rattle.wing_mirror.proofs.Placing.{takes-there, takes-free}
+use Rattle.wing_mirror.proofs.Records.Usables.{room, up}
+use Rattle.wing_mirror.proofs.Records.Placing.{takes-there, takes-free}
 use mathlib.Core.Path.{_∙_, ap}
 use Prim.Native.Nat.{ℕ}
 use lib.Dec.{ltb}

@@ -3,9 +3,9 @@ use native.Mathlib.Omega.{arith}
 use native.Mathlib.Nat.{mul-div-le}
 use lib.ListN.{length}
 use Rattle.wing_mirror.specs.Table.{table}
-use Rattle.wing_mirror.proofs.Usables.{room, up}
-use Rattle.wing_mirror.proofs.Placing.{over-it, none-free, new-one}
-use Rattle.wing_mirror.proofs.Keys.{held-in, in-place}
+use Rattle.wing_mirror.proofs.Records.Usables.{room, up}
+use Rattle.wing_mirror.proofs.Records.Placing.{over-it, none-free, new-one}
+use Rattle.wing_mirror.proofs.Tables.Keys.{held-in, in-place}
 use borrow.Author.Needs.{needs}
 use Rattle.wing_mirror.proofs.store.put.Statement.{statement}
 use Rattle.wing_mirror.proofs.store.put.Tie as tie

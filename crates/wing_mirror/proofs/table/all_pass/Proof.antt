@@ -3,7 +3,7 @@ use mathlib.Core.Path.{_≡_, sym, _∙_, ap}
 use borrow.Author.Needs.{needs}
 use Rattle.wing_mirror.specs.Rows.{records}
 use Rattle.wing_mirror.specs.Table.{checked}
-use Rattle.wing_mirror.proofs.Tests.{from, from-all, turn, all-passed}
+use Rattle.wing_mirror.proofs.Tables.Tests.{from, from-all, turn, all-passed}
 use Rattle.wing_mirror.proofs.table.all_pass.Statement.{statement}
 use Rattle.wing_mirror.proofs.table.all_pass.Tie as tie
 

@@ -3,8 +3,8 @@ use Prim.Native.Nat.{_-_, _≤_}
 use native.Mathlib.Omega.{arith}
 use lib.ListN.{length}
 use Rattle.wing_node.specs.Cursor.{number, size, right, valueOf, begins, shortOf}
-use Rattle.wing_node.proofs.Placed.{field-whole}
-use Rattle.wing_node.proofs.Cases.{read-refused, read-short, read-there}
+use Rattle.wing_node.proofs.Numerals.Placed.{field-whole}
+use Rattle.wing_node.proofs.Bodies.Cases.{read-refused, read-short, read-there}
 use borrow.Author.Needs.{needs}
 use Rattle.wing_node.proofs.cursor.read_16.Statement.{statement}
 use Rattle.wing_node.proofs.cursor.read_16.Tie as tie

@@ -5,7 +5,7 @@ use native.Mathlib.Omega.{arith}
 use lib.ListN.{getD, take, drop}
 use Rattle.wing_node.specs.Utf8.{utf8}
 use Rattle.wing_node.specs.Cursor.{string}
-use Rattle.wing_node.proofs.Cases.{read-refused, string-short, string-there, string-wrong}
+use Rattle.wing_node.proofs.Bodies.Cases.{read-refused, string-short, string-there, string-wrong}
 use borrow.Author.Needs.{needs}
 use Rattle.wing_node.proofs.cursor.read_string.Statement.{statement}
 use Rattle.wing_node.proofs.cursor.read_string.Tie as tie

@@ -4,7 +4,7 @@ use native.Mathlib.Omega.{arith}
 use borrow.Author.Needs.{needs}
 use Rattle.wing_node.specs.Cursor.{after}
 use Rattle.wing_node.specs.Definition.{itemsOf}
-use Rattle.wing_node.proofs.Fields.{after-refused, items-turn, items-none}
+use Rattle.wing_node.proofs.Bodies.Fields.{after-refused, items-turn, items-none}
 use Rattle.wing_node.proofs.definition.past_items.Statement.{statement}
 use Rattle.wing_node.proofs.definition.past_items.Tie as tie
 use Rattle.wing_node.proofs.definition.past_items.Reads as reads

@@ -3,7 +3,7 @@ use mathlib.Core.Path.{refl}
 use native.Mathlib.Omega.{arith}
 use mir.Facts.{toZ-ofZ}
 use mir.Syntax.{w16}
-use Rattle.wing_node.proofs.Signs.{turned, bits-below, bits-above}
+use Rattle.wing_node.proofs.Numerals.Signs.{turned, bits-below, bits-above}
 use Rattle.wing_node.proofs.field.of_i16.Statement.{statement}
 use Rattle.wing_node.proofs.field.of_i16.Tie as tie
 

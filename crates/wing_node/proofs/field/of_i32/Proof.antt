@@ -3,7 +3,7 @@ use mathlib.Core.Path.{refl}
 use native.Mathlib.Omega.{arith}
 use mir.Facts.{toZ-ofZ}
 use mir.Syntax.{w32}
-use Rattle.wing_node.proofs.Signs.{turned, bits-below, bits-above}
+use Rattle.wing_node.proofs.Numerals.Signs.{turned, bits-below, bits-above}
 use Rattle.wing_node.proofs.field.of_i32.Statement.{statement}
 use Rattle.wing_node.proofs.field.of_i32.Tie as tie
 

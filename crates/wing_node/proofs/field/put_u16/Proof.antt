@@ -3,7 +3,7 @@ use native.Mathlib.Omega.{arith}
 use lib.ListN.{length-set}
 use Rattle.wing_node.specs.Digits.{digitsIn}
 use Rattle.wing_node.specs.Field.{bytesOf}
-use Rattle.wing_node.proofs.Placed.{put-short, stores-two}
+use Rattle.wing_node.proofs.Numerals.Placed.{put-short, stores-two}
 use borrow.Author.Needs.{needs}
 use Rattle.wing_node.proofs.field.put_u16.Statement.{statement}
 use Rattle.wing_node.proofs.field.put_u16.Tie as tie

@@ -4,7 +4,7 @@ use Prim.Native.Nat.{_-_}
 use native.Mathlib.Omega.{arith}
 use borrow.Author.Needs.{needs}
 use mir.Syntax.{w16}
-use Rattle.wing_node.proofs.Signs.{reads}
+use Rattle.wing_node.proofs.Numerals.Signs.{reads}
 use Rattle.wing_node.proofs.field.to_i16.Statement.{statement}
 use Rattle.wing_node.proofs.field.to_i16.Tie as tie
 

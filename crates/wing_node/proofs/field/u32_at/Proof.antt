@@ -3,7 +3,7 @@ use Prim.Native.Nat.{_≤_, _-_}
 use native.Mathlib.Omega.{arith}
 use lib.ListN.{length}
 use Rattle.wing_node.specs.Field.{big}
-use Rattle.wing_node.proofs.Placed.{field-short, field-whole, four-bytes}
+use Rattle.wing_node.proofs.Numerals.Placed.{field-short, field-whole, four-bytes}
 use borrow.Author.Needs.{needs}
 use Rattle.wing_node.proofs.field.u32_at.Statement.{statement}
 use Rattle.wing_node.proofs.field.u32_at.Tie as tie

@@ -8,8 +8,8 @@ use lib.Dec.{eqb}
 use lib.ListN.{drop, replicate, length-drop}
 use Rattle.wing_node.specs.Utf8.{_to_}
 use Rattle.wing_node.specs.Digits.{numberIn, numberFrom}
-use Rattle.wing_node.proofs.Fronts.{begins-short}
-use Rattle.wing_node.proofs.HighBits.{ascii-word}
+use Rattle.wing_node.proofs.Characters.Fronts.{begins-short}
+use Rattle.wing_node.proofs.Characters.HighBits.{ascii-word}
 use Rattle.wing_node.proofs.utf8.ascii_4.Statement.{statement}
 use Rattle.wing_node.proofs.utf8.ascii_4.Tie as tie
 

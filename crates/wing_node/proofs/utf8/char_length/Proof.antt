@@ -4,8 +4,8 @@ use native.Mathlib.Omega.{arith}
 use borrow.Author.Tests.{lt-ltb, le-ltb}
 use lib.ListN.{getD, drop-of-length-le}
 use Rattle.wing_node.specs.Utf8.{begins, charLength, firstThat}
-use Rattle.wing_node.proofs.Fronts.{begins-inside}
-use Rattle.wing_node.proofs.Chars.{char-at}
+use Rattle.wing_node.proofs.Characters.Fronts.{begins-inside}
+use Rattle.wing_node.proofs.Characters.Chars.{char-at}
 use borrow.Author.Needs.{needs}
 use Rattle.wing_node.proofs.utf8.char_length.Statement.{statement}
 use Rattle.wing_node.proofs.utf8.char_length.Tie as tie

@@ -1,7 +1,7 @@
 use borrow.Author.Needs.{needs}
 use borrow.Author.Tests.{le-leb, lt-leb}
 use lib.ListN.{drop-of-length-le}
-use Rattle.wing_node.proofs.Fronts.{begins-at}
+use Rattle.wing_node.proofs.Characters.Fronts.{begins-at}
 use Rattle.wing_node.specs.Utf8.{holds, begins}
 use Rattle.wing_node.proofs.utf8.held.Statement.{statement}
 use Rattle.wing_node.proofs.utf8.held.Tie as tie

@@ -5,9 +5,9 @@ use native.Mathlib.Omega.{arith}
 use borrow.Author.Needs.{needs}
 use lib.ListN.{length, drop}
 use Rattle.wing_node.specs.Utf8.{utf8}
-use Rattle.wing_node.proofs.Fronts.{begins-room}
-use Rattle.wing_node.proofs.Chars.{ascii-passed}
-use Rattle.wing_node.proofs.Grammar.{decides-by}
+use Rattle.wing_node.proofs.Characters.Fronts.{begins-room}
+use Rattle.wing_node.proofs.Characters.Chars.{ascii-passed}
+use Rattle.wing_node.proofs.Characters.Grammar.{decides-by}
 use Rattle.wing_node.proofs.utf8.is_utf8.Statement.{statement}
 use Rattle.wing_node.proofs.utf8.is_utf8.Tie as tie
 

@@ -4,7 +4,7 @@ use native.Mathlib.Omega.{arith}
 use borrow.Author.Needs.{needs}
 use lib.ListN.{length, drop}
 use Rattle.wing_node.specs.Utf8.{utf8}
-use Rattle.wing_node.proofs.Chars.{ascii-at, inside, passed, stopped, ended}
+use Rattle.wing_node.proofs.Characters.Chars.{ascii-at, inside, passed, stopped, ended}
 use Rattle.wing_node.proofs.utf8.is_utf8_from.Statement.{statement}
 use Rattle.wing_node.proofs.utf8.is_utf8_from.Tie as tie
 

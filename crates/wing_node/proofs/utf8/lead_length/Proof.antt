@@ -1,6 +1,6 @@
 use borrow.Author.Tests.{lt-ltb, le-ltb, ne-eqb}
 use borrow.Author.Needs.{needs}
-use Rattle.wing_node.proofs.LeadBytes.{lead}
+use Rattle.wing_node.proofs.Characters.LeadBytes.{lead}
 use Rattle.wing_node.proofs.utf8.lead_length.Statement.{statement}
 use Rattle.wing_node.proofs.utf8.lead_length.Tie as tie
 

@@ -1,6 +1,6 @@
 use borrow.Author.Tests.{eq-eqb, ne-eqb}
 use borrow.Author.Needs.{needs}
-use Rattle.wing_node.proofs.LeadBytes.{lead}
+use Rattle.wing_node.proofs.Characters.LeadBytes.{lead}
 use Rattle.wing_node.proofs.utf8.second_low.Statement.{statement}
 use Rattle.wing_node.proofs.utf8.second_low.Tie as tie
 

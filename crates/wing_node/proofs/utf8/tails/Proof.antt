@@ -2,7 +2,7 @@ use mathlib.Core.Path.{_≡_, refl, sym, _∙_}
 use native.Mathlib.Omega.{arith}
 use borrow.Author.Needs.{needs}
 use lib.ListN.{drop, replicate}
-use Rattle.wing_node.proofs.Fronts.{begins-inside, begins-again}
+use Rattle.wing_node.proofs.Characters.Fronts.{begins-inside, begins-again}
 use Rattle.wing_node.specs.Utf8.{utf8Tail, begins}
 use Rattle.wing_node.proofs.utf8.tails.Statement.{statement}
 use Rattle.wing_node.proofs.utf8.tails.Tie as tie

@@ -6,7 +6,7 @@ use lib.IntN.{natAbs}
 use mir.Facts.{toZ-ofZ}
 use borrow.Author.Needs.{needs}
 use Rattle.wing_node.specs.Decimal.{decimal}
-use Rattle.wing_node.proofs.Answers.{answered, few, from-zero-bytes, from-zero-length, below-zero-bytes, below-zero-length}
+use Rattle.wing_node.proofs.Numerals.Answers.{answered, few, from-zero-bytes, from-zero-length, below-zero-bytes, below-zero-length}
 use Rattle.wing_node.proofs.value.decimal.Statement.{statement}
 use Rattle.wing_node.proofs.value.decimal.Tie as tie
 

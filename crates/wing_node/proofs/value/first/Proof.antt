@@ -4,7 +4,7 @@ use native.Mathlib.Omega.{arith}
 use borrow.Author.Needs.{needs}
 use lib.ListN.{length, take, length-take}
 use Rattle.wing_node.proofs.Arrays.{zeroed-first}
-use Rattle.wing_node.proofs.Answers.{answered}
+use Rattle.wing_node.proofs.Numerals.Answers.{answered}
 use Rattle.wing_node.proofs.value.first.Statement.{statement}
 use Rattle.wing_node.proofs.value.first.Tie as tie
 

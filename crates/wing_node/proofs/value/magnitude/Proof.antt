@@ -4,7 +4,7 @@ use borrow.Author.Needs.{needs}
 use mathlib.Core.Path.{refl}
 use mir.Facts.{toZ-ofZ}
 use mir.Syntax.{w32}
-use Rattle.wing_node.proofs.Signs.{turned, below-zero, bits-above}
+use Rattle.wing_node.proofs.Numerals.Signs.{turned, below-zero, bits-above}
 use Rattle.wing_node.proofs.value.magnitude.Statement.{statement}
 use Rattle.wing_node.proofs.value.magnitude.Tie as tie
 

@@ -5,7 +5,7 @@ use native.Mathlib.Omega.{arith}
 use borrow.Author.Needs.{needs}
 use lib.ListN.{length}
 use Rattle.wing_node.specs.Decimal.{digits}
-use Rattle.wing_node.proofs.Spelled.{length-more, length-small, length-digits}
+use Rattle.wing_node.proofs.Numerals.Spelled.{length-more, length-small, length-digits}
 use Rattle.wing_node.proofs.value.places.Statement.{statement}
 use Rattle.wing_node.proofs.value.places.Tie as tie
 

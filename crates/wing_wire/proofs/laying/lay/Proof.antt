@@ -2,7 +2,7 @@ use lib.ListN.{length, length-set}
 use mathlib.Core.Path.{ap, _∙_}
 use mathlib.Core.Logic.{⊎-elim}
 use native.Mathlib.Omega.{arith}
-use Rattle.wing_wire.proofs.Lays.{stored, past}
+use Rattle.wing_wire.proofs.Writing.Lays.{stored, past}
 use borrow.Author.Needs.{needs}
 use Rattle.wing_wire.proofs.laying.lay.Statement.{statement}
 use Rattle.wing_wire.proofs.laying.lay.Tie as tie

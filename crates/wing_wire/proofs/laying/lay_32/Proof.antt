@@ -1,4 +1,4 @@
-use Rattle.wing_node.proofs.Numbers.{length-digitsIn}
+use Rattle.wing_node.proofs.Numerals.Numbers.{length-digitsIn}
 use borrow.Author.Needs.{needs}
 use Rattle.wing_wire.proofs.laying.lay_32.Statement.{statement}
 use Rattle.wing_wire.proofs.laying.lay_32.Tie as tie

@@ -6,7 +6,7 @@ use mathlib.Core.Logic.{⊎-elim}
 use native.Mathlib.Omega.{arith}
 use lib.ListN.{length, take}
 use Rattle.wing_wire.specs.Write.{escaped, Laid}
-use Rattle.wing_wire.proofs.Lays.{then, nothing, escaped-df, escaped-other}
+use Rattle.wing_wire.proofs.Writing.Lays.{then, nothing, escaped-df, escaped-other}
 use Rattle.wing_wire.proofs.laying.lay_escaped.Statement.{statement}
 use Rattle.wing_wire.proofs.laying.lay_escaped.Tie as tie
 

@@ -1,6 +1,6 @@
 use mir.Facts.{toZ-ofZ}
 use native.Mathlib.Omega.{arith}
-use Rattle.wing_wire.proofs.Lays.{then}
+use Rattle.wing_wire.proofs.Writing.Lays.{then}
 use borrow.Author.Needs.{needs}
 use Rattle.wing_wire.proofs.laying.lay_id.Statement.{statement}
 use Rattle.wing_wire.proofs.laying.lay_id.Tie as tie

@@ -7,7 +7,7 @@ use lib.ListN.{length, take, drop, length-drop}
 use mir.Syntax.{w16}
 use mir.Val.{toZ, ofZ}
 use Rattle.wing_wire.specs.Meter.{readings}
-use Rattle.wing_wire.proofs.Packets.{readings-length, reading-at, one-reading}
+use Rattle.wing_wire.proofs.Writing.Packets.{readings-length, reading-at, one-reading}
 use Rattle.wing_wire.proofs.meter.fill_readings.Statement.{statement}
 use Rattle.wing_wire.proofs.meter.fill_readings.Tie as tie
 

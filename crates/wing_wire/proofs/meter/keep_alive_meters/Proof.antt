@@ -1,6 +1,6 @@
 use native.Mathlib.Omega.{arith}
-use Rattle.wing_wire.proofs.Lays.{written, short}
-use Rattle.wing_wire.proofs.Sizes.{keep-alives-le}
+use Rattle.wing_wire.proofs.Writing.Lays.{written, short}
+use Rattle.wing_wire.proofs.Writing.Sizes.{keep-alives-le}
 use Prim.Native.Nat.{_<_}
 use lib.ListN.{length}
 use Rattle.wing_wire.specs.Meter.{keepAlives}

@@ -1,7 +1,7 @@
 use mathlib.Core.Path.{sym, _∙_}
 use native.Mathlib.Omega.{arith}
 use Rattle.wing_wire.specs.Meter.{itemBytes}
-use Rattle.wing_wire.proofs.Lays.{then}
+use Rattle.wing_wire.proofs.Writing.Lays.{then}
 use borrow.Author.Needs.{needs}
 use Rattle.wing_wire.proofs.meter.lay_meter.Statement.{statement}
 use Rattle.wing_wire.proofs.meter.lay_meter.Tie as tie

@@ -1,5 +1,5 @@
 use Rattle.wing_wire.specs.Meter.{meterRequest}
-use Rattle.wing_wire.proofs.Lays.{then}
+use Rattle.wing_wire.proofs.Writing.Lays.{then}
 use borrow.Author.Needs.{needs}
 use Rattle.wing_wire.proofs.meter.lay_meter_request.Statement.{statement}
 use Rattle.wing_wire.proofs.meter.lay_meter_request.Tie as tie

@@ -1,6 +1,6 @@
 use native.Mathlib.Omega.{arith}
 use Rattle.wing_wire.specs.Meter.{requestHead}
-use Rattle.wing_wire.proofs.Lays.{then}
+use Rattle.wing_wire.proofs.Writing.Lays.{then}
 use borrow.Author.Needs.{needs}
 use Rattle.wing_wire.proofs.meter.lay_request_head.Statement.{statement}
 use Rattle.wing_wire.proofs.meter.lay_request_head.Tie as tie

@@ -1,5 +1,5 @@
 use native.Mathlib.Omega.{arith}
-use Rattle.wing_wire.proofs.Packets.{too-short, too-long, no-room, heard-whole}
+use Rattle.wing_wire.proofs.Writing.Packets.{too-short, too-long, no-room, heard-whole}
 use borrow.Author.Needs.{needs}
 use Rattle.wing_wire.proofs.meter.read_meters.Statement.{statement}
 use Rattle.wing_wire.proofs.meter.read_meters.Tie as tie

@@ -9,7 +9,7 @@ use mir.Val.{toZ, ofZ}
 use Rattle.wing_node.specs.Digits.{numberIn, numberFrom}
 use Rattle.wing_node.specs.Field.{big}
 use Rattle.wing_node.specs.Signed.{signed}
-use Rattle.wing_node.proofs.Placed.{field-whole, two-bytes}
+use Rattle.wing_node.proofs.Numerals.Placed.{field-whole, two-bytes}
 use borrow.Author.Needs.{needs}
 use Rattle.wing_wire.proofs.meter.reading_at.Statement.{statement}
 use Rattle.wing_wire.proofs.meter.reading_at.Tie as tie

@@ -3,8 +3,8 @@ use mathlib.Core.Path.{sym, ap, _∙_}
 use native.Mathlib.Omega.{arith}
 use Rattle.wing_wire.specs.declared.write.Written.{Written}
 use Rattle.wing_wire.specs.Write.{wrote}
-use Rattle.wing_wire.proofs.Asks.{too-many, spent, asks-whole, asks-handed}
-use Rattle.wing_wire.proofs.Sizes.{meter-request-le}
+use Rattle.wing_wire.proofs.Writing.Asks.{too-many, spent, asks-whole, asks-handed}
+use Rattle.wing_wire.proofs.Writing.Sizes.{meter-request-le}
 use borrow.Author.Needs.{needs}
 use Rattle.wing_wire.proofs.meter.request_meter.Statement.{statement}
 use Rattle.wing_wire.proofs.meter.request_meter.Tie as tie

@@ -5,7 +5,7 @@ use native.Mathlib.Omega.{arith}
 use lib.ListN.{length, take, getD, set}
 use borrow.Author.Needs.{needs}
 use Rattle.wing_wire.specs.Reader.{over}
-use Rattle.wing_wire.proofs.Overs.{over-turn, length-over, over-least}
+use Rattle.wing_wire.proofs.Reading.Overs.{over-turn, length-over, over-least}
 use Rattle.wing_wire.proofs.reader.copy_front.Statement.{statement}
 use Rattle.wing_wire.proofs.reader.copy_front.Tie as tie
 use Rattle.wing_wire.proofs.reader.copy_front.Reads as reads

@@ -2,7 +2,7 @@ use borrow.Author.Tests.{le-leb, le-ltb, lt-leb, lt-ltb}
 use mathlib.Core.Path.{_≡_, refl}
 use lib.ListN.{length}
 use Rattle.wing_wire.specs.Reader.{eventOf, nextOf, nextEvent}
-use Rattle.wing_wire.proofs.Beside.{next-event}
+use Rattle.wing_wire.proofs.Reading.Beside.{next-event}
 use borrow.Author.Needs.{needs}
 use Rattle.wing_wire.proofs.reader.next.Statement.{statement}
 use Rattle.wing_wire.proofs.reader.next.Tie as tie

@@ -1,8 +1,8 @@
 use mir.Facts.{toZ-ofZ}
 use mathlib.Core.Path.{_∙_}
 use native.Mathlib.Omega.{arith}
-use Rattle.wing_wire.proofs.Lays.{written, handed}
-use Rattle.wing_wire.proofs.Sizes.{request-le}
+use Rattle.wing_wire.proofs.Writing.Lays.{written, handed}
+use Rattle.wing_wire.proofs.Writing.Sizes.{request-le}
 use borrow.Author.Needs.{needs}
 use Rattle.wing_wire.proofs.request.ask.Statement.{statement}
 use Rattle.wing_wire.proofs.request.ask.Tie as tie

@@ -2,9 +2,9 @@ use mathlib.Core.Path.{_≡_, sym, ap, _∙_}
 use lib.IntN.{pos}
 use mir.Syntax.{w32}
 use mir.Val.{toZ, ofZ}
-use Rattle.wing_wire.proofs.Choices.{request-zero, request-other}
+use Rattle.wing_wire.proofs.Writing.Choices.{request-zero, request-other}
 use mir.Facts.{toZ-ofZ}
-use Rattle.wing_wire.proofs.Lays.{then}
+use Rattle.wing_wire.proofs.Writing.Lays.{then}
 use Rattle.wing_wire.specs.Command.{idBytes}
 use borrow.Author.Needs.{needs}
 use Rattle.wing_wire.proofs.request.lay_request.Statement.{statement}

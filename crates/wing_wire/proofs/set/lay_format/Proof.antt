@@ -1,5 +1,5 @@
 use mir.Facts.{toZ-ofZ}
-use Rattle.wing_wire.proofs.Lays.{then, nothing}
+use Rattle.wing_wire.proofs.Writing.Lays.{then, nothing}
 use Rattle.wing_wire.specs.Command.{idBytes, suffixBytes}
 use borrow.Author.Needs.{needs}
 use Rattle.wing_wire.proofs.set.lay_format.Statement.{statement}

@@ -1,8 +1,8 @@
 use mir.Syntax.{w16}
-use Rattle.wing_wire.proofs.Lays.{then}
+use Rattle.wing_wire.proofs.Writing.Lays.{then}
 use mir.Facts.{toZ-ofZ}
 use mathlib.Core.Path.{sym, _∙_}
-use Rattle.wing_wire.proofs.Choices.{small, half, one-byte, two-bytes, four-bytes}
+use Rattle.wing_wire.proofs.Writing.Choices.{small, half, one-byte, two-bytes, four-bytes}
 use borrow.Author.Needs.{needs}
 use Rattle.wing_wire.proofs.set.lay_integer.Statement.{statement}
 use Rattle.wing_wire.proofs.set.lay_integer.Tie as tie

@@ -1,5 +1,5 @@
 use mir.Facts.{toZ-ofZ}
-use Rattle.wing_wire.proofs.Lays.{then}
+use Rattle.wing_wire.proofs.Writing.Lays.{then}
 use Rattle.wing_wire.specs.Command.{idBytes, setBytes, valueBytes, stringBytes}
 use borrow.Author.Needs.{needs}
 use Rattle.wing_wire.proofs.set.lay_set_string.Statement.{statement}

@@ -1,9 +1,9 @@
 use mir.Facts.{toZ-ofZ}
 use mathlib.Core.Path.{sym, _∙_}
 use native.Mathlib.Omega.{arith}
-use Rattle.wing_wire.proofs.Choices.{string-long, string-bad, string-good}
-use Rattle.wing_wire.proofs.Lays.{written, handed}
-use Rattle.wing_wire.proofs.Sizes.{set-string-le}
+use Rattle.wing_wire.proofs.Writing.Choices.{string-long, string-bad, string-good}
+use Rattle.wing_wire.proofs.Writing.Lays.{written, handed}
+use Rattle.wing_wire.proofs.Writing.Sizes.{set-string-le}
 use borrow.Author.Needs.{needs}
 use Rattle.wing_wire.proofs.set.set_string.Statement.{statement}
 use Rattle.wing_wire.proofs.set.set_string.Tie as tie

@@ -1,7 +1,7 @@
 -- `state::is_within` meets its contract.
 use mathlib.Core.Path.{sym}
 use borrow.Author.Tests.{lt-ltb}
-use Rattle.wing_wire.proofs.Powers.{below-power}
+use Rattle.wing_wire.proofs.Reading.Powers.{below-power}
 use Rattle.wing_wire.proofs.state.is_within.Statement.{statement}
 use Rattle.wing_wire.proofs.state.is_within.Tie as tie
 

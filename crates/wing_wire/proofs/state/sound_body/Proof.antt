@@ -4,7 +4,7 @@ use native.Mathlib.Omega.{arith}
 use borrow.Author.Tests.{le-leb, lt-leb}
 use borrow.Author.Needs.{needs}
 use Rattle.wing_wire.specs.State.{soundBody}
-use Rattle.wing_wire.proofs.Underway.{underway-le}
+use Rattle.wing_wire.proofs.Reading.Underway.{underway-le}
 use Rattle.wing_wire.proofs.state.sound_body.Statement.{statement}
 use Rattle.wing_wire.proofs.state.sound_body.Tie as tie
 

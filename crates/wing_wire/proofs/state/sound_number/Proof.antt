@@ -3,7 +3,7 @@ use mathlib.Core.Path.{sym, _∙_}
 use native.Mathlib.Omega.{arith}
 use borrow.Author.Needs.{needs}
 use Rattle.wing_wire.specs.State.{soundNumber}
-use Rattle.wing_wire.proofs.Underway.{underway-le}
+use Rattle.wing_wire.proofs.Reading.Underway.{underway-le}
 use Rattle.wing_wire.proofs.state.sound_number.Statement.{statement}
 use Rattle.wing_wire.proofs.state.sound_number.Tie as tie
 

@@ -6,7 +6,7 @@ use lib.ListN.{length}
 use Rattle.wing_wire.specs.Stream.{heard, followOf, advanceOf}
 use Rattle.wing_wire.specs.Units.{waiting}
 use Rattle.wing_wire.specs.Plain.{turned}
-use Rattle.wing_wire.proofs.Plains.{whole, once-whole, once-less, whole-ends}
+use Rattle.wing_wire.proofs.Reading.Plains.{whole, once-whole, once-less, whole-ends}
 use Rattle.wing_wire.proofs.stream.advance.Statement.{statement}
 use Rattle.wing_wire.proofs.stream.advance.Tie as tie
 

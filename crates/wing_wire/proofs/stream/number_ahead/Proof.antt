@@ -4,7 +4,7 @@ use Prim.Native.Nat.{_-_}
 use native.Mathlib.Omega.{arith}
 use lib.ListN.{length, drop}
 use Rattle.wing_wire.specs.Plain.{numberAhead}
-use Rattle.wing_wire.proofs.Inners.{inner-more, number-turn, number-stops, number-ends}
+use Rattle.wing_wire.proofs.Reading.Inners.{inner-more, number-turn, number-stops, number-ends}
 use Rattle.wing_wire.proofs.stream.number_ahead.Statement.{statement}
 use Rattle.wing_wire.proofs.stream.number_ahead.Tie as tie
 

@@ -4,7 +4,7 @@ use Prim.Native.Nat.{_-_}
 use native.Mathlib.Omega.{arith}
 use lib.ListN.{length, drop}
 use Rattle.wing_wire.specs.Plain.{stringAhead}
-use Rattle.wing_wire.proofs.Inners.{inner-more, string-turn, string-stops, string-ends}
+use Rattle.wing_wire.proofs.Reading.Inners.{inner-more, string-turn, string-stops, string-ends}
 use Rattle.wing_wire.proofs.stream.string_ahead.Statement.{statement}
 use Rattle.wing_wire.proofs.stream.string_ahead.Tie as tie
 

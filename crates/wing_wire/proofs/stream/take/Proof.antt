@@ -1,7 +1,7 @@
 use mathlib.Core.Path.{_≡_, sym, _∙_}
 use mir.Val.{toZ, ofZ}
 use mir.Syntax.{w32}
-use Rattle.wing_wire.proofs.Plains.{given-nothing, given-some}
+use Rattle.wing_wire.proofs.Reading.Plains.{given-nothing, given-some}
 use borrow.Author.Needs.{needs}
 use Rattle.wing_wire.proofs.stream.take.Statement.{statement}
 use Rattle.wing_wire.proofs.stream.take.Tie as tie

@@ -3,7 +3,7 @@ use mathlib.Core.Path.{sym}
 use lib.ListN.{List·getD-eq-default}
 use Rattle.wing_node.proofs.Eight.{over-seven}
 use Rattle.wing_wire.specs.Token.{classes, classOf}
-use Rattle.wing_wire.proofs.Nine.{over-nine}
+use Rattle.wing_wire.proofs.Reading.Nine.{over-nine}
 use Rattle.wing_wire.proofs.token.class_of.Statement.{statement}
 use Rattle.wing_wire.proofs.token.class_of.Tie as tie
 

@@ -1,5 +1,5 @@
 use Rattle.wing_wire.specs.Token.{ruleIn, ruleOf}
-use Rattle.wing_wire.proofs.FirstUnits.{first-integer, first-none, first-string}
+use Rattle.wing_wire.proofs.Reading.FirstUnits.{first-integer, first-none, first-string}
 use borrow.Author.Needs.{needs}
 use Rattle.wing_wire.proofs.token.first_rule.Statement.{statement}
 use Rattle.wing_wire.proofs.token.first_rule.Tie as tie

@@ -1,7 +1,7 @@
 -- `token::rule_of` meets its contract.
 use native.Mathlib.Omega.{arith}
 use borrow.Author.Needs.{needs}
-use Rattle.wing_wire.proofs.Columns.{classColumn, wantsColumn, rule-at, wants-byte}
+use Rattle.wing_wire.proofs.Reading.Columns.{classColumn, wantsColumn, rule-at, wants-byte}
 use Rattle.wing_wire.proofs.token.rule_of.Statement.{statement}
 use Rattle.wing_wire.proofs.token.rule_of.Tie as tie
 

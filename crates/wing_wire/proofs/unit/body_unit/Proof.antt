@@ -3,7 +3,7 @@ use native.Mathlib.Omega.{arith}
 use mir.Facts.{toZ-ofZ}
 use borrow.Author.Needs.{needs}
 use Rattle.wing_wire.specs.Unit.{bodyUnit}
-use Rattle.wing_wire.proofs.Clears.{room}
+use Rattle.wing_wire.proofs.Reading.Clears.{room}
 use Rattle.wing_wire.proofs.unit.body_unit.Statement.{statement}
 use Rattle.wing_wire.proofs.unit.body_unit.Tie as tie
 

@@ -7,7 +7,7 @@ use native.Mathlib.Omega.{arith}
 use lib.ListN.{length, set}
 use borrow.Author.Needs.{needs}
 use Rattle.wing_wire.specs.Unit.{cleared}
-use Rattle.wing_wire.proofs.Clears.{cleared-turn, cleared-all}
+use Rattle.wing_wire.proofs.Reading.Clears.{cleared-turn, cleared-all}
 use Rattle.wing_wire.proofs.unit.clear.Statement.{statement}
 use Rattle.wing_wire.proofs.unit.clear.Tie as tie
 

@@ -2,8 +2,8 @@ use Prim.Native.Nat.{_≤_}
 use mathlib.Core.Path.{_≡_}
 use native.Mathlib.Omega.{arith}
 use lib.ListN.{length, take, length-take}
-use Rattle.wing_wire.proofs.Lays.{whole, short}
-use Rattle.wing_wire.proofs.Overs.{over-whole}
+use Rattle.wing_wire.proofs.Writing.Lays.{whole, short}
+use Rattle.wing_wire.proofs.Reading.Overs.{over-whole}
 use borrow.Author.Needs.{needs}
 use Rattle.wing_wire.proofs.write.hand_over.Statement.{statement}
 use Rattle.wing_wire.proofs.write.hand_over.Tie as tie

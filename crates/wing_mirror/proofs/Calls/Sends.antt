@@ -1,0 +1,148 @@
+-- Recall, record by record: what a record's order is, how long the orders are at most, and what a writer laid.
+use Prim.Native.Nat.{ℕ, zero, suc, _+_, _*_, _/_, _≤_, _<_}
+use mathlib.Core.Bool.{Bool, true, false}
+use mathlib.Core.Path.{_≡_, sym, _∙_, ap}
+use mathlib.Core.List.{List, [], _∷_, _++_}
+use native.Mathlib.Omega.{arith}
+use borrow.Author.Tests.{eqb-false, le-ltb, lt-leb, leb-true}
+use lib.Dec.{leb, eqb}
+use lib.IntN.{ℤ}
+use lib.ListN.{length, take, drop, getD, length-append, length-drop}
+use lib.Seq.{sets-eq, length-take-le}
+use Rattle.wing_node.specs.Bool.{if}
+use Rattle.wing_node.specs.Field.{big, fieldAt}
+use Rattle.wing_node.specs.Signed.{signed}
+use Rattle.wing_node.specs.Utf8.{utf8}
+use Rattle.wing_node.specs.Value.{NodeValue, integer, float, string}
+use Rattle.wing_node.proofs.Characters.Grammar.{decides}
+use Rattle.wing_node.proofs.Numerals.Placed.{field-whole}
+use Rattle.wing_wire.specs.State.{zeros}
+use Rattle.wing_wire.specs.Write.{Laid, wrote, writeOf, Wrote}
+use Rattle.wing_wire.specs.Command.{setBytes, setString}
+use Rattle.wing_wire.specs.declared.write.Written.{Written}
+use Rattle.wing_wire.specs.declared.write.Written.the-variants.{Bytes, Refused}
+use Rattle.wing_wire.proofs.Reading.Branches.{branch}
+use Rattle.wing_wire.proofs.Writing.Choices.{string-good}
+use Rattle.wing_wire.proofs.Writing.Sizes.{set-int-le, set-float-le, set-string-le}
+use Rattle.wing_mirror.specs.Rows.{Table, records, joined}
+use Rattle.wing_mirror.specs.Record.{Entry, kindIn, lengthIn, payloadIn, idIn, valueIn, entryIn, stringKept, wellKept, wellFormed}
+use Rattle.wing_mirror.specs.Table.{rows, every, rowAt, inRange, usable}
+use Rattle.wing_mirror.specs.Recall.{setOf, recallBytes, recallOf}
+use Rattle.wing_mirror.specs.Sending.{orderIn, ordersOf, sizeIn}
+use Rattle.wing_mirror.proofs.Tables.Chunks.{length-records}
+use Rattle.wing_mirror.proofs.Records.Said.{row-of, string-entry}
+use Rattle.wing_mirror.proofs.Tables.Tests.{from, from-all, from-next, from-none}
+use Rattle.wing_mirror.proofs.Records.Usables.{both, in-range, few, room, formed}
+
+-- ---- a record
+
+-- what is kept and is no number is a string of at most 256 bytes, UTF-8
+kept-string : (k n : ℕ) (p : List ℕ) → wellKept k n p ≡ true → (k ≡ 0 → ⊥) → (k ≡ 1 → ⊥) → (n ≤ 256) × (utf8 (take n p) ≡ true)
+unfolding wellKept stringKept
+kept-string k n p h a b =
+    let s = both (eqb k 2) (if (leb n 256) (if (zeros (drop n p)) (utf8 (take n p)) false) false) (rw (lt-leb k 1 (omega arith)) at h) in
+    let t = both (leb n 256) (if (zeros (drop n p)) (utf8 (take n p)) false) (s .1) in
+    (leb-true n 256 (t .0), both (zeros (drop n p)) (utf8 (take n p)) (t .1) .1)
+
+module _ (r : List ℕ) (wide : length r ≡ 264) (form : wellFormed r ≡ true) where
+  pub text : (getD r 4 0 ≡ 0 → ⊥) → (getD r 4 0 ≡ 1 → ⊥) → (lengthIn r ≤ 256) × (utf8 (take (lengthIn r) (payloadIn r)) ≡ true)
+  text a b = kept-string (kindIn r) (lengthIn r) (payloadIn r) (both (eqb (getD r 5 0) 0) (wellKept (kindIn r) (lengthIn r) (payloadIn r)) (unfold wellFormed in form) .1) a b
+
+  -- a string's order, as the code reads the record
+  pub string-order : (id : ℤ) → id ≡ signed 31 (fieldAt 4 r 0) → (n : ℕ) → (getD r 4 0 ≡ 0 → ⊥) → (getD r 4 0 ≡ 1 → ⊥) → n ≡ fieldAt 2 r 6 →
+      (out : List ℕ) → setString id (take n (drop 8 r)) out ≡ writeOf (orderIn r) out
+  string-order id eid n j k e out =
+      let m : n ≡ lengthIn r = e ∙ field-whole 2 r 6 (omega arith) in
+      let t = text j k in
+      let s : List ℕ = take n (drop 8 r) in
+      let l : length s ≤ 256 = omega (arith, length-take-le n (drop 8 r) (omega (arith, length-drop 8 r))) in
+      sym (string-good id s out l (rw m (t .1))) ∙ ap (λ (x : Entry). writeOf (setOf x) out) (string-entry r wide id eid n j k e)
+
+  -- no order of a record is longer than 395 bytes
+  pub order-le : length (orderIn r) ≤ 395
+  unfolding entryIn valueIn
+  order-le =
+      let P : NodeValue → Type 0 = λ v. length (setBytes (idIn r) v) ≤ 395 in
+      let s : List ℕ = take (lengthIn r) (payloadIn r) in
+      branch P (eqb (getD r 4 0) 0) (integer (signed 31 (big (take 4 (payloadIn r))))) _ (λ _. omega (arith, set-int-le (idIn r) (signed 31 (big (take 4 (payloadIn r))))))
+      (λ j. branch P (eqb (getD r 4 0) 1) (float (big (take 4 (payloadIn r)))) (string s) (λ _. omega (arith, set-float-le (idIn r) (big (take 4 (payloadIn r)))))
+      (λ k.
+      let t = text (eqb-false (getD r 4 0) 0 j) (eqb-false (getD r 4 0) 1 k) in
+      set-string-le (idIn r) s (decides s .right (t .1)) (omega (arith, t .0, length-take-le (lengthIn r) (payloadIn r) (omega (arith, length-drop 8 r))))))
+
+-- a writer laid the whole, where there was room for it
+pub laid-whole : (w : Written) (s d e : List ℕ) → wrote w e ≡ writeOf s d → length s ≤ length d → Laid s 0 d e (sizeIn w)
+unfolding writeOf sizeIn
+laid-whole w s d e q h =
+    let z : 0 + length s ≡ length s = omega arith in
+    let p : wrote w e ≡ wrote (Bytes (length s)) (s ++ drop (length s) d) = q ∙ rw (le-ltb (length d) (length s) h) in
+    record {
+      bytes = ap (λ (x : Wrote). x .out) p ∙ sym (sets-eq s d 0 (omega arith) ∙ rw z);
+      next = ap (λ (x : Wrote). sizeIn (x .answer)) p ∙ sym z;
+    }
+
+-- ---- the records one by one
+
+-- the orders of the records from the i-th on
+abbrev pub left : ℕ → ℕ → List ℕ → List ℕ
+left n i b = ordersOf (from n i b)
+
+pub left-all : (n : ℕ) (b : List ℕ) → ordersOf (records 264 n b) ≡ left n 0 b
+left-all n b = ap ordersOf (from-all n b)
+
+pub left-next : (n i : ℕ) (b : List ℕ) → i < n → left n i b ≡ orderIn (rowAt i b) ++ left n (i + 1) b
+unfolding joined
+left-next n i b h = ap ordersOf (from-next n i b h)
+
+pub left-none : (n i : ℕ) (b : List ℕ) → n ≤ i → left n i b ≡ []
+unfolding joined
+left-none n i b h = ap ordersOf (from-none n i b h)
+
+pub left-less : (n i : ℕ) (b : List ℕ) → i < n → length (left n i b) ≡ length (orderIn (rowAt i b)) + length (left n (i + 1) b)
+left-less n i b h = ap length (left-next n i b h) ∙ length-append (orderIn (rowAt i b)) (left n (i + 1) b)
+
+every-at : {A : Type 0} (p : A → Bool) (xs : List A) (i : ℕ) (d : A) → i < length xs → every p xs ≡ true → p (getD xs i d) ≡ true
+unfolding every
+every-at p [] i d h e = absurd (omega arith)
+every-at p (x ∷ xs) zero d h e = both (p x) (every p xs) e .0
+every-at p (x ∷ xs) (suc i) d h e = every-at p xs i d (omega arith) (both (p x) (every p xs) e .1)
+
+module _ (t : Table) (u : usable t ≡ true) where
+  -- 01: at most 1,024 places
+  pub few-records : t .count ≤ 1024
+  unfolding inRange
+  few-records =
+      let n : ℕ = length (t .buffer) / 264 in
+      omega (arith, few t u, leb-true n 1024 (both (leb 1 n) (leb n 1024) (in-range t u) .1))
+
+  pub row-formed : (i : ℕ) → i < t .count → wellFormed (rowAt i (t .buffer)) ≡ true
+  row-formed i h =
+      rw (row-of 264 (t .count) i (t .buffer) h) at (every-at wellFormed (rows t) i [] (omega (arith, length-records 264 (t .count) (t .buffer))) (formed t u))
+
+  pub row-le : (i : ℕ) → i < t .count → length (orderIn (rowAt i (t .buffer))) ≤ 395
+  row-le i h =
+      order-le (rowAt i (t .buffer)) (length-take-le 264 (drop (264 * i) (t .buffer)) (omega (arith, room t u, length-drop (264 * i) (t .buffer)))) (row-formed i h)
+
+  left-le : (k i : ℕ) → i + k ≡ t .count → length (left (t .count) i (t .buffer)) ≤ 395 * k
+  left-le zero i e = rw (left-none (t .count) i (t .buffer) (omega arith)) (omega arith)
+  left-le (suc k) i e = omega (arith, left-less (t .count) i (t .buffer) (omega arith), row-le i (omega arith), left-le k (i + 1) (omega arith))
+
+  -- no more than 395 bytes for each record
+  pub orders-le : length (ordersOf (rows t)) ≤ 395 * t .count
+  orders-le = omega (arith, left-le (t .count) 0 (omega arith), ap length (left-all (t .count) (t .buffer)))
+
+-- ---- the whole
+
+module _ (t : Table) where
+  -- 01: df d1, then the orders
+  pub recall-size : length (recallBytes t) ≡ 2 + length (ordersOf (rows t))
+  unfolding recallBytes
+  recall-size = omega arith
+
+  pub recalled : (out : List ℕ) → usable t ≡ true → writeOf (recallBytes t) out ≡ recallOf t out
+  unfolding recallOf
+  recalled out u = rw u
+
+  pub unusable : (out : List ℕ) → usable t ≡ false → wrote (Refused 7) out ≡ recallOf t out
+  unfolding recallOf
+  unusable out u = rw u

@@ -1,0 +1,82 @@
+-- The six counts of a feed: each reading counts at most once, and counts only add.
+use Prim.Native.Nat.{suc, _+_, _≤_}
+use mathlib.Core.Bool.{Bool, true, false}
+use mathlib.Core.Path.{_≡_, refl, ap}
+use mathlib.Core.List.{List, [], _∷_}
+use native.Mathlib.Omega.{arith}
+use native.Mathlib.Nat.{add-zero, add-suc}
+use lib.IntN.{ℤ}
+use lib.ListN.{length}
+use Rattle.wing_node.specs.Bool.{if}
+use Rattle.wing_node.specs.Definition.{definitionOf}
+use Rattle.wing_wire.specs.Reader.{Event, more, value, body, end, refused}
+use Rattle.wing_mirror.specs.Record.{entry}
+use Rattle.wing_mirror.specs.Table.{put, fits}
+use Rattle.wing_mirror.specs.Counts.{none, tick, refusalMark, bodyMark, total, added}
+use Rattle.wing_mirror.specs.Mirror.{Tallied, tallied, keepEvent}
+use Rattle.wing_mirror.specs.Machine.{Reading}
+use Rattle.wing_mirror.specs.declared.answer.Counts.{Counts}
+use Rattle.wing_mirror.specs.declared.counts.Mark.{Mark}
+use Rattle.wing_mirror.specs.declared.counts.Mark.the-variants.{Stored, Unplaced, StringRefused, DefinitionRead, DefinitionRefused, Ended}
+use Rattle.wing_mirror.proofs.Histories.Along.{handed}
+
+-- a mark is one more in all
+tick-total : (k : Mark) (c : Counts) → total (tick k c) ≡ suc (total c)
+tick-total Stored c = omega arith
+tick-total Unplaced c = omega arith
+tick-total StringRefused c = omega arith
+tick-total DefinitionRead c = omega arith
+tick-total DefinitionRefused c = omega arith
+tick-total Ended c = omega arith
+
+-- each reading counts at most once
+pub keep-total : (node : ℤ) (e : Event) (k : Tallied) → total (keepEvent node e k .counts) ≤ suc (total (k .counts))
+unfolding keepEvent
+keep-total node more k = omega arith
+keep-total node (value v) k = go (fits (entry node v) (k .table))
+  where
+    go : (t : Bool) →
+        total ((if {A = Tallied} t (tallied (put (entry node v) (k .table)) (tick Stored (k .counts))) (tallied (k .table) (tick Unplaced (k .counts)))) .counts) ≤ suc (total (k .counts))
+    go true = omega arith
+    go false = omega arith
+keep-total node (body b) k = omega (arith, tick-total (bodyMark (definitionOf b)) (k .counts))
+keep-total node end k = omega arith
+keep-total node (refused n) k = omega (arith, tick-total (refusalMark n) (k .counts))
+
+-- so the counts sum to at most the readings
+pub handed-total : (rs : List Reading) (k : Tallied) → total (handed keepEvent rs k .counts) ≤ total (k .counts) + length rs
+unfolding handed
+handed-total [] k = omega arith
+handed-total (r ∷ rs) k = omega (arith, handed-total rs (keepEvent (r .node) (r .event) k), keep-total (r .node) (r .event) k)
+
+-- counts c, and those of k
+abbrev pub atop : Counts → Tallied → Tallied
+atop c k = tallied (k .table) (added c (k .counts))
+
+-- a mark on a sum is one on its second part
+tick-adds : (m : Mark) (c d : Counts) → added c (tick m d) ≡ tick m (added c d)
+tick-adds Stored c d = simp add-suc
+tick-adds Unplaced c d = simp add-suc
+tick-adds StringRefused c d = simp add-suc
+tick-adds DefinitionRead c d = simp add-suc
+tick-adds DefinitionRefused c d = simp add-suc
+tick-adds Ended c d = simp add-suc
+
+-- nothing added
+pub added-none : (c : Counts) → added c none ≡ c
+added-none c = simp add-zero
+
+-- what is kept does not look at the counts before
+pub keep-adds : (c : Counts) (node : ℤ) (e : Event) (k : Tallied) → atop c (keepEvent node e k) ≡ keepEvent node e (atop c k)
+unfolding keepEvent
+keep-adds c node more k = refl
+keep-adds c node (value v) k = go (fits (entry node v) (k .table))
+  where
+    go : (t : Bool) →
+        atop c (if t (tallied (put (entry node v) (k .table)) (tick Stored (k .counts))) (tallied (k .table) (tick Unplaced (k .counts))))
+        ≡ if t (tallied (put (entry node v) (k .table)) (tick Stored (added c (k .counts)))) (tallied (k .table) (tick Unplaced (added c (k .counts))))
+    go true = ap (tallied (put (entry node v) (k .table))) (tick-adds Stored c (k .counts))
+    go false = ap (tallied (k .table)) (tick-adds Unplaced c (k .counts))
+keep-adds c node (body b) k = ap (tallied (k .table)) (tick-adds (bodyMark (definitionOf b)) c (k .counts))
+keep-adds c node end k = ap (tallied (k .table)) (tick-adds Ended c (k .counts))
+keep-adds c node (refused n) k = ap (tallied (k .table)) (tick-adds (refusalMark n) c (k .counts))

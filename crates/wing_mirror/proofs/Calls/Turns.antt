@@ -1,0 +1,193 @@
+-- One turn of a feed: an answer makes what is left smaller, adds at most one to the counts, and leaves the table usable.
+use Prim.Native.Nat.{ℕ, zero, suc, _+_, _-_, _*_, _≤_}
+use mathlib.Core.Bool.{Bool, true, false}
+use mathlib.Core.Path.{_≡_, refl, sym, _∙_, ap, subst}
+use mathlib.Core.List.{List, [], _∷_}
+use native.Mathlib.Omega.{arith}
+use lib.IntN.{ℤ}
+use lib.ListN.{length, take, drop, length-drop}
+use lib.Seq.{take-all, drop-drop}
+use Rattle.wing_node.specs.Bool.{if}
+use Rattle.wing_node.specs.Value.{NodeValue, integer, float, string}
+use Rattle.wing_wire.specs.Units.{waiting}
+use Rattle.wing_wire.specs.Range.{Within}
+use Rattle.wing_wire.specs.Reader.{Event, more, value, body, end, refused, eventOf}
+use Rattle.wing_wire.specs.Stream.{Heard, isMore, pendingOf, settleOf, stepOf, Run, run, runOf, advanceOf, released, Fed, feedOf}
+use Rattle.wing_wire.specs.declared.state.Pending.{Pending}
+use Rattle.wing_wire.specs.declared.state.Pending.the-variants.{None, Byte}
+use Rattle.wing_wire.specs.declared.state.Control.{Control}
+use Rattle.wing_wire.specs.declared.stream.Advanced.{Advanced}
+use Rattle.wing_wire.specs.declared.unit.Answer.{Answer}
+use Rattle.wing_wire.specs.declared.unit.Answer.the-variants.{More, Integer, Float, String, Body, End, Refused}
+use Rattle.wing_wire.proofs.Reading.Pieces.{at, clash, settle-calm, stays, run-on, run-up}
+use Rattle.wing_wire.proofs.Reading.Steps.{next-in, feed-ends, feed-again, fed}
+use Rattle.wing_wire.proofs.Reading.Branches.{branch}
+use Rattle.wing_wire.proofs.Reading.Bounds.{Tame, BoundedHeard, advance-bounded}
+use Rattle.wing_mirror.specs.Rows.{Table, takes, store}
+use Rattle.wing_mirror.specs.Record.{keyOf, recordOf, entry, storable}
+use Rattle.wing_mirror.specs.Table.{table, usable, fits, put}
+use Rattle.wing_mirror.specs.Puts.{Done, putOf, done}
+use Rattle.wing_mirror.specs.Counts.{none, tick, total}
+use Rattle.wing_mirror.specs.Mirror.{Tallied, tallied, keep, keepEvent}
+use Rattle.wing_mirror.specs.declared.answer.Counts.{Counts}
+use Rattle.wing_mirror.specs.declared.store.Kept.{Kept as Placed}
+use Rattle.wing_mirror.specs.declared.counts.Mark.the-variants.{Stored, Unplaced}
+use Rattle.wing_mirror.proofs.Records.Lasting.{entry-usable}
+use Rattle.wing_mirror.proofs.Calls.Tallies.{keep-total}
+use Rattle.wing_mirror.proofs.Histories.Decodes.{string-text}
+
+-- ---- what is left: two for each byte, and one for a pending byte
+
+waiting-one : (p : Pending) → waiting p ≤ 1
+waiting-one None = omega arith
+waiting-one (Byte u) = omega arith
+
+-- a run that had no answer and has one took a byte
+took : (o : Heard) (n : ℕ) (bs : List ℕ) → isMore (o .told .answer) ≡ true → isMore (runOf (at o n) bs .heard .told .answer) ≡ false → n + 1 ≤ runOf (at o n) bs .taken
+unfolding runOf
+took o n [] e p = absurd (clash e p)
+took o n (b ∷ bs) e p = rw (run-on o n b bs e) (run-up (stepOf (o .told .control) (o .store) b) (n + 1) bs)
+
+-- where settling answers, a byte was pending
+settled-one : (c : Control) (s : List ℕ) → isMore (settleOf c s .told .answer) ≡ false → waiting (c .escape .pending) ≡ 1
+unfolding settleOf
+settled-one c s = go (c .escape .pending)
+  where
+    go : (p : Pending) → isMore (pendingOf p c s .told .answer) ≡ false → waiting p ≡ 1
+    go None q = absurd (clash refl q)
+    go (Byte u) q = refl
+
+pub smaller : (c : Control) (s bytes : List ℕ) → isMore (advanceOf c s bytes .heard .told .answer) ≡ false →
+    waiting (advanceOf c s bytes .heard .told .control .escape .pending) + 1 ≤ 2 * advanceOf c s bytes .taken + waiting (c .escape .pending)
+unfolding advanceOf
+smaller c s bytes p = go (isMore (settleOf c s .told .answer)) refl
+  where
+    r : Run
+    r = runOf (at (settleOf c s) 0) bytes
+
+    go : (t : Bool) → isMore (settleOf c s .told .answer) ≡ t → waiting (r .heard .told .control .escape .pending) + 1 ≤ 2 * r .taken + waiting (c .escape .pending)
+    go true e = omega (arith, took (settleOf c s) 0 bytes e p, waiting-one (r .heard .told .control .escape .pending))
+    go false e = rw (stays (at (settleOf c s) 0) bytes e, settle-calm c s) (omega (arith, settled-one c s e))
+
+-- ---- what is kept of an answer
+
+-- a put of a value's record, and the mark that says whether it was taken
+module _ (node : ℤ) (v : NodeValue) (t : Table) (counts : Counts) (r : List ℕ) (p : Placed) (buffer : List ℕ) (e : r ≡ recordOf (entry node v)) (d : done p buffer ≡ putOf r t) where
+  abbrev Chosen : Bool → Done
+  Chosen b = if b (record { after = store 264 keyOf (recordOf (entry node v)) t; taken = true }) (record { after = t; taken = false })
+
+  chosen : done p buffer ≡ Chosen (takes 264 keyOf (recordOf (entry node v)) t)
+  unfolding putOf
+  chosen = d ∙ ap (λ (x : List ℕ). putOf x t) e
+
+  pub stored-kept : p .taken ≡ true → tallied (table buffer (p .count)) (tick Stored counts) ≡ keepEvent node (value v) (tallied t counts)
+  unfolding keepEvent put fits
+  stored-kept m = go (takes 264 keyOf (recordOf (entry node v)) t) chosen
+    where
+      go : (b : Bool) → done p buffer ≡ Chosen b →
+          tallied (table buffer (p .count)) (tick Stored counts) ≡ if b (tallied (store 264 keyOf (recordOf (entry node v)) t) (tick Stored counts)) (tallied t (tick Unplaced counts))
+      go true q = ap (λ (x : Done). tallied (x .after) (tick Stored counts)) q
+      go false q = absurd (clash m (ap (λ (x : Done). x .taken) q))
+
+  pub unplaced-kept : p .taken ≡ false → tallied (table buffer (p .count)) (tick Unplaced counts) ≡ keepEvent node (value v) (tallied t counts)
+  unfolding keepEvent put fits
+  unplaced-kept m = go (takes 264 keyOf (recordOf (entry node v)) t) chosen
+    where
+      go : (b : Bool) → done p buffer ≡ Chosen b →
+          tallied (table buffer (p .count)) (tick Unplaced counts) ≡ if b (tallied (store 264 keyOf (recordOf (entry node v)) t) (tick Stored counts)) (tallied t (tick Unplaced counts))
+      go true q = absurd (clash (ap (λ (x : Done). x .taken) q) m)
+      go false q = ap (λ (x : Done). tallied (x .after) (tick Unplaced counts)) q
+
+-- a value that may be kept leaves the table usable
+pub value-usable : (node : ℤ) (v : NodeValue) (k : Tallied) → storable v ≡ true → usable (k .table) ≡ true → usable (keepEvent node (value v) k .table) ≡ true
+unfolding keepEvent
+value-usable node v k h u =
+    branch (λ (x : Tallied). usable (x .table) ≡ true) (fits (entry node v) (k .table)) (tallied (put (entry node v) (k .table)) (tick Stored (k .counts))) (tallied (k .table) (tick Unplaced (k .counts))) (λ f. entry-usable (entry node v) (k .table) h u f) (λ _. u)
+
+-- what is kept of an answer within its bounds leaves the table usable
+pub kept-usable : (node : ℤ) (a : Answer) (s : List ℕ) (k : Tallied) → Within a s → usable (k .table) ≡ true → usable (keep node a s k .table) ≡ true
+unfolding eventOf keepEvent storable
+kept-usable node More s k w u = u
+kept-usable node (Integer x) s k w u = value-usable node (integer x) k refl u
+kept-usable node (Float bits) s k w u = value-usable node (float bits) k refl u
+kept-usable node (String n) s k w u = value-usable node (string (take n s)) k (string-text n s (w .0) (w .1)) u
+kept-usable node (Body n) s k w u = u
+kept-usable node End s k w u = u
+kept-usable node (Refused n) s k w u = u
+
+-- ---- a turn
+
+abbrev pub left : List ℕ → Control → ℕ → ℕ
+left bytes c i = 2 * (length bytes - i) + waiting (c .escape .pending)
+
+-- where a feed stands: the bytes up to i are taken
+pub record Underway (bytes : List ℕ) (start : Fed Tallied) (c : Control) (s : List ℕ) (k : Tallied) (i : ℕ) : Type 0 where
+  pub within : i ≤ length bytes
+  pub same : feedOf keep (fed keep c s k) (drop i bytes) ≡ feedOf keep start bytes
+  pub tame : Tame (c .token)
+  pub ready : usable (k .table) ≡ true
+  pub few : total (k .counts) + left bytes c i ≤ 131073
+
+pub begun : (bytes : List ℕ) (c : Control) (s : List ℕ) (t : Table) (counts : Counts) → counts ≡ none → length bytes ≤ 65536 → Tame (c .token) → usable t ≡ true →
+    Underway bytes (fed keep c s (tallied t none)) c s (tallied t counts) 0
+begun bytes c s t counts e h g u =
+    record {
+      within = omega arith;
+      same = ap (λ (x : Counts). feedOf keep (fed keep c s (tallied t x)) bytes) e;
+      tame = g;
+      ready = u;
+      few = omega (arith, ap (λ (x : Counts). total x) e, waiting-one (c .escape .pending));
+    }
+
+module _ {bytes : List ℕ} {start : Fed Tallied} {c : Control} {s : List ℕ} {k : Tallied} {i : ℕ} (g : Underway bytes start c s k i)
+    (r : Advanced) (t : List ℕ) (e : run r t ≡ advanceOf c s (take (length bytes - i) (drop i bytes))) where
+  -- the bytes lent are those not taken yet
+  said : run r t ≡ advanceOf c s (drop i bytes)
+  said = e ∙ ap (λ (b : List ℕ). advanceOf c s b) (take-all (length bytes - i) (drop i bytes) (omega (arith, length-drop i bytes)))
+
+  pub inside : i + r .taken ≤ length bytes
+  inside =
+      let h = ap (λ (x : Run). x .taken) said in
+      let w = g .within in
+      omega (arith, next-in c s (drop i bytes), length-drop i bytes)
+
+  -- the call that answers more is the last
+  pub ended : isMore (r .answer) ≡ true → fed keep (r .control) t k ≡ feedOf keep start bytes
+  ended m =
+      let h : isMore (advanceOf c s (drop i bytes) .heard .told .answer) ≡ true = ap (λ (x : Run). isMore (x .heard .told .answer)) (sym said) ∙ m in
+      ap (λ (x : Run). fed keep (x .heard .told .control) (x .heard .store) k) said ∙ sym (feed-ends keep c s k (drop i bytes) h) ∙ g .same
+
+  pub turned : isMore (r .answer) ≡ false → left bytes (r .control) (i + r .taken) + 1 ≤ left bytes c i
+  turned m =
+      let h : isMore (advanceOf c s (drop i bytes) .heard .told .answer) ≡ false = ap (λ (x : Run). isMore (x .heard .told .answer)) (sym said) ∙ m in
+      let n = ap (λ (x : Run). x .taken) said in
+      let p = ap (λ (x : Run). waiting (x .heard .told .control .escape .pending)) said in
+      omega (arith, smaller c s (drop i bytes) h, inside)
+
+  -- what was answered is within bounds
+  pub heard-bounded : BoundedHeard (length s) (run r t .heard)
+  heard-bounded = subst (λ (x : Run). BoundedHeard (length s) (x .heard)) (sym said) (advance-bounded c s (drop i bytes) (g .tame))
+
+  -- after a turn, with what was kept and released
+  turn : isMore (r .answer) ≡ false →
+      Underway bytes start (r .control) (released (r .answer) t) (keep (r .control .node) (r .answer) t k) (i + r .taken)
+  turn m =
+      let h : isMore (advanceOf c s (drop i bytes) .heard .told .answer) ≡ false = ap (λ (x : Run). isMore (x .heard .told .answer)) (sym said) ∙ m in
+      let w = heard-bounded in
+      record {
+        within = inside;
+        same =
+            ap (λ (b : List ℕ). feedOf keep (fed keep (r .control) (released (r .answer) t) (keep (r .control .node) (r .answer) t k)) b) (sym (drop-drop (r .taken) i bytes))
+            ∙ ap (λ (x : Run). feedOf keep (fed keep (x .heard .told .control) (released (x .heard .told .answer) (x .heard .store)) (keep (x .heard .told .control .node) (x .heard .told .answer) (x .heard .store) k)) (drop (x .taken) (drop i bytes))) said
+            ∙ sym (feed-again keep c s k (drop i bytes) h)
+            ∙ g .same;
+        tame = w .token;
+        ready = kept-usable (r .control .node) (r .answer) t k (w .within) (g .ready);
+        few = let f = g .few in omega (arith, turned m, keep-total (r .control .node) (eventOf (r .answer) t t) k);
+      }
+
+  pub again : isMore (r .answer) ≡ false → (t′ : List ℕ) → t′ ≡ released (r .answer) t → (k′ : Tallied) → k′ ≡ keep (r .control .node) (r .answer) t k →
+      Underway bytes start (r .control) t′ k′ (i + r .taken)
+  again m t′ et k′ ek =
+      subst (λ (x : List ℕ). Underway bytes start (r .control) x k′ (i + r .taken)) (sym et)
+      (subst (λ (x : Tallied). Underway bytes start (r .control) (released (r .answer) t) x (i + r .taken)) (sym ek) (turn m))

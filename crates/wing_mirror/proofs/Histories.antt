@@ -1,0 +1,15 @@
+-- The mirror and the plain machine over whole histories: demand 3.
+pub mod Along
+pub mod Maps
+pub mod Mirrored
+pub mod Decodes
+pub mod Hears
+pub mod Wells
+pub mod Simulates
+pub mod InOrder
+pub mod Agrees
+pub mod Bounds
+pub mod Recalls
+pub mod Rebuilt
+pub mod Asked
+pub mod Demand

@@ -1,0 +1,51 @@
+-- Demand 3: what a mirror answers after any history when it is compared or recalled.
+use Prim.Native.Nat.{ℕ}
+use mathlib.Core.Bool.{Bool, true, false}
+use mathlib.Core.Path.{_≡_, refl, sym, _∙_, ap}
+use mathlib.Core.Logic.{_↔_}
+use mathlib.Core.List.{List}
+use native.Mathlib.Omega.{arith}
+use Rattle.wing_node.specs.Bool.{if}
+use Rattle.wing_mirror.specs.Rows.{Table, All}
+use Rattle.wing_mirror.specs.Record.{Entry}
+use Rattle.wing_mirror.specs.Table.{rows, inRange, usable}
+use Rattle.wing_mirror.specs.Query.{sameTables, sameAnswer}
+use Rattle.wing_mirror.specs.Recall.{recallOf}
+use Rattle.wing_mirror.specs.Call.{Call, TypedCall}
+use Rattle.wing_mirror.specs.History.{mirrorRun, machineRun, placesIn, Equal, Comparing, Recalling}
+use Rattle.wing_mirror.specs.declared.answer.Same.{Same}
+use Rattle.wing_mirror.specs.declared.answer.Same.the-variants.{Yes, No, Refused}
+use Rattle.wing_mirror.proofs.Records.Equals.{same-decides}
+use Rattle.wing_mirror.proofs.Histories.Mirrored.{usable-image}
+use Rattle.wing_mirror.proofs.Histories.Simulates.{whole-image}
+use Rattle.wing_mirror.proofs.Histories.Agrees.{map-fine, run-equal}
+
+-- a mirror with 1 to 1,024 places is usable after any history
+run-usable : (b : List ℕ) (calls : List Call) → All TypedCall calls → inRange (placesIn b) ≡ true → usable (mirrorRun b calls .state .table) ≡ true
+run-usable b calls t r =
+    let m : List Entry = machineRun (placesIn b) calls .state .map in
+    rw (whole-image b calls t) (usable-image b m (map-fine (placesIn b) calls t) ∙ r)
+
+abbrev mark : Same → ℕ
+mark Yes = 0
+mark No = 1
+mark (Refused n) = 2
+
+-- the call says yes exactly if count and records are equal
+says-same : (t u : Table) → usable t ≡ true → usable u ≡ true → ((sameAnswer t u ≡ Yes) ↔ Equal t u)
+unfolding sameAnswer
+says-same t u p q = rw (p, q) (λ e. told (sameTables t u) refl e, λ e. rw (same-decides t u .whole (e .counts, e .records)))
+  where
+    told : (s : Bool) → sameTables t u ≡ s → if s Yes No ≡ Yes → Equal t u
+    told true e h = let d = same-decides t u .right e in record { counts = d .0; records = d .1 }
+    told false e h = absurd (let z = ap mark h in omega arith)
+
+pub comparing : Comparing
+comparing b c xs ys tx ty p q =
+    let s = says-same (mirrorRun b xs .state .table) (mirrorRun c ys .state .table) (run-usable b xs tx p) (run-usable c ys ty q) in
+    let e = run-equal b c xs ys tx ty in
+    (λ y. e .0 (s .0 y), λ m. s .1 (e .1 m))
+
+pub recalling : Recalling
+unfolding recallOf
+recalling b calls t r out = rw (run-usable b calls t r)

@@ -1,0 +1,84 @@
+-- What the decoder owes a mirror: it stays well, and each of its value events may be kept.
+use Prim.Native.Nat.{ℕ, _≤_}
+use mathlib.Core.Bool.{true}
+use mathlib.Core.Path.{_≡_, refl}
+use mathlib.Core.List.{List, []}
+use native.Mathlib.Omega.{arith}
+use borrow.Author.Tests.{le-leb}
+use lib.IntN.{ℤ}
+use lib.ListN.{length, take, length-take}
+use Rattle.wing_node.specs.Signed.{InBits}
+use Rattle.wing_node.specs.Utf8.{utf8}
+use Rattle.wing_node.specs.Value.{string}
+use Rattle.wing_wire.specs.State.{freshState, soundState}
+use Rattle.wing_wire.specs.Range.{AreBytes, Within, InRange, AnswerIn}
+use Rattle.wing_wire.specs.Reader.{Event, more, value, body, end, refused, eventOf}
+use Rattle.wing_wire.specs.declared.state.State.{State}
+use Rattle.wing_wire.specs.declared.unit.Answer.{Answer}
+use Rattle.wing_wire.specs.declared.unit.Answer.the-variants.{More, Integer, Float, String, Body, End, Refused}
+use Rattle.wing_wire.proofs.Reading.Sound.{Good, state-parts, state-tested, fresh-sound, feed-good}
+use Rattle.wing_wire.proofs.Reading.Ranges.{fresh-in, range-feed}
+use Rattle.wing_wire.proofs.Reading.Handled.{feed-keeps}
+use Rattle.wing_mirror.specs.Rows.{All}
+use Rattle.wing_mirror.specs.Record.{entry, storable}
+use Rattle.wing_mirror.specs.Machine.{Reading, reading, noted, decoded, stateAfter, readings}
+use Rattle.wing_mirror.proofs.Tables.Images.{all-last}
+use Rattle.wing_mirror.proofs.Histories.Maps.{Proper}
+
+-- a value event's entry is proper
+abbrev pub ProperEvent : ℤ → Event → Type 0
+ProperEvent node more = Unit {0}
+ProperEvent node (value v) = Proper (entry node v)
+ProperEvent node (body b) = Unit {0}
+ProperEvent node end = Unit {0}
+ProperEvent node (refused n) = Unit {0}
+
+-- the same of a reading
+abbrev pub ProperReading : Reading → Type 0
+ProperReading r = ProperEvent (r .node) (r .event)
+
+-- a string within its bounds may be kept
+pub string-text : (n : ℕ) (s : List ℕ) → n ≤ 256 → utf8 (take n s) ≡ true → storable (string (take n s)) ≡ true
+unfolding storable
+string-text n s h u = rw (le-leb (length (take n s)) 256 (omega (arith, length-take n s))) u
+
+-- an answer in range and within bounds
+answer-proper : (node : ℤ) (a : Answer) (s : List ℕ) → InBits 31 node → Within a s → AnswerIn a → ProperEvent node (eventOf a s s)
+unfolding eventOf storable
+answer-proper node More s i w r = tt
+answer-proper node (Integer x) s i w r = record { node = i; typed = r; text = refl }
+answer-proper node (Float bits) s i w r = record { node = i; typed = omega arith; text = refl }
+answer-proper node (String n) s i w r = record { node = i; typed = tt; text = string-text n s (w .0) (w .1) }
+answer-proper node (Body n) s i w r = tt
+answer-proper node End s i w r = tt
+answer-proper node (Refused n) s i w r = tt
+
+-- a state that passes the test, in the range of its types
+pub record WellState (s : State) : Type 0 where
+  pub good : Good (s .control) (s .store)
+  pub inside : InRange (s .control) (s .store)
+
+-- from the test
+pub well-state : (s : State) → InRange (s .control) (s .store) → soundState s ≡ true → WellState s
+well-state s r e = record { good = state-parts s (r .pending) e; inside = r }
+
+-- back to the test
+pub well-sound : (s : State) → WellState s → soundState s ≡ true
+well-sound s w = state-tested s (w .good)
+
+-- the fresh state is well
+pub fresh-well : WellState freshState
+fresh-well = well-state freshState fresh-in fresh-sound
+
+module _ (s : State) (bytes : List ℕ) (are : AreBytes bytes) (w : WellState s) where
+  -- the state after the bytes is well
+  pub after-well : WellState (stateAfter s bytes)
+  unfolding decoded
+  after-well = record { good = feed-good noted _ bytes are (w .good); inside = range-feed noted _ bytes are (w .inside) }
+
+  -- each value event that it reads may be kept
+  pub readings-proper : All ProperReading (readings s bytes)
+  unfolding decoded
+  readings-proper =
+      feed-keeps noted (All ProperReading) (λ node a t rs i within r st p. all-last ProperReading rs (reading node (eventOf a t t)) p (answer-proper node a t i within r))
+      (record { control = s .control; store = s .store; memo = [] }) bytes are (w .good) (w .inside) tt

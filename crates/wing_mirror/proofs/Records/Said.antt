@@ -1,0 +1,74 @@
+-- What a record says, as the code reads it.
+use Prim.Native.Nat.{ℕ, zero, suc, _+_, _-_, _*_, _<_, min}
+use mathlib.Core.Path.{_≡_, sym, _∙_, ap, ap₂}
+use mathlib.Core.List.{List, []}
+use native.Mathlib.Omega.{arith}
+use native.Mathlib.Nat.{mul-suc, mul-zero}
+use borrow.Author.Tests.{eq-eqb, ne-eqb}
+use lib.IntN.{ℤ}
+use lib.ListN.{length, take, drop, getD, replicate, length-take, length-drop}
+use lib.Seq.{sets, drop-drop, take-all}
+use Rattle.wing_node.specs.Field.{fieldAt}
+use Rattle.wing_node.specs.Signed.{signed}
+use Rattle.wing_node.specs.Value.{integer, float, string}
+use Rattle.wing_node.specs.declared.value.Value.the-variants.{Integer, Float, String}
+use Rattle.wing_node.proofs.Numerals.Placed.{field-whole}
+use Rattle.wing_wire.specs.Reader.{filled}
+use Rattle.wing_mirror.specs.Rows.{records}
+use Rattle.wing_mirror.specs.Record.{entry, idIn, valueIn, entryIn}
+use Rattle.wing_mirror.specs.Query.{valueOf, bytesBeside, besideZeros, readOf}
+use Rattle.wing_mirror.specs.declared.answer.RecordAnswer.the-variants.{Record}
+use Rattle.wing_mirror.proofs.Tables.Laying.{take-least, sets-over}
+
+-- the row of a number
+pub row-of : (w n i : ℕ) (b : List ℕ) → i < n → getD (records w n b) i [] ≡ take w (drop (w * i) b)
+unfolding records
+row-of w zero i b h = absurd (omega arith)
+row-of w (suc n) zero b h = rw (mul-zero w)
+row-of w (suc n) (suc i) b h =
+    let y : w * suc i ≡ w + w * i = omega (arith, mul-suc w i) in
+    rw (y, ← drop-drop (w * i) w b) (row-of w n i (drop w b) (omega arith))
+
+pub string-said : (id : ℤ) (n len : ℕ) (p out : List ℕ) → length p ≡ 256 → len ≡ min n 256 → out ≡ sets (replicate 256 0) 0 (take len p) →
+    record { answer = Record id (String len); string = out } ≡ readOf (entry id (string (take n p)))
+unfolding readOf valueOf bytesBeside
+string-said id n len p out h l e =
+    let z : len ≡ min n (length p) = l ∙ ap (min n) (sym h) in
+    let t : take len p ≡ take n p = ap (λ (m : ℕ). take m p) z ∙ take-least n p in
+    let m : len ≡ length (take n p) = z ∙ sym (length-take n p) in
+    let f : out ≡ filled 256 (take n p) = e ∙ ap (λ (q : List ℕ). sets (replicate 256 0) 0 q) t ∙ sets-over (take n p) (replicate 256 0) in
+    ap₂ (λ (a : ℕ) (b : List ℕ). record { answer = Record id (String a); string = b }) m f
+
+module _ (r : List ℕ) (wide : length r ≡ 264) (id : ℤ) (eid : id ≡ signed 31 (fieldAt 4 r 0)) where
+  id-is : id ≡ idIn r
+  id-is = eid ∙ ap (signed 31) (field-whole 4 r 0 (omega arith))
+
+  pub integer-entry : (x : ℤ) → getD r 4 0 ≡ 0 → x ≡ signed 31 (fieldAt 4 r 8) → entry id (integer x) ≡ entryIn r
+  unfolding entryIn valueIn
+  integer-entry x k e =
+      rw (eq-eqb (getD r 4 0) 0 k) (ap₂ (λ (a b : ℤ). entry a (integer b)) id-is (e ∙ ap (signed 31) (field-whole 4 r 8 (omega arith))))
+
+  pub float-entry : (bits : ℕ) → (getD r 4 0 ≡ 0 → ⊥) → getD r 4 0 ≡ 1 → bits ≡ fieldAt 4 r 8 → entry id (float bits) ≡ entryIn r
+  unfolding entryIn valueIn
+  float-entry bits j k e =
+      rw (ne-eqb (getD r 4 0) 0 j, eq-eqb (getD r 4 0) 1 k) (ap₂ (λ (a : ℤ) (b : ℕ). entry a (float b)) id-is (e ∙ field-whole 4 r 8 (omega arith)))
+
+  pub string-entry : (n : ℕ) → (getD r 4 0 ≡ 0 → ⊥) → (getD r 4 0 ≡ 1 → ⊥) → n ≡ fieldAt 2 r 6 → entry id (string (take n (drop 8 r))) ≡ entryIn r
+  unfolding entryIn valueIn
+  string-entry n j k e =
+      rw (ne-eqb (getD r 4 0) 0 j, ne-eqb (getD r 4 0) 1 k)
+      (ap₂ (λ (a : ℤ) (m : ℕ). entry a (string (take m (drop 8 r)))) id-is (e ∙ field-whole 2 r 6 (omega arith)))
+
+  pub integer-said : (x : ℤ) → getD r 4 0 ≡ 0 → x ≡ signed 31 (fieldAt 4 r 8) → besideZeros id (Integer x) ≡ readOf (entryIn r)
+  unfolding readOf valueOf bytesBeside
+  integer-said x k e = ap readOf (integer-entry x k e)
+
+  pub float-said : (bits : ℕ) → (getD r 4 0 ≡ 0 → ⊥) → getD r 4 0 ≡ 1 → bits ≡ fieldAt 4 r 8 → besideZeros id (Float bits) ≡ readOf (entryIn r)
+  unfolding readOf valueOf bytesBeside
+  float-said bits j k e = ap readOf (float-entry bits j k e)
+
+  pub string-read-said : (n : ℕ) → (getD r 4 0 ≡ 0 → ⊥) → (getD r 4 0 ≡ 1 → ⊥) → n ≡ fieldAt 2 r 6 →
+      readOf (entry id (string (take n (take (length r - 8) (drop 8 r))))) ≡ readOf (entryIn r)
+  string-read-said n j k e =
+      let a : take (length r - 8) (drop 8 r) ≡ drop 8 r = take-all (length r - 8) (drop 8 r) (omega (arith, length-drop 8 r)) in
+      ap (λ (q : List ℕ). readOf (entry id (string (take n q)))) a ∙ ap readOf (string-entry n j k e)

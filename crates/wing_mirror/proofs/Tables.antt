@@ -1,0 +1,11 @@
+-- Ordered lists and tables of any width.
+pub mod Ordered
+pub mod Chunks
+pub mod Stays
+pub mod Moves
+pub mod Laying
+pub mod Finds
+pub mod Tests
+pub mod Keys
+pub mod Images
+pub mod Members

@@ -1,0 +1,101 @@
+-- Bytes laid at a place, one after the other, and a gap that is filled.
+use Prim.Native.Nat.{ℕ, zero, suc, min, _+_, _-_, _*_, _≤_, _<_}
+use mathlib.Core.Bool.{Bool}
+use mathlib.Core.Path.{_≡_, refl, sym, ap, _∙_}
+use mathlib.Core.List.{List, [], _∷_, _++_, append-assoc}
+use native.Mathlib.Omega.{arith}
+use native.Mathlib.Nat.{add-zero, zero-min, min-zero, suc-min-suc}
+use native.Mathlib.Numerals.{add-one}
+use lib.ListN.{length, replicate, set, take, drop, getD, length-append, length-take}
+use lib.Seq.{sets, sets-eq, take-suc, length-take-le, take-append-le, take-take, drop-at}
+use lib.IntN.{ℤ}
+use Rattle.wing_node.specs.Digits.{digitsIn}
+use Rattle.wing_node.specs.Signed.{unsigned}
+use Rattle.wing_node.specs.Value.{NodeValue}
+use Rattle.wing_node.specs.Field.{bytesOf, put, putAt}
+use Rattle.wing_node.proofs.Numerals.Numbers.{length-digitsIn}
+use Rattle.wing_node.proofs.Numerals.Placed.{put-whole}
+use Rattle.wing_wire.specs.Reader.{over, filled as zeroFilled}
+use Rattle.wing_mirror.specs.Record.{entry, kindOf, payloadOf, recordOf, laidFrom}
+
+pub sets-append : (vs ws l : List ℕ) (i : ℕ) → sets (sets l i vs) (i + length vs) ws ≡ sets l i (vs ++ ws)
+sets-append [] ws l i = rw (add-zero i)
+sets-append (v ∷ vs) ws l i =
+    let z : i + suc (length vs) ≡ suc i + length vs = omega arith in
+    rw z (sets-append vs ws (set l i v) (suc i))
+
+-- a turn of the loop that lays bytes
+pub lay-more : (out src : List ℕ) (at i : ℕ) → i < length src → set (sets out at (take i src)) (at + i) (getD src i 0) ≡ sets out at (take (i + 1) src)
+lay-more out src at i h =
+    let l : length (take i src) ≡ i = length-take-le i src (omega arith) in
+    rw (add-one i, take-suc src i 0 h) ((rw l at (sets-append (take i src) (getD src i 0 ∷ []) out at)))
+
+-- the gap, filled
+pub filled : (b : List ℕ) (n k : ℕ) (rec : List ℕ) → k ≤ n → 264 * n + 264 ≤ length b → length rec ≡ 264 →
+    sets (take (264 * k + 264) b ++ (take (264 * n - 264 * k) (drop (264 * k) b) ++ drop (264 * n + 264) b)) (264 * k) rec
+    ≡ take (264 * k) b ++ (rec ++ (take (264 * n - 264 * k) (drop (264 * k) b) ++ drop (264 * n + 264) b))
+filled b n k rec h f e =
+    let t = take (264 * k + 264) b in
+    let u = take (264 * n - 264 * k) (drop (264 * k) b) ++ drop (264 * n + 264) b in
+    let lt : length t ≡ 264 * k + 264 = length-take-le (264 * k + 264) b (omega arith) in
+    sets-eq rec (t ++ u) (264 * k) (omega (arith, length-append t u)) ∙
+    rw (take-append-le (264 * k) t u (omega arith), take-take (264 * k) (264 * k + 264) b (omega arith), e, drop-at t u (264 * k + 264) lt, append-assoc (take (264 * k) b) rec u)
+
+-- what a writer of a field leaves, where there is room
+put-sets : (bs : List ℕ) (at : ℕ) (s x : List ℕ) (r : Bool) → 0 < length bs → length bs ≤ length s - at → put r x ≡ putAt bs at s → x ≡ sets s at bs
+put-sets bs at s x r some h e = ap (λ p. p .bytes) (e ∙ put-whole bs at s some h)
+
+pub field-sets : (w n at : ℕ) (s x : List ℕ) (r : Bool) → 0 < w → w ≤ length s - at → put r x ≡ putAt (bytesOf w n) at s → x ≡ sets s at (bytesOf w n)
+field-sets w n at s x r some h e =
+    let l : length (bytesOf w n) ≡ w = length-digitsIn 256 w n in
+    put-sets (bytesOf w n) at s x r (omega arith) (omega arith) e
+
+sets-cons : (x : ℕ) (d vs : List ℕ) (i : ℕ) → sets (x ∷ d) (suc i) vs ≡ x ∷ sets d i vs
+sets-cons x d [] i = refl
+sets-cons x d (v ∷ vs) i = sets-cons x (set d i v) vs (suc i)
+
+sets-nil : (vs : List ℕ) (i : ℕ) → sets [] i vs ≡ []
+sets-nil [] i = refl
+sets-nil (v ∷ vs) i = sets-nil vs (suc i)
+
+pub sets-over : (vs d : List ℕ) → sets d 0 vs ≡ over vs d
+sets-over [] d = refl
+sets-over (v ∷ vs) [] = sets-nil vs 1
+sets-over (v ∷ vs) (x ∷ d) = sets-cons v d vs 0 ∙ ap (λ (l : List ℕ). v ∷ l) (sets-over vs d)
+
+sets-after : (front d vs : List ℕ) → sets (front ++ d) (length front) vs ≡ front ++ over vs d
+sets-after [] d vs = sets-over vs d
+sets-after (x ∷ front) d vs = sets-cons x (front ++ d) vs (length front) ∙ ap (λ (l : List ℕ). x ∷ l) (sets-after front d vs)
+
+-- id, kind, length and payload over zeros
+laid-eight : (d : List ℕ) (u kind n : ℕ) (p : List ℕ) →
+    sets (sets (set (sets (0 ∷ 0 ∷ 0 ∷ 0 ∷ 0 ∷ 0 ∷ 0 ∷ 0 ∷ d) 0 (bytesOf 4 u)) 4 kind) 6 (bytesOf 2 n)) 8 p
+    ≡ bytesOf 4 u ++ (kind ∷ 0 ∷ (bytesOf 2 n ++ over p d))
+unfolding digitsIn
+laid-eight d u kind n p = sets-after (bytesOf 4 u ++ (kind ∷ 0 ∷ bytesOf 2 n)) d p
+
+pub laid-whole : (u kind : ℕ) (p : List ℕ) →
+    laidFrom (sets (replicate 264 0) 0 (bytesOf 4 u)) kind p ≡ bytesOf 4 u ++ (kind ∷ 0 ∷ (bytesOf 2 (length p) ++ zeroFilled 256 p))
+laid-whole u kind p = laid-eight (replicate 256 0) u kind (length p) p
+
+-- a string's bytes, the first n of those lent
+pub take-least : (n : ℕ) (s : List ℕ) → take (min n (length s)) s ≡ take n s
+take-least zero s = rw zero-min
+take-least (suc n) [] = rw min-zero
+take-least (suc n) (a ∷ s) = rw suc-min-suc (ap (λ (l : List ℕ). a ∷ l) (take-least n s))
+
+pub string-laid : (o mid last s : List ℕ) (n len : ℕ) → len ≡ min n (length s) → mid ≡ sets (set o 4 2) 6 (bytesOf 2 len) → last ≡ sets mid 8 (take len s) →
+    last ≡ laidFrom o 2 (take n s)
+string-laid o mid last s n len l e f =
+    let t : take len s ≡ take n s = ap (λ (m : ℕ). take m s) l ∙ take-least n s in
+    let z : len ≡ length (take n s) = l ∙ sym (length-take n s) in
+    f ∙ ap (λ (q : List ℕ). sets mid 8 q) t ∙ ap (λ (q : List ℕ). sets q 8 (take n s)) (e ∙ ap (λ (m : ℕ). sets (set o 4 2) 6 (bytesOf 2 m)) z)
+
+-- the record of an entry
+pub record-laid : (id : ℤ) (v : NodeValue) (o a b last : List ℕ) → length o ≡ 264 → a ≡ replicate (length o) 0 → b ≡ sets a 0 (bytesOf 4 (unsigned 31 id)) →
+    last ≡ laidFrom b (kindOf v) (payloadOf v) → last ≡ recordOf (entry id v)
+unfolding recordOf
+record-laid id v o a b last h ea eb el =
+    let zero-all : a ≡ replicate 264 0 = ea ∙ ap (λ (n : ℕ). replicate n 0) h in
+    let all : b ≡ sets (replicate 264 0) 0 (bytesOf 4 (unsigned 31 id)) = eb ∙ ap (λ (l : List ℕ). sets l 0 (bytesOf 4 (unsigned 31 id))) zero-all in
+    el ∙ ap (λ (l : List ℕ). laidFrom l (kindOf v) (payloadOf v)) all ∙ laid-whole (unsigned 31 id) (kindOf v) (payloadOf v)

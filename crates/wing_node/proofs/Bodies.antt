@@ -1,0 +1,7 @@
+-- Definitions: fields in a row, read and written anew.
+pub mod Cases
+pub mod Fields
+pub mod Round
+pub mod Whole
+pub mod Flags
+pub mod Anew

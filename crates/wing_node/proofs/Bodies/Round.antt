@@ -1,0 +1,148 @@
+-- The round trips, for any list of fields: one induction each.
+-- Assumes nothing.
+use mathlib.Core.Path.{_≡_, refl, _∙_, ap, sym}
+use mathlib.Core.Bool.{Bool, true, false}
+use mathlib.Core.List.{List, [], _∷_, _++_, append-assoc}
+use Prim.Native.Nat.{ℕ, zero, suc, _+_, _-_, _≤_, _<_}
+use native.Mathlib.Omega.{arith}
+use lib.ListN.{length, take, drop, getD, length-append, length-drop, take-append-drop}
+use lib.Seq.{take-append-seam, drop-append-seam, drop-drop, getD-drop, length-take-le}
+use lib.Dec.{ltb, eqb}
+use borrow.Author.Tests.{eq-eqb, ne-eqb, lt-ltb, le-ltb, ltb-false}
+use Rattle.wing_node.specs.Bool.{if}
+use Rattle.wing_node.specs.Utf8.{utf8}
+use Rattle.wing_node.specs.Field.{big, bytesOf}
+use Rattle.wing_node.specs.Cursor.{Field, number, string, size, content, right, fault, valueOf, begins, from, cursor, fieldRead, readAt, reads, after}
+use Rattle.wing_node.specs.Laid.{held, heldAll, laid, laidAll, Fits, FitsAll, none, more, numberOf, readings, contents}
+use Rattle.wing_node.specs.declared.cursor.Cursor.{Cursor}
+use Rattle.wing_node.specs.declared.cursor.FieldRead.{FieldRead}
+use Rattle.wing_node.proofs.Bodies.Cases.{read-refused, read-there}
+use Rattle.wing_node.proofs.Bodies.Fields.{after-refused}
+use Rattle.wing_node.proofs.Numerals.Numbers.{Digits, digits-take, digits-drop, digits-number}
+
+-- one field, laid before a rest
+laid-size : (f : Field) (v rest : List ℕ) → Fits f v → size f (laid f v ++ rest) ≡ length (laid f v)
+unfolding laid size
+laid-size (number w) v rest h = sym h
+laid-size string v rest h = omega arith
+
+laid-right : (f : Field) (v rest : List ℕ) → Fits f v → right f (laid f v ++ rest) ≡ true
+unfolding laid right content
+laid-right (number w) v rest h = refl
+laid-right string v rest h = ap utf8 (take-append-seam v rest) ∙ h
+
+laid-value : (f : Field) (v rest : List ℕ) → Fits f v → valueOf f (laid f v ++ rest) ≡ numberOf f v
+unfolding laid valueOf numberOf
+laid-value (number w) v rest h = rw (← h, take-append-seam)
+laid-value string v rest h = refl
+
+laid-read : (f : Field) (v front rest : List ℕ) → Fits f v →
+    readAt f (front ++ (laid f v ++ rest)) (cursor (length front) 0) ≡
+    fieldRead (numberOf f v) (begins f (length front)) (cursor (length front + length (laid f v)) 0)
+laid-read f v front rest h =
+    let body = front ++ (laid f v ++ rest) in
+    let seam : drop (length front) body ≡ laid f v ++ rest = drop-append-seam front (laid f v ++ rest) in
+    let fits : size f (drop (length front) body) ≤ length body - length front =
+    rw (seam, laid-size f v rest h) (simp length-append (omega arith)) in
+    let good : right f (drop (length front) body) ≡ true = rw seam (laid-right f v rest h) in
+    read-there f body (cursor (length front) 0) refl fits good ∙ rw (seam, laid-size f v rest h, laid-value f v rest h)
+
+-- what is laid reads back, whatever stands before and after it
+pub reads-laid : {fs : List Field} {vs : List (List ℕ)} (front rest : List ℕ) → FitsAll fs vs →
+    (reads fs (front ++ (laidAll fs vs ++ rest)) (cursor (length front) 0) ≡ readings fs vs (length front)) ×
+    (after fs (front ++ (laidAll fs vs ++ rest)) (cursor (length front) 0) ≡ cursor (length front + length (laidAll fs vs)) 0)
+unfolding reads laidAll readings after
+reads-laid front rest none = let e : length front + 0 ≡ length front = omega arith in (refl, rw e)
+reads-laid front rest (more {f} {v} {fs} {vs} h hs) =
+    let tail = laidAll fs vs in
+    let next = length front + length (laid f v) in
+    let read = fieldRead (numberOf f v) (begins f (length front)) (cursor next 0) in
+    let apart : front ++ ((laid f v ++ tail) ++ rest) ≡ (front ++ laid f v) ++ (tail ++ rest) = simp append-assoc in
+    let first : readAt f (front ++ ((laid f v ++ tail) ++ rest)) (cursor (length front) 0) ≡ read =
+    rw append-assoc (laid-read f v front (tail ++ rest) h) in
+    let others = rw length-append at (reads-laid (front ++ laid f v) rest hs) in (
+      rw first (rw apart (ap (λ l. read ∷ l) (others .0))),
+      rw first (rw apart (others .1 ∙ ap (λ n. cursor n 0) (simp length-append (omega arith)))),
+    )
+
+-- a field that is not refused is there, and is laid anew as it was
+not-short : (b g : Bool) → _≡_ {A = ℕ} (if b 4 (if g 0 5)) 0 → b ≡ false
+not-short true g h = absurd (omega arith)
+not-short false g h = refl
+
+there : (f : Field) (s : List ℕ) → fault f s ≡ 0 → size f s ≤ length s
+unfolding fault
+there f s h = ltb-false _ _ (not-short (ltb (length s) (size f s)) (right f s) h)
+
+relaid : (f : Field) (s : List ℕ) → size f s ≤ length s → s ≡ laid f (content f s) ++ drop (size f s) s
+unfolding laid content size
+relaid (number w) s h = sym (take-append-drop w s)
+relaid string [] h = absurd (omega arith)
+relaid string (b ∷ s) h =
+    let e : 1 + b ≡ suc b = omega arith in
+    rw (e, length-take-le b s (omega arith)) (ap (λ l. b ∷ l) (sym (take-append-drop b s)))
+
+-- a read that ends without refusal began without, and found its field
+clear : (f : Field) (body : List ℕ) (c : Cursor) (n : ℕ) → c .refused ≡ n → readAt f body c .next .refused ≡ 0 → c .refused ≡ 0
+clear f body c zero e h = e
+clear f body c (suc n) e h = absurd (let r = rw (read-refused f body c (λ z. omega arith)) at h in omega arith)
+
+faultless : (f : Field) (body : List ℕ) (c : Cursor) (n : ℕ) → c .refused ≡ 0 → fault f (from body c) ≡ n →
+    readAt f body c .next .refused ≡ 0 → n ≡ 0
+unfolding readAt
+faultless f body c zero z e h = refl
+faultless f body c (suc n) z e h = absurd (let r : suc n ≡ 0 = simp (eq-eqb _ _ z, e, ne-eqb (suc n) 0 (λ x. omega arith)) at h in omega arith)
+
+moved : (f : Field) (body : List ℕ) (c : Cursor) → c .refused ≡ 0 → fault f (from body c) ≡ 0 → readAt f body c .next ≡ cursor (c .at + size f (from body c)) 0
+unfolding readAt
+moved f body c z e = simp (eq-eqb _ _ z, eq-eqb _ _ e)
+
+-- what was read is laid anew as it was
+pub laid-reads : (fs : List Field) (body : List ℕ) (c : Cursor) → after fs body c .refused ≡ 0 →
+    (c .refused ≡ 0) × (from body c ≡ laidAll fs (contents fs body c) ++ from body (after fs body c))
+unfolding after contents laidAll
+laid-reads [] body c h = (h, refl)
+laid-reads (f ∷ fs) body c h =
+    let next = readAt f body c .next in
+    let others = laid-reads fs body next h in
+    let z = clear f body c (c .refused) refl (others .0) in
+    let e = faultless f body c (fault f (from body c)) z refl (others .0) in
+    let field = relaid f (from body c) (there f (from body c) e) in
+    let rest : drop (size f (from body c)) (from body c) ≡ from body next = drop-drop (size f (from body c)) (c .at) body ∙ sym (ap (from body) (moved f body c z e)) in
+    (z, field ∙ ap (λ l. laid f (content f (from body c)) ++ l) (rest ∙ others .1) ∙ sym (append-assoc (laid f (content f (from body c))) (laidAll fs (contents fs body next)) (from body (after fs body next))))
+
+-- what fields held is told by their readings: a body of bytes is laid anew from the numbers, places and lengths that were read
+held-content : (f : Field) (body : List ℕ) (c : Cursor) → Digits 256 body → size f (from body c) ≤ length (from body c) →
+    content f (from body c) ≡ held body f (fieldRead (valueOf f (from body c)) (begins f (c .at)) (cursor 0 0))
+unfolding content valueOf begins size
+held-content (number w) body c b h = sym (digits-number 256 w _ (length-take-le w (from body c) h) (digits-take 256 w (from body c) (digits-drop 256 (c .at) body b)))
+held-content string body c b h = ap (take (getD (from body c) 0 0)) (drop-drop 1 (c .at) body)
+
+said : (f : Field) (body : List ℕ) (c : Cursor) → c .refused ≡ 0 → fault f (from body c) ≡ 0 →
+    readAt f body c ≡ fieldRead (valueOf f (from body c)) (begins f (c .at)) (cursor (c .at + size f (from body c)) 0)
+unfolding readAt
+said f body c z e = simp (eq-eqb _ _ z, eq-eqb _ _ e)
+
+same-held : (body : List ℕ) (f : Field) (r r' : FieldRead) → r .value ≡ r' .value → r .start ≡ r' .start → held body f r ≡ held body f r'
+same-held body (number w) r r' e e' = ap (bytesOf w) e
+same-held body string r r' e e' = rw (e, e')
+
+pub contents-held : (fs : List Field) (body : List ℕ) (c : Cursor) → Digits 256 body → after fs body c .refused ≡ 0 →
+    contents fs body c ≡ heldAll body fs (reads fs body c)
+unfolding after contents reads
+contents-held [] body c b h = refl
+contents-held (f ∷ fs) body c b h =
+    let next = readAt f body c .next in
+    let rest = contents-held fs body next b h in
+    let good = laid-reads fs body next h .0 in
+    let z = clear f body c (c .refused) refl good in
+    let e = faultless f body c (fault f (from body c)) z refl good in
+    let one = held-content f body c b (there f (from body c) e) ∙
+    same-held body f _ (readAt f body c) (ap (λ (r : FieldRead). r .value) (sym (said f body c z e))) (ap (λ (r : FieldRead). r .start) (sym (said f body c z e))) in
+    rw (one, rest)
+
+-- the number of a field that was not refused
+pub value-read : (f : Field) (body : List ℕ) (c : Cursor) → readAt f body c .next .refused ≡ 0 → readAt f body c .value ≡ valueOf f (from body c)
+value-read f body c h =
+    let z = clear f body c (c .refused) refl h in
+    ap (λ (r : FieldRead). r .value) (said f body c z (faultless f body c (fault f (from body c)) z refl h))

@@ -1,0 +1,61 @@
+-- The rows that a byte begins, and what the code decides of a lead byte: one test, computed at each of 256 bytes.
+use Prim.Native.Nat.{ℕ, _-_, _<_}
+use mathlib.Core.Bool.{Bool}
+use mathlib.Core.Path.{_≡_}
+use mathlib.Core.List.{List, [], _∷_}
+use lib.Count.{leadingZeros}
+use lib.Dec.{T, eqb, ltb, eqb→eq}
+use lib.ListN.{take, drop, replicate}
+use Rattle.wing_node.specs.Bool.{if}
+use Rattle.wing_node.specs.Utf8.{Range, utf8Tail, chars, holds, begins, firstThat, rowOf, leadLength, second}
+use Rattle.wing_node.proofs.Below.{both, both-left, both-right, below}
+use Rattle.wing_node.proofs.Characters.Rows.{alone, same, same-eq}
+
+abbrev pub leads : ℕ → List Range → Bool
+leads b row = begins (take 1 row) (b ∷ [])
+
+-- what the grammar has after a lead byte
+abbrev pub rest : ℕ → List Range
+rest b = if (ltb (leadLength b) 2) [] (second b ∷ replicate (leadLength b - 2) utf8Tail)
+
+-- what the code decides
+abbrev pub byOnes : ℕ → ℕ → ℕ
+byOnes ones b = if (eqb ones 0) 1 (if (eqb ones 2) (if (ltb b 0xc2) 0 2) (if (eqb ones 3) 3 (if (eqb ones 4) (if (ltb b 0xf5) 4 0) 0)))
+
+abbrev pub lowOf : ℕ → ℕ
+lowOf b = if (eqb b 0xe0) 0xa0 (if (eqb b 0xf0) 0x90 0x80)
+
+abbrev pub highOf : ℕ → ℕ
+highOf b = if (eqb b 0xed) 0x9f (if (eqb b 0xf4) 0x8f 0xbf)
+
+-- what holds of a lead byte: at most one row has it, and the code decides as that row says
+pub record Lead (b : ℕ) : Type 0 where
+  pub one : T (alone (leads b) chars)
+  pub follows : drop 1 (rowOf b) ≡ rest b
+  pub long : byOnes (leadingZeros 8 (255 - b)) b ≡ leadLength b
+  pub lowest : lowOf b ≡ second b .low
+  pub highest : highOf b ≡ second b .high
+
+agrees : ℕ → Bool
+agrees b =
+    both (alone (leads b) chars) (both (same (drop 1 (rowOf b)) (rest b))
+    (both (eqb (byOnes (leadingZeros 8 (255 - b)) b) (leadLength b)) (both (eqb (lowOf b) (second b .low)) (eqb (highOf b) (second b .high)))))
+
+computed : (b : ℕ) → b < 256 → T (agrees b)
+unfolding agrees leadingZeros holds begins firstThat rowOf leadLength second
+computed = below agrees 256 tt
+
+pub lead : (b : ℕ) → b < 256 → Lead b
+unfolding agrees
+lead b h =
+    let t = computed b h in
+    let u = both-right (alone (leads b) chars) _ t in
+    let v = both-right (same (drop 1 (rowOf b)) (rest b)) _ u in
+    let w = both-right (eqb (byOnes (leadingZeros 8 (255 - b)) b) (leadLength b)) _ v in
+    record {
+      one = both-left (alone (leads b) chars) _ t;
+      follows = same-eq (drop 1 (rowOf b)) (rest b) (both-left (same (drop 1 (rowOf b)) (rest b)) _ u);
+      long = eqb→eq _ _ (both-left (eqb (byOnes (leadingZeros 8 (255 - b)) b) (leadLength b)) _ v);
+      lowest = eqb→eq _ _ (both-left (eqb (lowOf b) (second b .low)) _ w);
+      highest = eqb→eq _ _ (both-right (eqb (lowOf b) (second b .low)) _ w);
+    }

@@ -1,0 +1,22 @@
+-- From bytes to answers.
+pub mod Nine
+pub mod Columns
+pub mod Zeros
+pub mod Powers
+pub mod Underway
+pub mod Clears
+pub mod Turns
+pub mod Overs
+pub mod Pieces
+pub mod Inners
+pub mod Plains
+pub mod FirstUnits
+pub mod Steps
+pub mod Branches
+pub mod Bounds
+pub mod Sound
+pub mod Ranges
+pub mod Handled
+pub mod Beside
+pub mod Few
+pub mod ByUnits

@@ -1,0 +1,7 @@
+-- From commands and packets to bytes.
+pub mod Lays
+pub mod Choices
+pub mod Sizes
+pub mod Totals
+pub mod Asks
+pub mod Packets
