@@ -4,9 +4,11 @@
 ghost use mathlib.Core.Path.{_≡_};
 ghost use mathlib.Core.List.{_∷_, []};
 ghost use Prim.Native.Nat.{_+_, _*_, _≤_};
-ghost use lib.ListN.{length};
+ghost use lib.ListN.{length, take};
 ghost use Rattle.wing_node.specs.Signed.{unsigned};
-ghost use Rattle.wing_wire.specs.Write.{escaped, field, Laid};
+ghost use Rattle.wing_wire.specs.Write.{escaped, field, Laid, wrote, writeOf};
+use crate::reader::copy_front;
+use crate::write::Written;
 use wing_node::field::bytes_16;
 use wing_node::field::bytes_32;
 use wing_node::field::of_i32;
@@ -74,4 +76,16 @@ pub(crate) fn lay_id(out: &mut [u8], prefix: u8, id: i32) -> usize
 {
     let at = lay(out, 0, prefix);
     lay_32(out, at, of_i32(id))
+}
+
+// The first n bytes laid, to the front of out. 01: output too short for the whole is 9, as it was.
+pub(crate) fn hand_over(out: &mut [u8], laid: &[u8], n: usize) -> Written
+    requires { ⌜ n ≤ length (now laid) ⌝ }
+    ensures { λ r. ⌜ wrote r (now (out .exit)) ≡ writeOf (take n (now (laid .entry))) (now (out .entry)) ⌝ }
+{
+    if out.len() < n {
+        return Written::Refused(9);
+    }
+    copy_front(out, laid, n);
+    Written::Bytes(n)
 }

@@ -7,11 +7,11 @@ ghost use Rattle.wing_node.specs.Field.{big, fieldAt};
 ghost use Rattle.wing_node.specs.Signed.{signed};
 ghost use Rattle.wing_wire.specs.Write.{Laid, wrote, writeOf};
 ghost use Rattle.wing_wire.specs.Meter.{itemOf, itemBytes, metersBytes, requestHead, meterRequest, asked, requestMeter, keepAlive, keepAlives, readings, heard, packetOf};
+use crate::laying::hand_over;
 use crate::laying::lay;
 use crate::laying::lay_8;
 use crate::laying::lay_16;
 use crate::write::Written;
-use crate::write::hand_over;
 use wing_node::field::to_i16;
 use wing_node::field::u16_at;
 

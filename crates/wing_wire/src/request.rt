@@ -2,10 +2,10 @@
 ghost use mathlib.Core.Path.{_≡_};
 ghost use Rattle.wing_wire.specs.Write.{Laid, wrote, writeOf};
 ghost use Rattle.wing_wire.specs.Command.{requestBytes};
+use crate::laying::hand_over;
 use crate::laying::lay;
 use crate::laying::lay_id;
 use crate::write::Written;
-use crate::write::hand_over;
 
 // 01: da and the request for id 0, else d7, id and the request.
 fn lay_request(out: &mut [u8], what: u8, id: i32) -> usize

@@ -5,8 +5,8 @@ use lib.ListN.{length, take, length-take}
 use Rattle.wing_wire.proofs.Writing.Lays.{whole, short}
 use Rattle.wing_wire.proofs.Reading.Overs.{over-whole}
 use borrow.Author.Needs.{needs}
-use Rattle.wing_wire.proofs.write.hand_over.Statement.{statement}
-use Rattle.wing_wire.proofs.write.hand_over.Tie as tie
+use Rattle.wing_wire.proofs.laying.hand_over.Statement.{statement}
+use Rattle.wing_wire.proofs.laying.hand_over.Tie as tie
 
 returns : tie.Need-returns
 returns c =
