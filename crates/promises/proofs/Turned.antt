@@ -26,12 +26,12 @@ use Rattle.wing_mirror.specs.Record.{entry}
 use Rattle.wing_mirror.specs.Table.{usable, fits, lookupOf}
 use Rattle.wing_mirror.specs.Query.{answerOf, lookupAnswer, readOf, recordAnswer, unread, sameTables, sameAnswer}
 use Rattle.wing_mirror.specs.Call.{tooLong, notText}
-use Rattle.wing_mirror.specs.Mirror.{Tallied, keepEvent, Feeding, mirrorFeed, unfed, Setting, mirrorSet, unset}
+use Rattle.wing_mirror.specs.Mirror.{Tallied, keepEvent, Feeding, mirrorFeed, unfed, Setting, mirrorSet, refusedSet}
 use Rattle.wing_mirror.specs.Recall.{recallBytes, recallOf}
 use Rattle.wing_mirror.specs.declared.answer.Lookup.the-variants.{Refused as NotLookedUp}
 use Rattle.wing_mirror.specs.declared.answer.Same.the-variants.{Yes, No, Refused as Uncompared}
 use Rattle.wing_mirror.specs.declared.answer.RecordRead.{RecordRead}
-use Rattle.promises.specs.Lines.{Line, _gives_, first, Told}
+use Rattle.promises.specs.Lines.{Line, _gives_, first, SentBack}
 use Rattle.promises.specs.Lines.{writtenNumber, requestNumber, packetNumber, lookupNumber, recordNumber, sameNumber, feedNumber}
 use Rattle.promises.specs.Refusals.{Refusals, nextLines, commandLines, stringLines, meterLines, packetLines, tableLines, recordLines, sameLines, setLines, feedLines, recallLines}
 use Rattle.promises.proofs.Reading.{advance-says, unit-kept}
@@ -45,13 +45,13 @@ rank (found n) = n + 1
 rank nothing = 0
 
 -- taken, with no line left
-taken : {A : Type 0} (number : A → Found ℕ) (W : A → ℕ → Type 0) (x : A) → number x ≡ nothing → Told [] (number x) (W x)
+taken : {A : Type 0} (number : A → Found ℕ) (W : A → ℕ → Type 0) (x : A) → number x ≡ nothing → SentBack [] (number x) (W x)
 unfolding first
 taken number W x e = record { number = e; as-it-was = λ n p. absurd (let y = ap rank (sym p ∙ e) in omega arith) }
 
 -- sent back by this line, or told by the lines after it
 line : {A : Type 0} (number : A → Found ℕ) (W : A → ℕ → Type 0) (test : Bool) (k : ℕ) (ls : List Line) (x y : A) →
-    number x ≡ found k → W x k → Told ls (number y) (W y) → Told ((test gives k) ∷ ls) (number (if test x y)) (W (if test x y))
+    number x ≡ found k → W x k → SentBack ls (number y) (W y) → SentBack ((test gives k) ∷ ls) (number (if test x y)) (W (if test x y))
 unfolding first
 line number W true k ls x y e w t = record {
   number = e;
@@ -61,17 +61,17 @@ line number W false k ls x y e w t = record { number = t .number; as-it-was = t 
 
 -- the same where the test says that the call goes on
 unless : {A : Type 0} (number : A → Found ℕ) (W : A → ℕ → Type 0) (test : Bool) (k : ℕ) (ls : List Line) (x y : A) →
-    number x ≡ found k → W x k → Told ls (number y) (W y) → Told ((not test gives k) ∷ ls) (number (if test y x)) (W (if test y x))
+    number x ≡ found k → W x k → SentBack ls (number y) (W y) → SentBack ((not test gives k) ∷ ls) (number (if test y x)) (W (if test y x))
 unless number W true k ls x y e w t = line number W false k ls x y e w t
 unless number W false k ls x y e w t = line number W true k ls x y e w t
 
 -- the last line: sent back by it, or taken
 last-line : {A : Type 0} (number : A → Found ℕ) (W : A → ℕ → Type 0) (test : Bool) (k : ℕ) (x y : A) →
-    number x ≡ found k → W x k → number y ≡ nothing → Told ((test gives k) ∷ []) (number (if test x y)) (W (if test x y))
+    number x ≡ found k → W x k → number y ≡ nothing → SentBack ((test gives k) ∷ []) (number (if test x y)) (W (if test x y))
 last-line number W test k x y e w t = line number W test k [] x y e w (taken number W y t)
 
 last-unless : {A : Type 0} (number : A → Found ℕ) (W : A → ℕ → Type 0) (test : Bool) (k : ℕ) (x y : A) →
-    number x ≡ found k → W x k → number y ≡ nothing → Told ((not test gives k) ∷ []) (number (if test y x)) (W (if test y x))
+    number x ≡ found k → W x k → number y ≡ nothing → SentBack ((not test gives k) ∷ []) (number (if test y x)) (W (if test y x))
 last-unless number W test k x y e w t = unless number W test k [] x y e w (taken number W y t)
 
 -- ---- the wire
@@ -101,14 +101,14 @@ reading-turned s bytes = go (soundState s) (leb (length bytes) 65536)
 abbrev writes : Wrote → Found ℕ
 writes x = writtenNumber (x .answer)
 
-command-turned : (bytes out : List ℕ) → Told (commandLines bytes out) (writtenNumber (writeOf bytes out .answer)) (λ n. writeOf bytes out .out ≡ out)
+command-turned : (bytes out : List ℕ) → SentBack (commandLines bytes out) (writtenNumber (writeOf bytes out .answer)) (λ n. writeOf bytes out .out ≡ out)
 unfolding writeOf
 command-turned bytes out = last-line writes W (ltb (length out) (length bytes)) 9 _ _ refl refl refl
   where
     W : Wrote → ℕ → Type 0
     W x n = x .out ≡ out
 
-string-turned : (id : ℤ) (s out : List ℕ) → Told (stringLines id s out) (writtenNumber (setString id s out .answer)) (λ n. setString id s out .out ≡ out)
+string-turned : (id : ℤ) (s out : List ℕ) → SentBack (stringLines id s out) (writtenNumber (setString id s out .answer)) (λ n. setString id s out .out ≡ out)
 unfolding setString
 string-turned id s out =
     unless writes W (leb (length s) 256) 10 _ _ _ refl refl
@@ -118,7 +118,7 @@ string-turned id s out =
     W x n = x .out ≡ out
 
 meters-turned : (port last : ℕ) (ms : List Meter) (count : ℕ) (out : List ℕ) →
-    Told (meterLines port last ms count out) (requestNumber (requestMeter port last ms count out .answer)) (λ n. requestMeter port last ms count out .out ≡ out)
+    SentBack (meterLines port last ms count out) (requestNumber (requestMeter port last ms count out .answer)) (λ n. requestMeter port last ms count out .out ≡ out)
 unfolding requestMeter askOf
 meters-turned port last ms count out =
     unless asks W (leb count 64) 11 _ _ _ refl refl
@@ -131,7 +131,7 @@ meters-turned port last ms count out =
     W : Asked → ℕ → Type 0
     W x n = x .out ≡ out
 
-packet-turned : (p : List ℕ) (out : List ℤ) → Told (packetLines p out) (packetNumber (packetOf p out .answer)) (λ n. packetOf p out .out ≡ out)
+packet-turned : (p : List ℕ) (out : List ℤ) → SentBack (packetLines p out) (packetNumber (packetOf p out .answer)) (λ n. packetOf p out .out ≡ out)
 unfolding packetOf
 packet-turned p out =
     line hears W (ltb (length p) 4) 13 _ _ _ refl refl
@@ -155,7 +155,7 @@ lookup-turned t id = go (usable t) (lookupOf id t)
     go true nothing = refl
     go false f = refl
 
-record-turned : (t : Table) (number : ℕ) → Told (recordLines t number) (recordNumber (recordAnswer t number .answer)) (λ n. recordAnswer t number ≡ unread n)
+record-turned : (t : Table) (number : ℕ) → SentBack (recordLines t number) (recordNumber (recordAnswer t number .answer)) (λ n. recordAnswer t number ≡ unread n)
 unfolding recordAnswer readOf
 record-turned t number =
     unless reads W (usable t) 7 _ _ _ refl refl (last-unless reads W (ltb number (t .count)) 14 _ _ refl refl refl)
@@ -176,7 +176,7 @@ same-turned t u = go (usable t) (usable u) (sameTables t u)
     go true false c = refl
     go false b c = refl
 
-set-turned : (id : ℤ) (v : NodeValue) (t : Table) (out : List ℕ) → Told (setLines id v t out) (writtenNumber (mirrorSet id v t out .answer)) (λ n. mirrorSet id v t out ≡ unset n t out)
+set-turned : (id : ℤ) (v : NodeValue) (t : Table) (out : List ℕ) → SentBack (setLines id v t out) (writtenNumber (mirrorSet id v t out .answer)) (λ n. mirrorSet id v t out ≡ refusedSet n t out)
 unfolding mirrorSet
 set-turned id v t out =
     line sets W (not (usable t)) 7 _ _ _ refl refl
@@ -189,9 +189,9 @@ set-turned id v t out =
     sets x = writtenNumber (x .answer)
 
     W : Setting → ℕ → Type 0
-    W x n = x ≡ unset n t out
+    W x n = x ≡ refusedSet n t out
 
-feed-turned : (s : State) (t : Table) (bytes : List ℕ) → Told (feedLines s t bytes) (feedNumber (mirrorFeed s t bytes .answer)) (λ n. mirrorFeed s t bytes ≡ unfed n s t)
+feed-turned : (s : State) (t : Table) (bytes : List ℕ) → SentBack (feedLines s t bytes) (feedNumber (mirrorFeed s t bytes .answer)) (λ n. mirrorFeed s t bytes ≡ unfed n s t)
 unfolding mirrorFeed
 feed-turned s t bytes =
     unless feeds W (soundState s) 8 _ _ _ refl refl
@@ -208,7 +208,7 @@ unplaced-turned : (node : ℤ) (v : NodeValue) (k : Tallied) → fits (entry nod
 unfolding keepEvent
 unplaced-turned node v k e = rw e
 
-recall-turned : (t : Table) (out : List ℕ) → Told (recallLines t out) (writtenNumber (recallOf t out .answer)) (λ n. recallOf t out .out ≡ out)
+recall-turned : (t : Table) (out : List ℕ) → SentBack (recallLines t out) (writtenNumber (recallOf t out .answer)) (λ n. recallOf t out .out ≡ out)
 unfolding recallOf
 recall-turned t out = unless writes W (usable t) 7 _ _ _ refl refl (command-turned (recallBytes t) out)
   where

@@ -36,7 +36,7 @@ first [] = nothing
 first (l ∷ ls) = if (l .applies) (found (l .number)) (first ls)
 
 -- a call, by the number that its answer says: it is sent back as the lines have it, and then all is as it was
-pub record Told (lines : List Line) (said : Found ℕ) (AsItWas : ℕ → Type 0) : Type 0 where
+pub record SentBack (lines : List Line) (said : Found ℕ) (AsItWas : ℕ → Type 0) : Type 0 where
   pub number : said ≡ first lines
   pub as-it-was : (n : ℕ) → said ≡ found n → AsItWas n
 

@@ -31,9 +31,9 @@ use Rattle.wing_mirror.specs.Record.{entry}
 use Rattle.wing_mirror.specs.Table.{usable, fits}
 use Rattle.wing_mirror.specs.Query.{lookupAnswer, recordAnswer, unread, sameAnswer}
 use Rattle.wing_mirror.specs.Call.{tooLong, notText}
-use Rattle.wing_mirror.specs.Mirror.{Tallied, keepEvent, mirrorFeed, unfed, mirrorSet, unset}
+use Rattle.wing_mirror.specs.Mirror.{Tallied, keepEvent, mirrorFeed, unfed, mirrorSet, refusedSet}
 use Rattle.wing_mirror.specs.Recall.{recallBytes, recallOf}
-use Rattle.promises.specs.Lines.{Line, _gives_, first, Told}
+use Rattle.promises.specs.Lines.{Line, _gives_, first, SentBack}
 use Rattle.promises.specs.Lines.{writtenNumber, requestNumber, packetNumber, lookupNumber, recordNumber, sameNumber, feedNumber}
 
 -- ---- 01's lines, call by call, in the order in which they apply
@@ -60,7 +60,7 @@ abbrev pub packetLines : List ℕ → List ℤ → List Line
 packetLines p out =
     (ltb (length p) 4 gives 13) ∷ (ltb 8192 (length p) gives 13) ∷ (ltb (length out) (length (readings (drop 4 p))) gives 9) ∷ []
 
--- a table that is asked: not usable; and a number that is not below the count
+-- a table that is asked: not usable
 abbrev pub tableLines : Table → List Line
 tableLines t = (not (usable t) gives 7) ∷ []
 
@@ -101,22 +101,22 @@ pub record Refusals : Type 0 where
   pub begin : (body : List ℕ) (n : ℕ) → beginOf body ≡ Unbegun n → In n (4 ∷ 5 ∷ [])
   pub step : (body : List ℕ) (at left : ℕ) (kind : NodeType) (n : ℕ) → stepAt body at left kind .item ≡ NoItem n → In n (4 ∷ 5 ∷ []) × (stepAt body at left kind .next ≡ walk at left kind)
   pub item : (body : List ℕ) (number n : ℕ) → itemNumbered body number ≡ NoItem n → In n (4 ∷ 5 ∷ 14 ∷ [])
-  -- every command of given bytes (set orders of numbers, requests, keep-alive): the output as it was
-  pub command : (bytes out : List ℕ) → Told (commandLines bytes out) (writtenNumber (writeOf bytes out .answer)) (λ n. writeOf bytes out .out ≡ out)
-  pub string : (id : ℤ) (s out : List ℕ) → Told (stringLines id s out) (writtenNumber (setString id s out .answer)) (λ n. setString id s out .out ≡ out)
+  -- every command of given bytes (set orders of numbers, format_id, requests, keep-alive): the output as it was
+  pub command : (bytes out : List ℕ) → SentBack (commandLines bytes out) (writtenNumber (writeOf bytes out .answer)) (λ n. writeOf bytes out .out ≡ out)
+  pub string : (id : ℤ) (s out : List ℕ) → SentBack (stringLines id s out) (writtenNumber (setString id s out .answer)) (λ n. setString id s out .out ≡ out)
   pub meters : (port last : ℕ) (ms : List Meter) (count : ℕ) (out : List ℕ) →
-      Told (meterLines port last ms count out) (requestNumber (requestMeter port last ms count out .answer)) (λ n. requestMeter port last ms count out .out ≡ out)
+      SentBack (meterLines port last ms count out) (requestNumber (requestMeter port last ms count out .answer)) (λ n. requestMeter port last ms count out .out ≡ out)
   -- a meter packet: the readings' buffer as it was
-  pub packet : (p : List ℕ) (out : List ℤ) → Told (packetLines p out) (packetNumber (packetOf p out .answer)) (λ n. packetOf p out .out ≡ out)
+  pub packet : (p : List ℕ) (out : List ℤ) → SentBack (packetLines p out) (packetNumber (packetOf p out .answer)) (λ n. packetOf p out .out ≡ out)
   -- a table that is asked: it is lent to be read alone; with a refused record the string's bytes are all 0
   pub lookup : (t : Table) (id : ℤ) → lookupNumber (lookupAnswer t id) ≡ first (tableLines t)
-  pub record-read : (t : Table) (number : ℕ) → Told (recordLines t number) (recordNumber (recordAnswer t number .answer)) (λ n. recordAnswer t number ≡ unread n)
+  pub record-read : (t : Table) (number : ℕ) → SentBack (recordLines t number) (recordNumber (recordAnswer t number .answer)) (λ n. recordAnswer t number ≡ unread n)
   pub same : (t u : Table) → sameNumber (sameAnswer t u) ≡ first (sameLines t u)
   -- a set through the mirror: table and output as they were
-  pub set : (id : ℤ) (v : NodeValue) (t : Table) (out : List ℕ) → Told (setLines id v t out) (writtenNumber (mirrorSet id v t out .answer)) (λ n. mirrorSet id v t out ≡ unset n t out)
+  pub set : (id : ℤ) (v : NodeValue) (t : Table) (out : List ℕ) → SentBack (setLines id v t out) (writtenNumber (mirrorSet id v t out .answer)) (λ n. mirrorSet id v t out ≡ refusedSet n t out)
   -- a feed: state and table as they were, nothing counted
-  pub feed : (s : State) (t : Table) (bytes : List ℕ) → Told (feedLines s t bytes) (feedNumber (mirrorFeed s t bytes .answer)) (λ n. mirrorFeed s t bytes ≡ unfed n s t)
+  pub feed : (s : State) (t : Table) (bytes : List ℕ) → SentBack (feedLines s t bytes) (feedNumber (mirrorFeed s t bytes .answer)) (λ n. mirrorFeed s t bytes ≡ unfed n s t)
   -- within a feed: a value for which there is no place leaves the records as they were
   pub unplaced : (node : ℤ) (v : NodeValue) (k : Tallied) → fits (entry node v) (k .table) ≡ false → keepEvent node (value v) k .table ≡ k .table
   -- recall: the output as it was
-  pub recall : (t : Table) (out : List ℕ) → Told (recallLines t out) (writtenNumber (recallOf t out .answer)) (λ n. recallOf t out .out ≡ out)
+  pub recall : (t : Table) (out : List ℕ) → SentBack (recallLines t out) (writtenNumber (recallOf t out .answer)) (λ n. recallOf t out .out ≡ out)

@@ -27,7 +27,8 @@ pub fn demand_2_in_pieces()
     ensures { λ _. ⌜ RoundTripPieces (λ node e (rs : List Reading). rs ++ (reading node e ∷ [])) ⌝ }
 {}
 
-// Demand 2, for definitions of all eight types: fields that fit their forms, one after the other, are read as these fields.
+// Demand 2, for definitions of all eight types: fields that fit their forms, one after the other, are read as these fields, with
+// the numbers and the bytes that they hold.
 pub fn demand_2_definitions()
     ensures { λ _. ⌜ ReadsBack ⌝ }
 {}

@@ -13,7 +13,7 @@ use Rattle.wing_wire.specs.declared.write.Written.{Written}
 use Rattle.wing_wire.specs.declared.write.Written.the-variants.{Bytes, Refused}
 use Rattle.wing_mirror.specs.Rows.{Table, All, places, joined, insert, In}
 use Rattle.wing_mirror.specs.Record.{Entry, width, risingIds, ids, rankOf, recordOf, entryIn, wellFormed}
-use Rattle.wing_mirror.specs.Table.{table, rows, every, soundTable, inRange, usable}
+use Rattle.wing_mirror.specs.Table.{table, rows, every, soundTable, placesAllowed, usable}
 use Rattle.wing_mirror.specs.Recall.{recallBytes, recallOf}
 use Rattle.wing_mirror.specs.Query.{sameAnswer}
 use Rattle.wing_mirror.specs.Counts.{total}
@@ -139,20 +139,20 @@ Equality = (b c : List ℕ) (xs ys : List Call) → All TypedCall xs → All Typ
 
 -- and the call that compares them says so
 abbrev pub Comparing : Type 0
-Comparing = (b c : List ℕ) (xs ys : List Call) → All TypedCall xs → All TypedCall ys → inRange (placesIn b) ≡ true → inRange (placesIn c) ≡ true →
+Comparing = (b c : List ℕ) (xs ys : List Call) → All TypedCall xs → All TypedCall ys → placesAllowed (placesIn b) ≡ true → placesAllowed (placesIn c) ≡ true →
     ((sameAnswer (mirrorRun b xs .state .table) (mirrorRun c ys .state .table) ≡ Yes)
     ↔ SameMap (machineRun (placesIn b) xs .state .map) (machineRun (placesIn c) ys .state .map))
 
 -- recall of a mirror with 1 to 1,024 places, after any history: its bytes, or 9 where the output is too short for them
 abbrev pub Recalling : Type 0
-Recalling = (b : List ℕ) (calls : List Call) → All TypedCall calls → inRange (placesIn b) ≡ true → (out : List ℕ) →
+Recalling = (b : List ℕ) (calls : List Call) → All TypedCall calls → placesAllowed (placesIn b) ≡ true → (out : List ℕ) →
     let t = mirrorRun b calls .state .table in
     recallOf t out ≡ writeOf (recallBytes t) out
 
 -- feeds of at most 65,536 bytes each, to a fresh mirror with 1 to 1,024 places and at least as many as t has records, whose bytes join
 -- to what recall writes of t, make it equal to t
 abbrev pub Rebuilds : Table → Type 0
-Rebuilds t = (buffer : List ℕ) → inRange (placesIn buffer) ≡ true → t .count ≤ placesIn buffer →
+Rebuilds t = (buffer : List ℕ) → placesAllowed (placesIn buffer) ≡ true → t .count ≤ placesIn buffer →
     (pieces : List (List ℕ)) → All TypedCall (map feed pieces) → All (λ (p : List ℕ). length p ≤ 65536) pieces → joined pieces ≡ recallBytes t →
     Equal (mirrorRun buffer (map feed pieces) .state .table) t
 

@@ -15,7 +15,7 @@ use Rattle.wing_wire.specs.Command.{setBytes}
 use Rattle.wing_wire.specs.declared.state.State.{State}
 use Rattle.wing_wire.specs.declared.unit.Answer.{Answer}
 use Rattle.wing_mirror.specs.Record.{Entry, entry}
-use Rattle.wing_mirror.specs.Table.{inRange}
+use Rattle.wing_mirror.specs.Table.{placesAllowed}
 use Rattle.wing_mirror.specs.Counts.{none, tick, refusalMark, bodyMark}
 use Rattle.wing_mirror.specs.Call.{Call, feed, set, tooLong, notText, fed, sent, Step, refuse}
 use Rattle.wing_mirror.specs.declared.answer.Counts.{Counts}
@@ -87,7 +87,7 @@ pub record Noticed : Type 0 where
   pub map : List Entry
   pub counts : Counts
 
--- the same by its parts
+-- a map with counts
 abbrev pub noticed : List Entry → Counts → Noticed
 noticed m c = record { map = m; counts = c }
 
@@ -113,14 +113,14 @@ heardFrom places s bytes = hearAll places (readings (s .decoder) bytes) (noticed
 -- 01: a feed meets 7 by the places alone, then 14; a set 7, 10, 1, 6 by the map, 9, else puts
 unfoldable pub machineStep : ℕ → Machine → Call → Step Machine
 machineStep places s (feed bytes) =
-    if (not (inRange places)) (refuse s 7)
+    if (not (placesAllowed places)) (refuse s 7)
     (if (ltb 65536 (length bytes)) (refuse s 14)
     (record {
       state = record { decoder = stateAfter (s .decoder) bytes; map = heardFrom places s bytes .map };
       outcome = fed (heardFrom places s bytes .counts);
     }))
 machineStep places s (set id v out) =
-    if (not (inRange places)) (refuse s 7)
+    if (not (placesAllowed places)) (refuse s 7)
     (if (tooLong v) (refuse s 10)
     (if (notText v) (refuse s 1)
     (if (not (room places id (s .map))) (refuse s 6)

@@ -33,7 +33,7 @@ pub record Tallied : Type 0 where
   pub table : Table
   pub counts : Counts
 
--- the same by its parts
+-- a table with counts
 abbrev pub tallied : Table → Counts → Tallied
 tallied t c = record { table = t; counts = c }
 
@@ -90,17 +90,17 @@ pub record Setting : Type 0 where
   pub table : Table
 
 -- 01: refused, all is as it was
-abbrev pub unset : ℕ → Table → List ℕ → Setting
-unset why t out = record { answer = Refused why; out = out; table = t }
+abbrev pub refusedSet : ℕ → Table → List ℕ → Setting
+refusedSet why t out = record { answer = Refused why; out = out; table = t }
 
 -- 01: set through the mirror writes the command and stores the value; 7, 10, 1, 6, 9
 unfoldable pub mirrorSet : ℤ → NodeValue → Table → List ℕ → Setting
 mirrorSet id v t out =
-    if (not (usable t)) (unset 7 t out)
-    (if (tooLong v) (unset 10 t out)
-    (if (notText v) (unset 1 t out)
-    (if (not (fits (entry id v) t)) (unset 6 t out)
-    (if (ltb (length out) (length (setBytes id v))) (unset 9 t out)
+    if (not (usable t)) (refusedSet 7 t out)
+    (if (tooLong v) (refusedSet 10 t out)
+    (if (notText v) (refusedSet 1 t out)
+    (if (not (fits (entry id v) t)) (refusedSet 6 t out)
+    (if (ltb (length out) (length (setBytes id v))) (refusedSet 9 t out)
     (record { answer = Bytes (length (setBytes id v)); out = setBytes id v ++ drop (length (setBytes id v)) out; table = put (entry id v) t })))))
 
 -- what the call leaves, by its reply and the lent buffers

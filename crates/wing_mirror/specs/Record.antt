@@ -20,7 +20,7 @@ pub record Entry : Type 0 where
   pub id : ℤ
   pub value : NodeValue
 
--- the same by its parts
+-- an entry by its node and value
 abbrev pub entry : ℤ → NodeValue → Entry
 entry id value = record { id = id; value = value }
 
@@ -114,7 +114,7 @@ Typed (string s) = Unit {0}
 unfoldable pub stringKept : ℕ → List ℕ → Bool
 stringKept n p = if (leb n 256) (if (zeros (drop n p)) (utf8 (take n p)) false) false
 
--- a number's length is 4, and 0 stands after its bytes
+-- a number's length is 4, and 0 stands after its bytes; a string's is 0 to 256; no other kind
 unfoldable pub wellKept : ℕ → ℕ → List ℕ → Bool
 wellKept kind n p = if (leb kind 1) (if (eqb n 4) (zeros (drop 4 p)) false) (if (eqb kind 2) (stringKept n p) false)
 

@@ -47,12 +47,12 @@ unfoldable pub soundTable : Table → Bool
 soundTable t = if (leb (t .count) (places width t)) (checked (rows t)) false
 
 -- 01: places 1 to 1,024
-unfoldable pub inRange : ℕ → Bool
-inRange n = if (leb 1 n) (leb n 1024) false
+unfoldable pub placesAllowed : ℕ → Bool
+placesAllowed n = if (leb 1 n) (leb n 1024) false
 
 -- 01: what is not usable gets 7
 unfoldable pub usable : Table → Bool
-usable t = if (inRange (places width t)) (soundTable t) false
+usable t = if (placesAllowed (places width t)) (soundTable t) false
 
 -- an entry stored: in its place, or instead of the record with its id
 unfoldable pub put : Entry → Table → Table

@@ -37,7 +37,7 @@ pub(crate) fn key(rec: &[u8]) -> u32
     flip(field::u32_at(rec, 0))
 }
 
-// A string's length is 0 to 256, and its bytes are UTF-8.
+// A string's length is 0 to 256, its bytes are UTF-8, and 0 stands after them.
 fn string_kept(n: u16, payload: &[u8]) -> bool
     requires { ⌜ length (now payload) ≡ 256 ⌝ }
     ensures { λ r. ⌜ r ≡ stringKept n (now (payload .entry)) ⌝ }

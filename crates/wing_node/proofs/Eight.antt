@@ -1,5 +1,4 @@
 -- A number that is none of 0 to 7 is over 7.
--- Assumes nothing.
 use mathlib.Core.Path.{_≡_}
 use Prim.Native.Nat.{ℕ, suc, _≤_}
 use native.Mathlib.Omega.{arith}

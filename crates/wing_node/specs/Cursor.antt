@@ -83,7 +83,7 @@ readAt f body c =
     (nothing (stopped c (fault f (from body c)))))
     (nothing c)
 
--- fields one after the other, and the cursor after them
+-- fields one after the other
 unfoldable pub reads : List Field → List ℕ → Cursor → List FieldRead
 reads [] body c = []
 reads (f ∷ fs) body c = readAt f body c ∷ reads fs body (readAt f body c .next)

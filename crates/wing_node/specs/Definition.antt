@@ -133,11 +133,11 @@ itemFrom StringEnum rs = Strings (spanOf (nth rs 0)) (spanOf (nth rs 1))
 itemFrom FloatEnum rs = Float (nth rs 0 .value) (spanOf (nth rs 1))
 itemFrom String rs = noItem
 
--- after a refusal no item
+-- a type without items has none
 abbrev pub withoutItem : Cursor → ItemRead
 withoutItem c = record { item = noItem; next = c }
 
--- after a refusal no details
+-- a type that adds no fields has no details
 abbrev pub withoutDetails : Cursor → DetailsRead
 withoutDetails c = record { details = None; next = c }
 

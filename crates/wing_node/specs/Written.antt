@@ -1,11 +1,14 @@
 -- A definition written field by field, and that it is read back: for all eight types at once.
 use Prim.Native.Nat.{ℕ, _+_}
+use mathlib.Core.Bool.{Bool, true, false}
 use mathlib.Core.Path.{_≡_}
 use mathlib.Core.List.{List, [], _∷_, _++_, map}
-use lib.ListN.{length}
+use lib.Dec.{eqb}
+use lib.ListN.{length, take, drop}
+use Rattle.wing_node.specs.Bool.{if}
 use Rattle.wing_node.specs.Cursor.{Field}
-use Rattle.wing_node.specs.Definition.{FieldName, Count, form, look, header, added, itemsOf, kindFrom, detailsFrom, definitionFrom, definitionOf}
-use Rattle.wing_node.specs.Laid.{laidAll, FitsAll, readings}
+use Rattle.wing_node.specs.Definition.{FieldName, Count, order, form, look, header, added, itemsOf, kindFrom, detailsFrom, definitionFrom, definitionOf}
+use Rattle.wing_node.specs.Laid.{laidAll, FitsAll, numberOf, readings}
 use Rattle.wing_node.specs.declared.cursor.FieldRead.{FieldRead}
 use Rattle.wing_node.specs.declared.node_type.NodeType.{NodeType}
 use Rattle.wing_node.specs.declared.definition.Parsed.the-variants.{Good}
@@ -41,6 +44,15 @@ module _ (held : FieldName → List ℕ) (each : List (List ℕ)) (rest : List �
   ReadBack = FitsAll (map form header) (map held header) → FitsAll (map form (added kind)) (map held (added kind)) → FitsAll items each →
       definitionOf body ≡ Good (definitionFrom (saidBy header 0) (detailsFrom kind (saidBy (added kind) second) (second + length (laidOf (added kind)))))
 
--- for all eight types
-abbrev pub ReadsBack : Type 0
-ReadsBack = (held : FieldName → List ℕ) (each : List (List ℕ)) (rest : List ℕ) → ReadBack held each rest
+-- whether a name is among these
+abbrev pub has : List FieldName → FieldName → Bool
+has [] k = false
+has (j ∷ js) k = if (eqb (order j) (order k)) true (has js k)
+
+-- for all eight types; and what is said of a field is what it holds: its number or its length, and the bytes at the place told
+pub record ReadsBack : Type 0 where
+  pub taken : (held : FieldName → List ℕ) (each : List (List ℕ)) (rest : List ℕ) → ReadBack held each rest
+  pub numbers : (held : FieldName → List ℕ) (names : List FieldName) (k : FieldName) (at : ℕ) → has names k ≡ true →
+      look names (readings (map form names) (map held names) at) k .value ≡ numberOf (form k) (held k)
+  pub bytes : (held : FieldName → List ℕ) (names : List FieldName) (k : FieldName) (front rest : List ℕ) → has names k ≡ true →
+      take (length (held k)) (drop (look names (readings (map form names) (map held names) (length front)) k .start) (front ++ (laidAll (map form names) (map held names) ++ rest))) ≡ held k

@@ -19,13 +19,3 @@ use Rattle.wing_wire.specs.Meter.{readings, packetOf}
 pub worked : map (λ (c : Case). c .got) cases ≡ map (λ (c : Case). c .wanted) cases
 unfolding cases gives channelIs reads setGives setEnds packetReads setBytes idBytes valueBytes integerBytes escaped digitsIn packetOf readings numberIn numberFrom unitsOf nextOf eventOf stringBeside bodyBeside advanceOf runOf followOf firstOf settleOf unitOf bodyUnit bodyNext bodyDone keeps stringUnit stringDone numberUnit numberOf countOf beginOf tokenOf isString singleOf decodeOf plainOf escapedOf otherOf freshState soundState soundToken soundCounts storedBy soundEscape soundPending zeros widthOf ruleOf ruleIn utf8 charsFrom charLength firstThat begins holds
 worked = refl
-
--- what holds of the whole table holds in each case
-pub each-of : (cs : List Case) (c : Case) → List·Memᴰ c cs → map (λ (c : Case). c .got) cs ≡ map (λ (c : Case). c .wanted) cs → c .got ≡ c .wanted
-each-of [] c m e = absurd (List·Memᴰ·not-nil m)
-each-of (x ∷ xs) c (List·Memᴰ·head p) e = let q : x .got ≡ x .wanted = cc in rw p q
-each-of (x ∷ xs) c (List·Memᴰ·tail m) e = each-of xs c m (cc)
-
--- 01's cases, each
-pub each-worked : (c : Case) → List·Memᴰ c cases → c .got ≡ c .wanted
-each-worked c m = each-of cases c m worked

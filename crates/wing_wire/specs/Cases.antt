@@ -51,7 +51,7 @@ reads bytes e =
     let n = nextOf freshState bytes in
     case (event (eventOf (n .answer) (n .string) (n .body))) (event e)
 
--- the bytes of an order that sets node 7, and those after the id
+-- the bytes of an order that sets node 7
 unfoldable pub setGives : ℤ → List ℕ → Case
 setGives x bs = case (written (setBytes (pos 7) (integer x))) (written bs)
 

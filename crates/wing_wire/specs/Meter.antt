@@ -51,7 +51,7 @@ unfoldable pub metersBytes : List Meter → List ℕ
 metersBytes [] = []
 metersBytes (m ∷ ms) = meterBytes m ++ metersBytes ms
 
--- 01: meter request: df d3 d3 port d4 id port dc, items, de df d1
+-- 01: meter request: df d3 d3 port d4 id port dc stand before its items
 unfoldable pub requestHead : ℕ → ℕ → List ℕ
 requestHead port id = 0xdf ∷ 0xd3 ∷ 0xd3 ∷ (field 2 port ++ (0xd4 ∷ (field 2 id ++ (field 2 port ++ (0xdc ∷ [])))))
 

@@ -54,7 +54,7 @@ abbrev pub pendingOf : Pending → Control → List ℕ → Heard
 pendingOf None c s = quiet c s
 pendingOf (Byte u) c s = joined (escape (c .escape .escaped) (c .escape .channel) None) (unitOf (c .node) (c .token) s u true)
 
--- 01: a pending byte is the next unit
+-- the same of the control's own pending byte, if it has one
 unfoldable pub settleOf : Control → List ℕ → Heard
 settleOf c s = pendingOf (c .escape .pending) c s
 

@@ -19,7 +19,7 @@ pub record Row : Type 0 where
   pub high : ℕ
   pub gives : ℕ → Rule
 
--- a row of the table: first units from low to high
+-- such a row, by its ends and what each first unit in it begins
 abbrev pub from : ℕ → ℕ → (ℕ → Rule) → Row
 from low high gives = record { low = low; high = high; gives = gives }
 
@@ -53,7 +53,7 @@ ruleIn (r ∷ rs) t = if (leb (r .low) t) (if (leb t (r .high)) (r .gives t) (ru
 unfoldable pub ruleOf : ℕ → Rule
 ruleOf t = ruleIn table t
 
--- a class by its number in the code's table
+-- the classes, in the order of the code's numbers
 abbrev pub classes : List Class
 classes = NoEvent ∷ Integer ∷ String ∷ Length ∷ Int16 ∷ Int32 ∷ Float ∷ Node ∷ End ∷ Count ∷ []
 

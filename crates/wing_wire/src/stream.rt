@@ -214,7 +214,7 @@ fn number_ahead(class: Class, left: u16, value: u32, bytes: &[u8], at: usize) ->
     }
 }
 
-// The same of a string.
+// The inner units of a string, which are stored as they come.
 fn string_ahead(want: u16, left: u16, store: &mut [u8], bytes: &[u8], at: usize) -> Inside
     ensures { λ r. ⌜ gone r (now (store .exit)) ≡ stringAhead want left (now (store .entry)) at (drop at (now (bytes .entry))) ⌝ }
 {

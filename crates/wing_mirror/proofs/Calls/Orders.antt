@@ -18,7 +18,7 @@ use Rattle.wing_mirror.specs.Record.{entry, keyOf, recordOf, storable}
 use Rattle.wing_mirror.specs.Table.{usable, put, fits}
 use Rattle.wing_mirror.specs.Puts.{putOf}
 use Rattle.wing_mirror.specs.Call.{tooLong, notText}
-use Rattle.wing_mirror.specs.Mirror.{Setting, unset, mirrorSet, setting}
+use Rattle.wing_mirror.specs.Mirror.{Setting, refusedSet, mirrorSet, setting}
 use Rattle.wing_mirror.specs.Sets.{Replied, replied, keptOf}
 use Rattle.wing_mirror.specs.declared.answer.SetReply.{SetReply}
 use Rattle.wing_mirror.proofs.Tables.Laying.{take-least}
@@ -56,7 +56,7 @@ abbrev settled : Replied → List ℕ → Setting
 settled k out = record { answer = k .answer; out = out; table = k .after }
 
 module _ (id : ℤ) (v : NodeValue) (t : Table) (out : List ℕ) where
-  pub unusable : usable t ≡ false → unset 7 t out ≡ mirrorSet id v t out
+  pub unusable : usable t ≡ false → refusedSet 7 t out ≡ mirrorSet id v t out
   unfolding mirrorSet
   unusable u = rw u
 
@@ -65,7 +65,7 @@ module _ (id : ℤ) (v : NodeValue) (t : Table) (out : List ℕ) where
     takes-is : takes 264 keyOf (recordOf (entry id v)) t ≡ h
     takes-is = ap (λ (r : List ℕ). takes 264 keyOf r t) (sym er) ∙ sym eh
 
-    pub no-room : h ≡ false → unset 6 t out ≡ mirrorSet id v t out
+    pub no-room : h ≡ false → refusedSet 6 t out ≡ mirrorSet id v t out
     unfolding mirrorSet fits
     no-room q = rw (u, not-long v s, is-text v s, takes-is, q)
 
@@ -87,10 +87,10 @@ module _ (id : ℤ) (v : NodeValue) (t : Table) (out : List ℕ) where
 
 -- of a string
 module _ (id : ℤ) (s : List ℕ) (t : Table) (out : List ℕ) (u : usable t ≡ true) where
-  pub long-string : 256 < length s → unset 10 t out ≡ mirrorSet id (string s) t out
+  pub long-string : 256 < length s → refusedSet 10 t out ≡ mirrorSet id (string s) t out
   unfolding mirrorSet tooLong
   long-string h = rw (u, lt-leb (length s) 256 h)
 
-  pub bad-string : length s ≤ 256 → utf8 s ≡ false → unset 1 t out ≡ mirrorSet id (string s) t out
+  pub bad-string : length s ≤ 256 → utf8 s ≡ false → refusedSet 1 t out ≡ mirrorSet id (string s) t out
   unfolding mirrorSet tooLong notText
   bad-string h q = rw (u, le-leb (length s) 256 h, q)

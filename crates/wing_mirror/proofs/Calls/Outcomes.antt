@@ -19,7 +19,7 @@ use Rattle.wing_mirror.specs.Record.{entry, storable}
 use Rattle.wing_mirror.specs.Table.{usable, put, fits}
 use Rattle.wing_mirror.specs.Call.{tooLong, notText}
 use Rattle.wing_mirror.specs.Counts.{none}
-use Rattle.wing_mirror.specs.Mirror.{tallied, keepEvent, unfed, fedAll, fedFully, mirrorFeed, unset, mirrorSet}
+use Rattle.wing_mirror.specs.Mirror.{tallied, keepEvent, unfed, fedAll, fedFully, mirrorFeed, refusedSet, mirrorSet}
 use Rattle.wing_mirror.specs.Machine.{decoded, readings}
 use Rattle.wing_mirror.proofs.Histories.Along.{handed, feed-readings}
 
@@ -64,30 +64,30 @@ text-storable (string s) p q = go (leb (length s) 256) (utf8 s) p q
 
 module _ (id : ℤ) (v : NodeValue) (t : Table) (out : List ℕ) where
   -- 01: table unsound or places outside 1–1,024
-  pub set-7 : usable t ≡ false → mirrorSet id v t out ≡ unset 7 t out
+  pub set-7 : usable t ≡ false → mirrorSet id v t out ≡ refusedSet 7 t out
   unfolding mirrorSet
   set-7 u = rw u
 
   module _ (u : usable t ≡ true) where
     -- 01: string over 256
-    pub set-10 : tooLong v ≡ true → mirrorSet id v t out ≡ unset 10 t out
+    pub set-10 : tooLong v ≡ true → mirrorSet id v t out ≡ refusedSet 10 t out
     unfolding mirrorSet
     set-10 a = rw (u, a)
 
     module _ (a : tooLong v ≡ false) where
       -- 01: string not UTF-8
-      pub set-1 : notText v ≡ true → mirrorSet id v t out ≡ unset 1 t out
+      pub set-1 : notText v ≡ true → mirrorSet id v t out ≡ refusedSet 1 t out
       unfolding mirrorSet
       set-1 b = rw (u, a, b)
 
       module _ (b : notText v ≡ false) where
         -- 01: new node, no place left
-        pub set-6 : fits (entry id v) t ≡ false → mirrorSet id v t out ≡ unset 6 t out
+        pub set-6 : fits (entry id v) t ≡ false → mirrorSet id v t out ≡ refusedSet 6 t out
         unfolding mirrorSet
         set-6 c = rw (u, a, b, c)
 
         -- 01: output too short for the whole
-        pub set-9 : fits (entry id v) t ≡ true → ltb (length out) (length (setBytes id v)) ≡ true → mirrorSet id v t out ≡ unset 9 t out
+        pub set-9 : fits (entry id v) t ≡ true → ltb (length out) (length (setBytes id v)) ≡ true → mirrorSet id v t out ≡ refusedSet 9 t out
         unfolding mirrorSet
         set-9 c d = rw (u, a, b, c, d)
 

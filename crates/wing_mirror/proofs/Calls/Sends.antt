@@ -26,7 +26,7 @@ use Rattle.wing_wire.proofs.Writing.Choices.{string-good}
 use Rattle.wing_wire.proofs.Writing.Sizes.{set-int-le, set-float-le, set-string-le}
 use Rattle.wing_mirror.specs.Rows.{Table, records, joined}
 use Rattle.wing_mirror.specs.Record.{Entry, kindIn, lengthIn, payloadIn, idIn, valueIn, entryIn, stringKept, wellKept, wellFormed}
-use Rattle.wing_mirror.specs.Table.{rows, every, rowAt, inRange, usable}
+use Rattle.wing_mirror.specs.Table.{rows, every, rowAt, placesAllowed, usable}
 use Rattle.wing_mirror.specs.Recall.{setOf, recallBytes, recallOf}
 use Rattle.wing_mirror.specs.Sending.{orderIn, ordersOf, sizeIn}
 use Rattle.wing_mirror.proofs.Tables.Chunks.{length-records}
@@ -110,7 +110,7 @@ every-at p (x ∷ xs) (suc i) d h e = every-at p xs i d (omega arith) (both (p x
 module _ (t : Table) (u : usable t ≡ true) where
   -- 01: at most 1,024 places
   pub few-records : t .count ≤ 1024
-  unfolding inRange
+  unfolding placesAllowed
   few-records =
       let n : ℕ = length (t .buffer) / 264 in
       omega (arith, few t u, leb-true n 1024 (both (leb 1 n) (leb n 1024) (in-range t u) .1))

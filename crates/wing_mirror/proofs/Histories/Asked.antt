@@ -8,7 +8,7 @@ use native.Mathlib.Omega.{arith}
 use Rattle.wing_node.specs.Bool.{if}
 use Rattle.wing_mirror.specs.Rows.{Table, All}
 use Rattle.wing_mirror.specs.Record.{Entry}
-use Rattle.wing_mirror.specs.Table.{rows, inRange, usable}
+use Rattle.wing_mirror.specs.Table.{rows, placesAllowed, usable}
 use Rattle.wing_mirror.specs.Query.{sameTables, sameAnswer}
 use Rattle.wing_mirror.specs.Recall.{recallOf}
 use Rattle.wing_mirror.specs.Call.{Call, TypedCall}
@@ -21,7 +21,7 @@ use Rattle.wing_mirror.proofs.Histories.Simulates.{whole-image}
 use Rattle.wing_mirror.proofs.Histories.Agrees.{map-fine, run-equal}
 
 -- a mirror with 1 to 1,024 places is usable after any history
-run-usable : (b : List ℕ) (calls : List Call) → All TypedCall calls → inRange (placesIn b) ≡ true → usable (mirrorRun b calls .state .table) ≡ true
+run-usable : (b : List ℕ) (calls : List Call) → All TypedCall calls → placesAllowed (placesIn b) ≡ true → usable (mirrorRun b calls .state .table) ≡ true
 run-usable b calls t r =
     let m : List Entry = machineRun (placesIn b) calls .state .map in
     rw (whole-image b calls t) (usable-image b m (map-fine (placesIn b) calls t) ∙ r)

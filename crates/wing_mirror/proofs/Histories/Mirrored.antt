@@ -10,7 +10,7 @@ use lib.ListN.{length, drop, length-map}
 use Rattle.wing_node.specs.Bool.{if}
 use Rattle.wing_mirror.specs.Rows.{Table, records, laid, holds, insert, takes, store, All}
 use Rattle.wing_mirror.specs.Record.{Entry, width, keyOf, recordOf, entryIn, wellFormed}
-use Rattle.wing_mirror.specs.Table.{table, rows, checked, soundTable, inRange, usable, put, fits}
+use Rattle.wing_mirror.specs.Table.{table, rows, checked, soundTable, placesAllowed, usable, put, fits}
 use Rattle.wing_mirror.specs.Machine.{has, putIn, room}
 use Rattle.wing_mirror.specs.History.{rank, inOrder, placesIn}
 use Rattle.wing_mirror.proofs.Tables.Chunks.{Wide, records-laid, length-laid, drop-laid, laid-again}
@@ -86,10 +86,10 @@ module _ (buffer : List ℕ) (m : List Entry) (g : Fine (placesIn buffer) m) whe
   rest-image = drop-laid width (recs m) buffer (width * length m) (wide (placesIn buffer) m g) (omega (arith, length-recs (placesIn buffer) m g))
 
   -- 7 by the places alone
-  pub usable-image : usable (tableOf buffer m) ≡ inRange (placesIn buffer)
+  pub usable-image : usable (tableOf buffer m) ≡ placesAllowed (placesIn buffer)
   unfolding usable soundTable
   usable-image =
-      rw (size-image, le-leb (length m) (placesIn buffer) (g .few), rows-image, recs-checked (placesIn buffer) m g) (go (inRange (placesIn buffer)))
+      rw (size-image, le-leb (length m) (placesIn buffer) (g .few), rows-image, recs-checked (placesIn buffer) m g) (go (placesAllowed (placesIn buffer)))
     where
       go : (t : Bool) → if t true false ≡ t
       go true = refl

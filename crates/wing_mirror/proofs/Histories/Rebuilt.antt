@@ -14,7 +14,7 @@ use Rattle.wing_wire.specs.Reader.{Event, more, value, body, end, refused}
 use Rattle.wing_wire.specs.State.{freshState}
 use Rattle.wing_mirror.specs.Rows.{joined, rising, insert, In, All}
 use Rattle.wing_mirror.specs.Record.{Entry, entry}
-use Rattle.wing_mirror.specs.Table.{inRange}
+use Rattle.wing_mirror.specs.Table.{placesAllowed}
 use Rattle.wing_mirror.specs.Counts.{none}
 use Rattle.wing_mirror.specs.Call.{feed, runAll}
 use Rattle.wing_mirror.specs.Machine.{Reading, sameId, has, putIn, room, Machine, newMachine, Noticed, noticed, hear, hearAll, stateAfter, readings, machineStep}
@@ -102,14 +102,14 @@ module _ (places : ℕ) where
   abbrev fedTo : Machine → List ℕ → Machine
   fedTo s p = record { decoder = stateAfter (s .decoder) p; map = handed learn (readings (s .decoder) p) (s .map) }
 
-  one-feed : inRange places ≡ true → (s : Machine) (p : List ℕ) → length p ≤ 65536 → machineStep places s (feed p) .state ≡ fedTo s p
+  one-feed : placesAllowed places ≡ true → (s : Machine) (p : List ℕ) → length p ≤ 65536 → machineStep places s (feed p) .state ≡ fedTo s p
   unfolding machineStep
   one-feed r s p a =
       rw (r, le-ltb 65536 (length p) a)
       (ap (λ (m : List Entry). record { decoder = stateAfter (s .decoder) p; map = m }) (hear-all-map (readings (s .decoder) p) (noticed (s .map) none)))
 
   -- feeds in a row are one feed of their bytes joined
-  feeds : inRange places ≡ true → (s : Machine) (p : List ℕ) (ps : List (List ℕ)) → All (λ (q : List ℕ). length q ≤ 65536) (p ∷ ps) →
+  feeds : placesAllowed places ≡ true → (s : Machine) (p : List ℕ) (ps : List (List ℕ)) → All (λ (q : List ℕ). length q ≤ 65536) (p ∷ ps) →
       runAll (machineStep places) s (map feed (p ∷ ps)) .state .map ≡ handed learn (readings (s .decoder) (joined (p ∷ ps))) (s .map)
   unfolding runAll joined
   feeds r s p [] a = ap (λ (x : Machine). x .map) (one-feed r s p (a .0)) ∙ rw (append-nil p)
@@ -132,7 +132,7 @@ module _ (places : ℕ) where
       ∙ learn-all es (m ++ (e ∷ [])) (rw (append-assoc m (e ∷ []) es) r) (omega arith) ∙ append-assoc m (e ∷ []) es
 
   -- the machine that is fed it, in any pieces
-  pub map-rebuilt : (es : List Entry) → All Proper es → rising rank es ≡ true → length es ≤ places → inRange places ≡ true →
+  pub map-rebuilt : (es : List Entry) → All Proper es → rising rank es ≡ true → length es ≤ places → placesAllowed places ≡ true →
       (pieces : List (List ℕ)) → All (λ (q : List ℕ). length q ≤ 65536) pieces → joined pieces ≡ 0xdf ∷ 0xd1 ∷ joined (map setOf es) →
       machineRun places (map feed pieces) .state .map ≡ es
   unfolding joined

@@ -15,7 +15,7 @@ use Rattle.wing_wire.specs.Range.{AreBytes}
 use Rattle.wing_wire.specs.Command.{setBytes}
 use Rattle.wing_mirror.specs.Rows.{Table, All}
 use Rattle.wing_mirror.specs.Record.{entry}
-use Rattle.wing_mirror.specs.Table.{inRange, usable, put, fits}
+use Rattle.wing_mirror.specs.Table.{placesAllowed, usable, put, fits}
 use Rattle.wing_mirror.specs.Counts.{none}
 use Rattle.wing_mirror.specs.Call.{Call, feed, set, tooLong, notText, fed, sent, Step, History, runAll, TypedCall}
 use Rattle.wing_mirror.specs.Mirror.{Tallied, tallied, keepEvent, fedFully, Feeding, Setting}
@@ -51,7 +51,7 @@ module _ (buffer : List ℕ) where
   feed-image : (s : Machine) (bytes : List ℕ) → AreBytes bytes → Well (placesIn buffer) s →
       mirrorStep (mirrorOf s) (feed bytes) ≡ imageStep (machineStep (placesIn buffer) s (feed bytes))
   unfolding mirrorStep machineStep
-  feed-image s bytes t w = go (inRange (placesIn buffer)) refl (ltb 65536 (length bytes)) refl
+  feed-image s bytes t w = go (placesAllowed (placesIn buffer)) refl (ltb 65536 (length bytes)) refl
     where
       T : Table
       T = tableOf buffer (s .map)
@@ -59,13 +59,13 @@ module _ (buffer : List ℕ) where
       g : soundState (s .decoder) ≡ true
       g = well-sound (s .decoder) (w .decoder)
 
-      u : usable T ≡ inRange (placesIn buffer)
+      u : usable T ≡ placesAllowed (placesIn buffer)
       u = usable-image buffer (s .map) (w .fine)
 
       heard : handed keepEvent (readings (s .decoder) bytes) (tallied T none) ≡ talliedOf buffer (heardFrom (placesIn buffer) s bytes)
       heard = keep-all-image buffer (readings (s .decoder) bytes) (noticed (s .map) none) (readings-proper (s .decoder) bytes t (w .decoder)) (w .fine)
 
-      go : (a : Bool) → inRange (placesIn buffer) ≡ a → (b : Bool) → ltb 65536 (length bytes) ≡ b →
+      go : (a : Bool) → placesAllowed (placesIn buffer) ≡ a → (b : Bool) → ltb 65536 (length bytes) ≡ b →
           mirrorStep (mirrorOf s) (feed bytes) ≡ imageStep (machineStep (placesIn buffer) s (feed bytes))
       go false p b q = rw p (ap afterFeed (feed-7 (s .decoder) T bytes g (u ∙ p)))
       go true p true q = rw (p, q) (ap afterFeed (feed-14 (s .decoder) T bytes g (u ∙ p) (ltb-true 65536 (length bytes) q)))
@@ -80,15 +80,15 @@ module _ (buffer : List ℕ) where
       mirrorStep (mirrorOf s) (set id v out) ≡ imageStep (machineStep (placesIn buffer) s (set id v out))
   unfolding mirrorStep machineStep
   set-image s id v out t w =
-      go (inRange (placesIn buffer)) refl (tooLong v) refl (notText v) refl (room (placesIn buffer) id (s .map)) refl (ltb (length out) (length (setBytes id v))) refl
+      go (placesAllowed (placesIn buffer)) refl (tooLong v) refl (notText v) refl (room (placesIn buffer) id (s .map)) refl (ltb (length out) (length (setBytes id v))) refl
     where
       T : Table
       T = tableOf buffer (s .map)
 
-      u : usable T ≡ inRange (placesIn buffer)
+      u : usable T ≡ placesAllowed (placesIn buffer)
       u = usable-image buffer (s .map) (w .fine)
 
-      go : (a : Bool) → inRange (placesIn buffer) ≡ a → (b : Bool) → tooLong v ≡ b → (c : Bool) → notText v ≡ c → (d : Bool) → room (placesIn buffer) id (s .map) ≡ d →
+      go : (a : Bool) → placesAllowed (placesIn buffer) ≡ a → (b : Bool) → tooLong v ≡ b → (c : Bool) → notText v ≡ c → (d : Bool) → room (placesIn buffer) id (s .map) ≡ d →
           (l : Bool) → ltb (length out) (length (setBytes id v)) ≡ l → mirrorStep (mirrorOf s) (set id v out) ≡ imageStep (machineStep (placesIn buffer) s (set id v out))
       go false p b q c r d e l f = rw p (ap (afterSet s) (set-7 id v T out (u ∙ p)))
       go true p true q c r d e l f = rw (p, q) (ap (afterSet s) (set-10 id v T out (u ∙ p) q))

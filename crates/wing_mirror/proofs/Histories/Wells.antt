@@ -12,7 +12,7 @@ use Rattle.wing_wire.specs.Range.{AreBytes}
 use Rattle.wing_wire.specs.Command.{setBytes}
 use Rattle.wing_mirror.specs.Rows.{All}
 use Rattle.wing_mirror.specs.Record.{entry, Typed}
-use Rattle.wing_mirror.specs.Table.{inRange}
+use Rattle.wing_mirror.specs.Table.{placesAllowed}
 use Rattle.wing_mirror.specs.Counts.{none}
 use Rattle.wing_mirror.specs.Call.{Call, feed, set, tooLong, notText, runAll, TypedCall}
 use Rattle.wing_mirror.specs.Machine.{Machine, newMachine, noticed, room, readings, machineStep}
@@ -37,9 +37,9 @@ set-proper id v i t a b = record { node = i; typed = t; text = text-storable v a
 -- after a feed
 feed-well : (places : ℕ) (s : Machine) (bytes : List ℕ) → AreBytes bytes → Well places s → Well places (machineStep places s (feed bytes) .state)
 unfolding machineStep
-feed-well places s bytes t w = go (inRange places) refl (ltb 65536 (length bytes)) refl
+feed-well places s bytes t w = go (placesAllowed places) refl (ltb 65536 (length bytes)) refl
   where
-    go : (a : Bool) → inRange places ≡ a → (b : Bool) → ltb 65536 (length bytes) ≡ b → Well places (machineStep places s (feed bytes) .state)
+    go : (a : Bool) → placesAllowed places ≡ a → (b : Bool) → ltb 65536 (length bytes) ≡ b → Well places (machineStep places s (feed bytes) .state)
     go false p b q = rw p w
     go true p true q = rw (p, q) w
     go true p false q =
@@ -52,9 +52,9 @@ feed-well places s bytes t w = go (inRange places) refl (ltb 65536 (length bytes
 set-well : (places : ℕ) (s : Machine) (id : ℤ) (v : NodeValue) (out : List ℕ) → TypedCall (set id v out) → Well places s → Well places (machineStep places s (set id v out) .state)
 unfolding machineStep
 set-well places s id v out t w =
-    go (inRange places) refl (tooLong v) refl (notText v) refl (room places id (s .map)) refl (ltb (length out) (length (setBytes id v))) refl
+    go (placesAllowed places) refl (tooLong v) refl (notText v) refl (room places id (s .map)) refl (ltb (length out) (length (setBytes id v))) refl
   where
-    go : (a : Bool) → inRange places ≡ a → (b : Bool) → tooLong v ≡ b → (c : Bool) → notText v ≡ c → (d : Bool) → room places id (s .map) ≡ d →
+    go : (a : Bool) → placesAllowed places ≡ a → (b : Bool) → tooLong v ≡ b → (c : Bool) → notText v ≡ c → (d : Bool) → room places id (s .map) ≡ d →
         (l : Bool) → ltb (length out) (length (setBytes id v)) ≡ l → Well places (machineStep places s (set id v out) .state)
     go false p b q c r d e l f = rw p w
     go true p true q c r d e l f = rw (p, q) w

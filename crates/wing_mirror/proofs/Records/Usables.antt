@@ -10,17 +10,17 @@ use lib.ListN.{length}
 use Rattle.wing_node.specs.Bool.{if}
 use Rattle.wing_mirror.specs.Rows.{Table, places, rising}
 use Rattle.wing_mirror.specs.Record.{keyOf, wellFormed}
-use Rattle.wing_mirror.specs.Table.{rows, every, checked, soundTable, inRange, usable}
+use Rattle.wing_mirror.specs.Table.{rows, every, checked, soundTable, placesAllowed, usable}
 
 pub both : (a b : Bool) → if a b false ≡ true → (a ≡ true) × (b ≡ true)
 both true b h = (refl, h)
 both false b h = absurd (false≢true h)
 
 module _ (t : Table) (u : usable t ≡ true) where
-  range-and-sound : (inRange (places 264 t) ≡ true) × (soundTable t ≡ true)
+  range-and-sound : (placesAllowed (places 264 t) ≡ true) × (soundTable t ≡ true)
   range-and-sound = both _ _ (unfold usable in u)
 
-  pub in-range : inRange (places 264 t) ≡ true
+  pub in-range : placesAllowed (places 264 t) ≡ true
   in-range = range-and-sound .0
 
   few-and-checked : (leb (t .count) (places 264 t) ≡ true) × (checked (rows t) ≡ true)

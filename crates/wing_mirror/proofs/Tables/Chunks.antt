@@ -64,13 +64,3 @@ module _ (w : ℕ) where
   joined-records (suc n) buf =
       let z : w * suc n ≡ w + w * n = omega (arith, mul-suc w n) in
       rw (z, take-add w (w * n) buf, joined-records n (drop w buf))
-
-  -- nothing changes when a table's own records are laid
-  pub laid-own : (n : ℕ) (buf : List ℕ) → laid w (records w n buf) buf ≡ buf
-  unfolding laid
-  laid-own n buf = rw (length-records n buf, joined-records n buf) (take-append-drop (w * n) buf)
-
-  -- the records and the bytes after them are the whole buffer
-  pub pinned : (rs : List (List ℕ)) (b c : List ℕ) → records w (length rs) c ≡ rs → drop (w * length rs) c ≡ drop (w * length rs) b → c ≡ laid w rs b
-  unfolding laid
-  pinned rs b c p q = sym (take-append-drop (w * length rs) c) ∙ rw (q) (ap (λ (x : List ℕ). x ++ drop (w * length rs) b) (sym (joined-records (length rs) c) ∙ ap joined p))

@@ -23,14 +23,6 @@ cmp a b = go (ltb a b) refl (eqb a b) refl
     go false p true q = same (eqb-true a b q)
     go false p false q = let n = eqb-false a b q in let l = ltb-false a b p in high (omega (arith, n))
 
-pub eqb-sym : (a b : ℕ) → eqb a b ≡ eqb b a
-eqb-sym a b = go (cmp a b)
-  where
-    go : Cmp a b → eqb a b ≡ eqb b a
-    go (low h) = ne-eqb a b (omega arith) ∙ sym (ne-eqb b a (omega arith))
-    go (same h) = eq-eqb a b h ∙ sym (eq-eqb b a (sym h))
-    go (high h) = ne-eqb a b (omega arith) ∙ sym (ne-eqb b a (omega arith))
-
 module _ {A : Type 0} (key : A → ℕ) where
   pub insert-low : (e x : A) (xs : List A) → key x < key e → insert key e (x ∷ xs) ≡ x ∷ insert key e xs
   unfolding insert

@@ -38,21 +38,6 @@ module _ {A : Type 0} (key : A → ℕ) where
       go (same p) ih = rw (insert-same key e x xs p, p) (twice (eqb (key e) k) (found e) (found x) (lookup key k xs))
       go (high p) ih = rw (insert-high key e x xs p)
 
-  -- the element that lookup finds stands at the number that numberOf gives
-  pub lookup-number : (k : ℕ) (xs : List A) (d : A) → rising key xs ≡ true → holds key k xs ≡ true →
-      (below key k xs < length xs) × (lookup key k xs ≡ found (getD xs (below key k xs) d))
-  unfolding lookup holds below
-  lookup-number k [] d r h = absurd (true≢false (sym h))
-  lookup-number k (x ∷ xs) d r h = go (cmp (key x) k) (lookup-number k xs d (rising-tail key x xs r))
-    where
-      go : Cmp (key x) k → (holds key k xs ≡ true → (below key k xs < length xs) × (lookup key k xs ≡ found (getD xs (below key k xs) d))) →
-          (below key k (x ∷ xs) < length (x ∷ xs)) × (lookup key k (x ∷ xs) ≡ found (getD (x ∷ xs) (below key k (x ∷ xs)) d))
-      go (low p) ih =
-          let i = ih (rw (ne-eqb (key x) k (omega arith)) at h) in
-          rw (lt-ltb (key x) k p, ne-eqb (key x) k (omega arith)) (omega (arith, i .0), i .1)
-      go (same p) ih = rw (le-ltb (key x) k (omega arith), eq-eqb (key x) k p) (omega arith, refl)
-      go (high p) ih = absurd (true≢false (sym (rw (ne-eqb (key x) k (omega arith), over-holds key k (key x) xs (rising-tail key x xs r) (rising-head key x xs r) (omega arith)) at h)))
-
   -- as the code does it: what is below stays, what is above moves up or, if the key was there, stays
   pub insert-split : (e : A) (xs : List A) → rising key xs ≡ true →
       insert key e xs ≡ take (below key (key e) xs) xs ++ (e ∷ drop (if (holds key (key e) xs) (suc (below key (key e) xs)) (below key (key e) xs)) xs)

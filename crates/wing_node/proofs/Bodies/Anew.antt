@@ -1,5 +1,4 @@
 -- A body that was read and is written anew has the same bytes exactly when its flags are canonical and nothing follows its last field: for every type.
--- Assumes nothing.
 use mathlib.Core.Path.{_≡_, refl, _∙_, ap, sym}
 use mathlib.Core.List.{List, [], _∷_, _++_, map, append-assoc, append-nil}
 use Prim.Native.Nat.{ℕ, _+_, _*_, _/_, _%_, _<_, _^_}

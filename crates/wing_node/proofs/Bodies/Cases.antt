@@ -1,5 +1,4 @@
 -- What a field at a cursor gives, case by case: at any width, and for a string.
--- Assumes nothing.
 use mathlib.Core.Path.{_≡_, refl, _∙_, ap, sym}
 use mathlib.Core.Bool.{Bool, true, false}
 use mathlib.Core.List.{List, [], _∷_, _++_}

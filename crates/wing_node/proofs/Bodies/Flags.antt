@@ -1,5 +1,4 @@
 -- When a body written anew is the body: its flags are those that the writer writes, and nothing follows.
--- Assumes nothing.
 use mathlib.Core.Path.{_≡_, refl, _∙_, ap, sym}
 use mathlib.Core.Bool.{Bool, true, false}
 use mathlib.Core.List.{List, [], _∷_, _++_}

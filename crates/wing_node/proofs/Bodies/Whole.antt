@@ -1,6 +1,5 @@
 -- A whole definition, of any type: what is laid reads back, and what was read is laid anew as it was.
 -- Neither goes by the types: both are the laws for lists of fields.
--- Assumes nothing.
 use mathlib.Core.Path.{_≡_, refl, _∙_, ap, sym, subst}
 use mathlib.Core.Bool.{Bool, true, false}
 use mathlib.Core.List.{List, [], _∷_, _++_, map, append-assoc}
@@ -15,7 +14,7 @@ use Rattle.wing_node.specs.Field.{big, bytesOf}
 use Rattle.wing_node.specs.Cursor.{Field, number, string, content, valueOf, begins, start, cursor, from, readAt, reads, after}
 use Rattle.wing_node.specs.Definition.{FieldName, ParentId, Id, Index, Name, LongName, Flags, Min, Max, Steps, Count, MaxLen, order, form, look, named, past, header, added, itemsOf, kindFrom, detailsFrom, detailsAt, definitionFrom, definitionOf, fieldsIn}
 use Rattle.wing_node.specs.Laid.{laid, laidAll, Fits, FitsAll, none, more, numberOf, readings, contents, heldAll}
-use Rattle.wing_node.specs.Written.{laidOf, kind, items, body, ReadsBack}
+use Rattle.wing_node.specs.Written.{laidOf, kind, items, body, ReadBack, has, ReadsBack}
 use Rattle.wing_node.specs.declared.cursor.Cursor.{Cursor}
 use Rattle.wing_node.specs.declared.cursor.FieldRead.{FieldRead}
 use Rattle.wing_node.specs.declared.node_type.NodeType.{NodeType}
@@ -67,9 +66,9 @@ flags-read body d h =
     value-read (number 2) body c5 (laid-reads others body (readAt (number 2) body c5 .next) (good-end body d h) .0)
 
 -- fields that fit read back, whatever follows them
-pub reads-back : ReadsBack
+body-read : (held : FieldName → List ℕ) (each : List (List ℕ)) (rest : List ℕ) → ReadBack held each rest
 unfolding definitionOf detailsAt
-reads-back held each rest fh fd fi =
+body-read held each rest fh fd fi =
     let H = laidOf held each rest header in
     let D = laidOf held each rest (added (kind held each rest)) in
     let I = laidAll (items held each rest) each in
@@ -102,22 +101,14 @@ known-order MaxLen = refl
 one-name : (j k : FieldName) → order j ≡ order k → j ≡ k
 one-name j k e = sym (known-order j) ∙ ap known e ∙ known-order k
 
-abbrev pub has : List FieldName → FieldName → Bool
-has [] k = false
-has (j ∷ js) k = if (eqb (order j) (order k)) true (has js k)
-
 module _ (d : FieldName → List ℕ) where
-  pub fits-all : (ks : List FieldName) → ((k : FieldName) → Fits (form k) (d k)) → FitsAll (map form ks) (map d ks)
-  fits-all [] h = none
-  fits-all (k ∷ ks) h = more (h k) (fits-all ks h)
-
   -- what the names in a list read as, one by one
   choose : (P : FieldName → FieldRead → Type 0) (b : Bool) (j k : FieldName) (js : List FieldName) (r r' : FieldRead) → (b ≡ true → j ≡ k) →
       if b true (has js k) ≡ true → P j r → (has js k ≡ true → P k r') → P k (if b r r')
   choose P true j k js r r' e h s t = subst (λ (n : FieldName). P n r) (e refl) s
   choose P false j k js r r' e h s t = t h
 
-  pub same-fields : (ks : List FieldName) (k : FieldName) (at : ℕ) → has ks k ≡ true →
+  same-fields : (ks : List FieldName) (k : FieldName) (at : ℕ) → has ks k ≡ true →
       look ks (readings (map form ks) (map d ks) at) k .value ≡ numberOf (form k) (d k)
   unfolding readings
   same-fields [] k at h = absurd (let z : _≡_ {A = ℕ} 0 1 = cc in omega arith)
@@ -131,7 +122,7 @@ module _ (d : FieldName → List ℕ) where
   pointed string v front rest = drop-append-add front (length v ∷ (v ++ rest)) 1
 
   -- and the bytes that they point at
-  pub same-bytes : (ks : List FieldName) (k : FieldName) (front rest : List ℕ) → has ks k ≡ true →
+  same-bytes : (ks : List FieldName) (k : FieldName) (front rest : List ℕ) → has ks k ≡ true →
       take (length (d k)) (drop (look ks (readings (map form ks) (map d ks) (length front)) k .start) (front ++ (laidAll (map form ks) (map d ks) ++ rest))) ≡ d k
   unfolding readings laidAll
   same-bytes [] k front rest h = absurd (let z : _≡_ {A = ℕ} 0 1 = cc in omega arith)
@@ -144,3 +135,6 @@ module _ (d : FieldName → List ℕ) where
       let apart : (front ++ l) ++ (tail ++ rest) ≡ body = simp append-assoc in
       choose (λ n r. take (length (d n)) (drop (r .start) body) ≡ d n) (eqb (order j) (order k)) j k js _ _ (λ e. one-name j k (eqb-true _ _ e)) h here
       (λ t. rw (apart, length-append) at (same-bytes js k (front ++ l) rest t))
+
+pub reads-back : ReadsBack
+reads-back = record { taken = body-read; numbers = same-fields; bytes = same-bytes }

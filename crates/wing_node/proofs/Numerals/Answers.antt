@@ -1,5 +1,4 @@
 -- What the string getter answers, from the parts that the code makes.
--- Assumes nothing.
 use mathlib.Core.Path.{_≡_, refl, _∙_, ap, subst}
 use mathlib.Core.Bool.{true, false}
 use mathlib.Core.List.{List, _++_}

@@ -1,5 +1,4 @@
 -- The decimal of an integer reads back as the integer, and is the shortest.
--- Assumes nothing.
 use mathlib.Core.Path.{_≡_, refl, _∙_, ap, sym, subst}
 use mathlib.Core.Bool.{Bool, true, false}
 use mathlib.Core.List.{List, [], _∷_, _++_, map}
@@ -135,12 +134,6 @@ unfolding integerOf decimal
 read-back (pos n) =
     rw (ne-eqb (getD (digits n) 0 0) 0x2d (λ e. omega (arith, e, first-digit n))) (ap pos (number-read n))
 read-back (negsuc n) = rw (number-read (suc n))
-
--- what an i32 needs: at most a minus sign and ten digits
-pub decimal-short : (x : ℤ) → natAbs x ≤ 0x80000000 → length (decimal x) ≤ 11
-unfolding decimal
-decimal-short (pos n) h = omega (arith, length-digits 9 n (omega arith))
-decimal-short (negsuc n) h = omega (arith, length-digits 9 (suc n) (omega arith))
 
 -- the shortest: no list of digits that spells a number has fewer than its decimal
 pub shortest : (s : List ℕ) → 0 < length s → Digits 10 (map (λ a. a - 0x30) s) → length (digits (numberOf s)) ≤ length s

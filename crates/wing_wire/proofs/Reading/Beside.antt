@@ -47,28 +47,6 @@ event-beside (Body n) s l w = ap (λ (t : List ℕ). body t) (filled-front 4096 
 event-beside End s l w = refl
 event-beside (Refused n) s l w = refl
 
--- 01: string (256 bytes)
-pub string-length : (a : Answer) (s : List ℕ) → length (stringBeside a s) ≡ 256
-unfolding stringBeside
-string-length More s = length-replicate {A = ℕ} 256 0
-string-length (Integer x) s = length-replicate {A = ℕ} 256 0
-string-length (Float x) s = length-replicate {A = ℕ} 256 0
-string-length (String n) s = filled-length 256 (take n s)
-string-length (Body n) s = length-replicate {A = ℕ} 256 0
-string-length End s = length-replicate {A = ℕ} 256 0
-string-length (Refused n) s = length-replicate {A = ℕ} 256 0
-
--- 01: body (4,096 bytes)
-pub body-length : (a : Answer) (s : List ℕ) → length (bodyBeside a s) ≡ 4096
-unfolding bodyBeside
-body-length More s = length-replicate {A = ℕ} 4096 0
-body-length (Integer x) s = length-replicate {A = ℕ} 4096 0
-body-length (Float x) s = length-replicate {A = ℕ} 4096 0
-body-length (String n) s = length-replicate {A = ℕ} 4096 0
-body-length (Body n) s = filled-length 4096 (take n s)
-body-length End s = length-replicate {A = ℕ} 4096 0
-body-length (Refused n) s = length-replicate {A = ℕ} 4096 0
-
 -- a reply says the event that the units gave: its arrays hold the whole string or body
 pub next-event : (s : State) (bytes : List ℕ) → length (s .store) ≡ 4096 → eventIn (nextOf s bytes) ≡ nextEvent s bytes
 unfolding nextOf nextEvent eventOf

@@ -19,6 +19,3 @@ and-left false b e = e
 pub and-right : (a b : Bool) → and a b ≡ true → b ≡ true
 and-right true b e = e
 and-right false b e = absurd (let w : _≡_ {A = ℕ} 0 1 = cc in omega arith)
-
-pub and-both : (a b : Bool) → a ≡ true → b ≡ true → and a b ≡ true
-and-both a b p q = rw (p, q)

@@ -1,5 +1,4 @@
 -- The store: its first bytes to 0, one after the other; and there is room for a body's unit that is kept.
--- Assumes nothing.
 use mathlib.Core.Path.{_≡_, refl, ap}
 use mathlib.Core.Bool.{Bool, true, false}
 use mathlib.Core.List.{List, [], _∷_}

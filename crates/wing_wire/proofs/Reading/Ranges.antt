@@ -41,11 +41,6 @@ use Rattle.wing_wire.proofs.Reading.Sound.{UnitByte, noUnit, bare, appe
 
 -- ---- lists of bytes
 
--- bytes by their places are bytes
-pub are-bytes : (s : List ℕ) → ((i : ℕ) → i < length s → getD s i 0 < 256) → AreBytes s
-are-bytes [] f = noBytes
-are-bytes (b ∷ s) f = byteThen (f 0 (omega arith)) (are-bytes s (λ i h. f (suc i) (omega arith)))
-
 bytes-set : (s : List ℕ) (k u : ℕ) → u < 256 → AreBytes s → AreBytes (set s k u)
 bytes-set [] k u h noBytes = noBytes
 bytes-set (b ∷ s) zero u h (byteThen l ls) = byteThen h ls
@@ -278,15 +273,6 @@ zero-bytes (suc k) = let z : 0 < 256 = omega arith in byteThen z (zero-bytes k)
 pub fresh-in : InRange (freshState .control) (freshState .store)
 unfolding freshState
 fresh-in = record { pending = noPending; node = omega arith; number = tt; store = record { size = length-replicate {A = ℕ} 4096 0; bytes = zero-bytes 4096 } }
-
--- the state after a next call on bytes is in range
-pub range-next : (s : State) (bytes : List ℕ) → AreBytes bytes → InRange (s .control) (s .store) → InRange (nextOf s bytes .state .control) (nextOf s bytes .state .store)
-unfolding nextOf
-range-next s bytes h g =
-    let P : Reply → Type 0 = λ n. InRange (n .state .control) (n .state .store) in
-    branch P (soundState s) _ _
-    (λ _. branch P (leb (length bytes) 65536) _ _ (λ _. after-in (advanceOf (s .control) (s .store) bytes .heard) (advance-in (s .control) (s .store) bytes h g)) (λ _. g))
-    (λ _. g)
 
 module _ {M : Type 0} (h : ℤ → Answer → List ℕ → M → M) where
   calm-in : (x : Fed M) → InRange (x .control) (x .store) → InRange (calm h x .control) (calm h x .store)

@@ -36,7 +36,7 @@ use Rattle.wing_wire.specs.declared.escape.Decoded.{Decoded}
 use Rattle.wing_wire.specs.declared.unit.Answer.{Answer}
 use Rattle.wing_wire.specs.declared.unit.Taken.{Taken}
 use Rattle.wing_wire.specs.declared.reader.Reply.{Reply}
-use Rattle.wing_wire.proofs.Reading.Branches.{branch, and-left, and-right, and-both}
+use Rattle.wing_wire.proofs.Reading.Branches.{branch, and-left, and-right}
 use Rattle.wing_wire.proofs.Reading.Bounds.{Tame, Fits, rule-fits, unit-bounded}
 use Rattle.wing_wire.proofs.Reading.Pieces.{at, clash, settle-calm, stays, run-on, released-more}
 use Rattle.wing_wire.proofs.Reading.Steps.{step-calm}
@@ -487,21 +487,6 @@ sound-next s bytes h p e =
     (λ _. state-tested (nextFrom (advanceOf (s .control) (s .store) bytes) .state) (advance-good (s .control) (s .store) bytes h (state-parts s p e) .0))
     (λ _. e))
     (λ _. e)
-
--- and its pending byte, if there is one, a byte
-pub byte-next : (s : State) (bytes : List ℕ) → AreBytes bytes → PendingByte (s .control .escape .pending) → soundState s ≡ true → PendingByte (nextOf s bytes .state .control .escape .pending)
-unfolding nextOf
-byte-next s bytes h p e =
-    let P : Reply → Type 0 = λ n. PendingByte (n .state .control .escape .pending) in
-    branch P (soundState s) _ _
-    (λ _. branch P (leb (length bytes) 65536) _ _
-    (λ _. advance-good (s .control) (s .store) bytes h (state-parts s p e) .0 .byte)
-    (λ _. p))
-    (λ _. p)
-
--- a string event of a sound state has at most 256 bytes, and they are UTF-8; a body event has at most 4,096
-pub next-within : (c : Control) (s bytes : List ℕ) → AreBytes bytes → Good c s → Within (advanceOf c s bytes .heard .told .answer) (advanceOf c s bytes .heard .store)
-next-within c s bytes h g = advance-good c s bytes h g .1
 
 module _ {M : Type 0} (h : ℤ → Answer → List ℕ → M → M) where
   fed-good : (x : Fed M) (bytes : List ℕ) → AreBytes bytes → x .control .escape .pending ≡ None → Good (x .control) (x .store) → Good (fedFrom h x bytes .control) (fedFrom h x bytes .store)

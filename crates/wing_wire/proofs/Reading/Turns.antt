@@ -1,5 +1,4 @@
 -- Laws of a run: with an answer it stays, and it goes on byte by byte.
--- Assumes nothing.
 use Prim.Native.Nat.{ℕ, suc, _+_, _<_, _≤_}
 use mathlib.Core.Bool.{Bool, true, false}
 use mathlib.Core.Path.{_≡_, refl, ap}

@@ -1,5 +1,4 @@
 -- How long all keep-alives are at most: 721,397 bytes, for ids 65,535 to 1 and the port dfdf.
--- Assumes nothing.
 use Prim.Native.Nat.{ℕ, zero, suc, _+_, _*_, _-_, _/_, _%_, min, _≤_, _<_}
 use mathlib.Core.Path.{_≡_, refl}
 use mathlib.Core.Bool.{Bool, true, false}

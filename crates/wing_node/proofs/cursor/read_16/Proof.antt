@@ -14,36 +14,28 @@ use Rattle.wing_node.proofs.cursor.refuse_short.Reads as refuse-short-r
 use Rattle.wing_node.proofs.field.left.Reads as left-reads
 use Rattle.wing_node.proofs.field.u16_at.Reads as u16-at-reads
 
--- src/cursor.rt:86:9
 refuse-short-requires : tie.Need-refuse-short-requires
 refuse-short-requires c κs = search needs
 
--- src/cursor.rt:86:9
 returns : tie.Need-returns
 returns c = c .refuse-short .ensures ∙ sym (ap shortOf (read-refused (number 2) _ _ (c .before .if1 .taken)))
 
--- src/cursor.rt:88:8
 left-requires : tie.Need-left-requires
 left-requires c κs = search needs
 
--- src/cursor.rt:89:9
 refuse-short-requires-2 : tie.Need-refuse-short-requires-2
 refuse-short-requires-2 c κs = search needs
 
--- src/cursor.rt:89:9
 returns-2 : tie.Need-returns-2
 unfolding size
 returns-2 c = c .refuse-short2 .ensures ∙ sym (ap shortOf (read-short (number 2) _ _ (c .before .before .before .if1 .left) (omega arith)))
 
--- src/cursor.rt:92:16
 u16-at-requires : tie.Need-u16-at-requires
 u16-at-requires c κs = search needs
 
--- src/cursor.rt:94:17
 add-t6 : tie.Need-add-t6
 add-t6 c = search needs
 
--- src/cursor.rt:80:1
 returns-3 : tie.Need-returns-3
 unfolding size right valueOf begins
 returns-3 c =

@@ -14,36 +14,28 @@ use Rattle.wing_node.proofs.cursor.refuse.Reads as refuse-reads
 use Rattle.wing_node.proofs.field.left.Reads as left-reads
 use Rattle.wing_node.proofs.field.u32_at.Reads as u32-at-reads
 
--- src/cursor.rt:65:9
 refuse-requires : tie.Need-refuse-requires
 refuse-requires c κs = search needs
 
--- src/cursor.rt:65:9
 returns : tie.Need-returns
 returns c = c .refuse .ensures ∙ sym (read-refused (number 4) _ _ (c .before .if1 .taken))
 
--- src/cursor.rt:67:8
 left-requires : tie.Need-left-requires
 left-requires c κs = search needs
 
--- src/cursor.rt:68:9
 refuse-requires-2 : tie.Need-refuse-requires-2
 refuse-requires-2 c κs = search needs
 
--- src/cursor.rt:68:9
 returns-2 : tie.Need-returns-2
 unfolding size
 returns-2 c = c .refuse2 .ensures ∙ sym (read-short (number 4) _ _ (c .before .before .before .if1 .left) (omega arith))
 
--- src/cursor.rt:71:16
 u32-at-requires : tie.Need-u32-at-requires
 u32-at-requires c κs = search needs
 
--- src/cursor.rt:74:17
 add-t6 : tie.Need-add-t6
 add-t6 c = search needs
 
--- src/cursor.rt:59:1
 returns-3 : tie.Need-returns-3
 unfolding size right valueOf begins
 returns-3 c =

@@ -15,79 +15,60 @@ use Rattle.wing_node.proofs.cursor.refuse.Reads as refuse-reads
 use Rattle.wing_node.proofs.field.left.Reads as left-reads
 use Rattle.wing_node.proofs.utf8.is_utf8.Reads as is-utf8-reads
 
--- src/cursor.rt:106:9
 refuse-requires : tie.Need-refuse-requires
 refuse-requires c κs = search needs
 
--- src/cursor.rt:106:9
 returns : tie.Need-returns
 returns c = c .refuse .ensures ∙ sym (read-refused string _ _ (c .before .if1 .taken))
 
--- src/cursor.rt:108:9
 left-requires : tie.Need-left-requires
 left-requires c κs = search needs
 
--- src/cursor.rt:110:9
 refuse-requires-2 : tie.Need-refuse-requires-2
 refuse-requires-2 c κs = search needs
 
--- src/cursor.rt:110:9
 returns-2 : tie.Need-returns-2
 returns-2 c = c .refuse2 .ensures ∙ sym (string-short _ _ (c .before .before .before .if1 .left) (omega arith))
 
--- src/cursor.rt:112:15
 shared-slice-read-len : tie.Need-shared-slice-read-len
 shared-slice-read-len c = search needs
 
--- src/cursor.rt:112:15
 cast-len : tie.Need-cast-len
 cast-len c = omega (arith, c .shared-slice-known2 .given (c .before .before .before .before .before .args .c .at))
 
--- src/cursor.rt:113:16
 add-if3 : tie.Need-add-if3
 add-if3 c = omega (arith, c .shared-slice-known2 .given (c .before .before .before .before .before .args .c .at))
 
--- src/cursor.rt:114:9
 refuse-requires-3 : tie.Need-refuse-requires-3
 refuse-requires-3 c κs = search needs
 
--- src/cursor.rt:114:9
 returns-3 : tie.Need-returns-3
 returns-3 c = c .refuse3 .ensures ∙ sym (string-short _ _ (c .before .before .before .before .before .if1 .left) (omega arith))
 
--- src/cursor.rt:116:17
 add-first : tie.Need-add-first
 add-first c = search needs
 
--- src/cursor.rt:117:15
 add-end : tie.Need-add-end
 add-end c = search needs
 
--- src/cursor.rt:118:16
 sub-is-utf8 : tie.Need-sub-is-utf8
 sub-is-utf8 c = search needs
 
--- src/cursor.rt:118:16
 part-is-utf8-start : tie.Need-part-is-utf8-start
 part-is-utf8-start c = search needs
 
--- src/cursor.rt:118:16
 part-is-utf8-end : tie.Need-part-is-utf8-end
 part-is-utf8-end c = search needs
 
--- src/cursor.rt:118:8
 is-utf8-requires : tie.Need-is-utf8-requires
 is-utf8-requires c κs = search needs
 
--- src/cursor.rt:120:20
 cast-t18 : tie.Need-cast-t18
 cast-t18 c = omega (arith, c .before .before .before .before .shared-slice-known2 .given (c .before .before .before .before .before .before .before .before .before .args .c .at))
 
--- src/cursor.rt:128:9
 refuse-requires-4 : tie.Need-refuse-requires-4
 refuse-requires-4 c κs = search needs
 
--- src/cursor.rt:100:1
 returns-4 : tie.Need-returns-4
 returns-4 c =
     let body = c .before .before .before .before .before .before .before .before .before .args .body .now in
@@ -97,7 +78,6 @@ returns-4 c =
     let u : utf8 (take len (drop (k .at + 1) body)) ≡ true = sym (rw e at (c .before .is-utf8 .ensures .0)) ∙ c .if4 .taken in
     simp (string-there body k (c .before .before .before .before .before .before .before .if1 .left) (omega arith) u)
 
--- src/cursor.rt:100:1
 returns-5 : tie.Need-returns-5
 returns-5 c =
     let body = c .before .before .before .before .before .before .before .before .before .before .args .body .now in

@@ -4,11 +4,9 @@ use Rattle.wing_node.proofs.definition.finish.Tie as tie
 use Rattle.wing_node.proofs.definition.finish.Reads as reads
 use Rattle.wing_node.proofs.definition.finish.Lts as lts
 
--- src/definition.rt:246:9
 returns : tie.Need-returns
 returns c = simp (ne-eqb _ _ (c .if1 .taken))
 
--- src/definition.rt:242:1
 returns-2 : tie.Need-returns-2
 returns-2 c = simp (eq-eqb _ _ (c .if1 .left))
 

@@ -9,19 +9,15 @@ use Rattle.wing_node.proofs.cursor.read_32.Reads as read-32-reads
 use Rattle.wing_node.proofs.cursor.read_string.Reads as read-string-reads
 use Rattle.wing_node.proofs.definition.span_of.Reads as span-of-reads
 
--- src/definition.rt:99:9
 read-32-requires : tie.Need-read-32-requires
 read-32-requires c κs = search needs
 
--- src/definition.rt:101:9
 read-string-requires : tie.Need-read-string-requires
 read-string-requires c κs = search needs
 
--- src/definition.rt:103:9
 span-of-requires : tie.Need-span-of-requires
 span-of-requires c κs = search needs
 
--- src/definition.rt:96:1
 returns : tie.Need-returns
 unfolding itemAt reads after
 returns c = simp (c .before .before .before .before .read-32 .ensures, c .before .before .read-string .ensures, c .span-of .ensures)

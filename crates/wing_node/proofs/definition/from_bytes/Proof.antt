@@ -19,67 +19,51 @@ use Rattle.wing_node.proofs.field.to_i32.Reads as to-i32-reads
 use Rattle.wing_node.proofs.node_type.type_of.Reads as type-of-reads
 use Rattle.wing_node.proofs.node_type.unit_of.Reads as unit-of-reads
 
--- src/definition.rt:254:35
 begin-requires : tie.Need-begin-requires
 begin-requires c κs = search needs
 
--- src/definition.rt:254:9
 read-32-requires : tie.Need-read-32-requires
 read-32-requires c κs = search needs
 
--- src/definition.rt:256:9
 read-32-requires-2 : tie.Need-read-32-requires-2
 read-32-requires-2 c κs = search needs
 
--- src/definition.rt:258:9
 read-16-requires : tie.Need-read-16-requires
 read-16-requires c κs = search needs
 
--- src/definition.rt:260:9
 read-string-requires : tie.Need-read-string-requires
 read-string-requires c κs = search needs
 
--- src/definition.rt:262:9
 read-string-requires-2 : tie.Need-read-string-requires-2
 read-string-requires-2 c κs = search needs
 
--- src/definition.rt:264:9
 read-16-requires-2 : tie.Need-read-16-requires-2
 read-16-requires-2 c κs = search needs
 
--- src/definition.rt:267:9
 type-of-requires : tie.Need-type-of-requires
 type-of-requires c κs = search needs
 
--- src/definition.rt:268:9
 read-details-requires : tie.Need-read-details-requires
 read-details-requires c κs = search needs
 
--- src/definition.rt:270:9
 span-of-requires : tie.Need-span-of-requires
 span-of-requires c κs = search needs
 
--- src/definition.rt:271:9
 span-of-requires-2 : tie.Need-span-of-requires-2
 span-of-requires-2 c κs = search needs
 
--- src/definition.rt:274:20
 to-i32-requires : tie.Need-to-i32-requires
 to-i32-requires c κs = search needs
 
--- src/definition.rt:275:13
 to-i32-requires-2 : tie.Need-to-i32-requires-2
 to-i32-requires-2 c κs = search needs
 
--- src/definition.rt:280:15
 unit-of-requires : tie.Need-unit-of-requires
 unit-of-requires c κs = search needs
 
--- src/definition.rt:284:5
 finish-requires : tie.Need-finish-requires
 finish-requires c κs = search needs
 
--- src/definition.rt:251:1
 returns : tie.Need-returns
 unfolding definitionOf reads after
 returns c =

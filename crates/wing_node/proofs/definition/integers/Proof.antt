@@ -11,23 +11,18 @@ use Rattle.wing_node.proofs.definition.integers.Lts as lts
 use Rattle.wing_node.proofs.cursor.read_32.Reads as read-32-reads
 use Rattle.wing_node.proofs.field.to_i32.Reads as to-i32-reads
 
--- src/definition.rt:178:9
 read-32-requires : tie.Need-read-32-requires
 read-32-requires c κs = search needs
 
--- src/definition.rt:180:9
 read-32-requires-2 : tie.Need-read-32-requires-2
 read-32-requires-2 c κs = search needs
 
--- src/definition.rt:184:18
 to-i32-requires : tie.Need-to-i32-requires
 to-i32-requires c κs = search needs
 
--- src/definition.rt:185:18
 to-i32-requires-2 : tie.Need-to-i32-requires-2
 to-i32-requires-2 c κs = search needs
 
--- src/definition.rt:175:1
 returns : tie.Need-returns
 unfolding detailsAt reads after times
 returns c =

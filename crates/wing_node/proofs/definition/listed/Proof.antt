@@ -7,15 +7,12 @@ use Rattle.wing_node.proofs.definition.listed.Lts as lts
 use Rattle.wing_node.proofs.cursor.read_16.Reads as read-16-reads
 use Rattle.wing_node.proofs.definition.past_items.Reads as past-items-reads
 
--- src/definition.rt:194:9
 read-16-requires : tie.Need-read-16-requires
 read-16-requires c κs = search needs
 
--- src/definition.rt:196:9
 past-items-requires : tie.Need-past-items-requires
 past-items-requires c κs = search needs
 
--- src/definition.rt:191:1
 returns : tie.Need-returns
 unfolding listedAt
 returns c = simp (c .past-items .ensures, c .before .before .read-16 .ensures)

@@ -7,11 +7,9 @@ use Rattle.wing_node.proofs.definition.max_len.Reads as reads
 use Rattle.wing_node.proofs.definition.max_len.Lts as lts
 use Rattle.wing_node.proofs.cursor.read_16.Reads as read-16-reads
 
--- src/definition.rt:209:9
 read-16-requires : tie.Need-read-16-requires
 read-16-requires c κs = search needs
 
--- src/definition.rt:206:1
 returns : tie.Need-returns
 unfolding detailsAt reads after times
 returns c = simp (c .before .read-16 .ensures)

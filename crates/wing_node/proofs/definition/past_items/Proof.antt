@@ -17,27 +17,21 @@ Inv-loop body kind count c₀ left₀ c left = after (itemsOf kind count) body c
 abbrev μ-loop : tie.MeasureT-loop
 μ-loop body kind count c₀ left₀ c left = left
 
--- src/definition.rt:143:5
 loop-holds : tie.Need-loop-holds Inv-loop μ-loop
 loop-holds c = refl
 
--- src/definition.rt:146:13
 returns : tie.Need-returns Inv-loop μ-loop
 returns c = sym (c .before .before .loop .inv ∙ after-refused _ _ _ (c .if1 .taken))
 
--- src/definition.rt:148:13
 read-item-requires : tie.Need-read-item-requires Inv-loop μ-loop
 read-item-requires c κs = search needs
 
--- src/definition.rt:151:9
 sub-left : tie.Need-sub-left Inv-loop μ-loop
 sub-left c = search needs
 
--- src/definition.rt:143:5
 loop-less : tie.Need-loop-less Inv-loop μ-loop
 loop-less c = omega arith
 
--- src/definition.rt:143:5
 loop-again : tie.Need-loop-again Inv-loop μ-loop
 loop-again c =
     let body = c .before .before .before .before .before .before .args .body .now in
@@ -46,7 +40,6 @@ loop-again c =
     c .before .before .before .before .loop .inv ∙ items-turn kind left body (c .before .before .before .before .loop .c) (c .before .before .before .loop-test .taken) ∙
     ap (λ r. after (itemsOf kind (left - 1)) body (r .next)) (sym (c .before .read-item .ensures))
 
--- src/definition.rt:138:1
 returns-2 : tie.Need-returns-2 Inv-loop μ-loop
 returns-2 c =
     let start = c .before .before .before .args in

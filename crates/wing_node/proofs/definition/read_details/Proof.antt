@@ -11,106 +11,82 @@ use Rattle.wing_node.proofs.definition.listed.Reads as listed-reads
 use Rattle.wing_node.proofs.definition.max_len.Reads as max-len-reads
 use Rattle.wing_node.proofs.definition.no_details.Reads as no-details-reads
 
--- src/definition.rt:230:27
 enum-told : tie.Need-enum-told
 enum-told c = search needs
 
--- src/definition.rt:230:27
 no-details-requires : tie.Need-no-details-requires
 no-details-requires c κs = search needs
 
--- src/definition.rt:231:34
 enum-told-2 : tie.Need-enum-told-2
 enum-told-2 c = search needs
 
--- src/definition.rt:231:34
 floats-requires : tie.Need-floats-requires
 floats-requires c κs = search needs
 
--- src/definition.rt:232:39
 enum-told-3 : tie.Need-enum-told-3
 enum-told-3 c = search needs
 
--- src/definition.rt:232:39
 floats-requires-2 : tie.Need-floats-requires-2
 floats-requires-2 c κs = search needs
 
--- src/definition.rt:233:33
 enum-told-4 : tie.Need-enum-told-4
 enum-told-4 c = search needs
 
--- src/definition.rt:233:33
 no-details-requires-2 : tie.Need-no-details-requires-2
 no-details-requires-2 c κs = search needs
 
--- src/definition.rt:234:30
 enum-told-5 : tie.Need-enum-told-5
 enum-told-5 c = search needs
 
--- src/definition.rt:234:30
 integers-requires : tie.Need-integers-requires
 integers-requires c κs = search needs
 
--- src/definition.rt:235:33
 enum-told-6 : tie.Need-enum-told-6
 enum-told-6 c = search needs
 
--- src/definition.rt:235:33
 listed-requires : tie.Need-listed-requires
 listed-requires c κs = search needs
 
--- src/definition.rt:236:32
 enum-told-7 : tie.Need-enum-told-7
 enum-told-7 c = search needs
 
--- src/definition.rt:236:32
 listed-requires-2 : tie.Need-listed-requires-2
 listed-requires-2 c κs = search needs
 
--- src/definition.rt:237:29
 enum-told-8 : tie.Need-enum-told-8
 enum-told-8 c = search needs
 
--- src/definition.rt:237:29
 max-len-requires : tie.Need-max-len-requires
 max-len-requires c κs = search needs
 
--- src/definition.rt:226:1
 returns : tie.Need-returns
 unfolding detailsAt listedAt reads after times
 returns c = simp (c .before .enum-told .given .1, c .no-details .ensures)
 
--- src/definition.rt:226:1
 returns-2 : tie.Need-returns-2
 unfolding detailsAt listedAt reads after times
 returns-2 c = simp (c .before .enum-told2 .given .1, c .floats .ensures)
 
--- src/definition.rt:226:1
 returns-3 : tie.Need-returns-3
 unfolding detailsAt listedAt reads after times
 returns-3 c = simp (c .before .enum-told3 .given .1, c .floats2 .ensures)
 
--- src/definition.rt:226:1
 returns-4 : tie.Need-returns-4
 unfolding detailsAt listedAt reads after times
 returns-4 c = simp (c .before .enum-told4 .given .1, c .no-details2 .ensures)
 
--- src/definition.rt:226:1
 returns-5 : tie.Need-returns-5
 unfolding detailsAt listedAt reads after times
 returns-5 c = simp (c .before .enum-told5 .given .1, c .integers .ensures)
 
--- src/definition.rt:226:1
 returns-6 : tie.Need-returns-6
 unfolding detailsAt listedAt reads after times
 returns-6 c = simp (c .before .enum-told6 .given .1, c .listed .ensures)
 
--- src/definition.rt:226:1
 returns-7 : tie.Need-returns-7
 unfolding detailsAt listedAt reads after times
 returns-7 c = simp (c .before .enum-told7 .given .1, c .listed2 .ensures)
 
--- src/definition.rt:226:1
 returns-8 : tie.Need-returns-8
 unfolding detailsAt listedAt reads after times
 returns-8 c = simp (c .before .enum-told8 .given .1, c .max-len .ensures)

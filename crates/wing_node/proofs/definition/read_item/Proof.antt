@@ -9,106 +9,82 @@ use Rattle.wing_node.proofs.definition.float_item.Reads as float-item-r
 use Rattle.wing_node.proofs.definition.no_item.Reads as no-item-reads
 use Rattle.wing_node.proofs.definition.string_item.Reads as string-item-reads
 
--- src/definition.rt:126:27
 enum-told : tie.Need-enum-told
 enum-told c = search needs
 
--- src/definition.rt:126:27
 no-item-requires : tie.Need-no-item-requires
 no-item-requires c κs = search needs
 
--- src/definition.rt:127:34
 enum-told-2 : tie.Need-enum-told-2
 enum-told-2 c = search needs
 
--- src/definition.rt:127:34
 no-item-requires-2 : tie.Need-no-item-requires-2
 no-item-requires-2 c κs = search needs
 
--- src/definition.rt:128:39
 enum-told-3 : tie.Need-enum-told-3
 enum-told-3 c = search needs
 
--- src/definition.rt:128:39
 no-item-requires-3 : tie.Need-no-item-requires-3
 no-item-requires-3 c κs = search needs
 
--- src/definition.rt:129:33
 enum-told-4 : tie.Need-enum-told-4
 enum-told-4 c = search needs
 
--- src/definition.rt:129:33
 no-item-requires-4 : tie.Need-no-item-requires-4
 no-item-requires-4 c κs = search needs
 
--- src/definition.rt:130:30
 enum-told-5 : tie.Need-enum-told-5
 enum-told-5 c = search needs
 
--- src/definition.rt:130:30
 no-item-requires-5 : tie.Need-no-item-requires-5
 no-item-requires-5 c κs = search needs
 
--- src/definition.rt:131:33
 enum-told-6 : tie.Need-enum-told-6
 enum-told-6 c = search needs
 
--- src/definition.rt:131:33
 string-item-requires : tie.Need-string-item-requires
 string-item-requires c κs = search needs
 
--- src/definition.rt:132:32
 enum-told-7 : tie.Need-enum-told-7
 enum-told-7 c = search needs
 
--- src/definition.rt:132:32
 float-item-requires : tie.Need-float-item-requires
 float-item-requires c κs = search needs
 
--- src/definition.rt:133:29
 enum-told-8 : tie.Need-enum-told-8
 enum-told-8 c = search needs
 
--- src/definition.rt:133:29
 no-item-requires-6 : tie.Need-no-item-requires-6
 no-item-requires-6 c κs = search needs
 
--- src/definition.rt:122:1
 returns : tie.Need-returns
 unfolding itemAt reads after
 returns c = simp (c .before .enum-told .given .1, c .no-item .ensures)
 
--- src/definition.rt:122:1
 returns-2 : tie.Need-returns-2
 unfolding itemAt reads after
 returns-2 c = simp (c .before .enum-told2 .given .1, c .no-item2 .ensures)
 
--- src/definition.rt:122:1
 returns-3 : tie.Need-returns-3
 unfolding itemAt reads after
 returns-3 c = simp (c .before .enum-told3 .given .1, c .no-item3 .ensures)
 
--- src/definition.rt:122:1
 returns-4 : tie.Need-returns-4
 unfolding itemAt reads after
 returns-4 c = simp (c .before .enum-told4 .given .1, c .no-item4 .ensures)
 
--- src/definition.rt:122:1
 returns-5 : tie.Need-returns-5
 unfolding itemAt reads after
 returns-5 c = simp (c .before .enum-told5 .given .1, c .no-item5 .ensures)
 
--- src/definition.rt:122:1
 returns-6 : tie.Need-returns-6
 unfolding itemAt reads after
 returns-6 c = simp (c .before .enum-told6 .given .1, c .string-item .ensures)
 
--- src/definition.rt:122:1
 returns-7 : tie.Need-returns-7
 unfolding itemAt reads after
 returns-7 c = simp (c .before .enum-told7 .given .1, c .float-item .ensures)
 
--- src/definition.rt:122:1
 returns-8 : tie.Need-returns-8
 unfolding itemAt reads after
 returns-8 c = simp (c .before .enum-told8 .given .1, c .no-item6 .ensures)

@@ -8,23 +8,18 @@ use Rattle.wing_node.proofs.definition.string_item.Lts as lts
 use Rattle.wing_node.proofs.cursor.read_string.Reads as read-string-reads
 use Rattle.wing_node.proofs.definition.span_of.Reads as span-of-reads
 
--- src/definition.rt:81:9
 read-string-requires : tie.Need-read-string-requires
 read-string-requires c κs = search needs
 
--- src/definition.rt:83:9
 read-string-requires-2 : tie.Need-read-string-requires-2
 read-string-requires-2 c κs = search needs
 
--- src/definition.rt:85:9
 span-of-requires : tie.Need-span-of-requires
 span-of-requires c κs = search needs
 
--- src/definition.rt:86:9
 span-of-requires-2 : tie.Need-span-of-requires-2
 span-of-requires-2 c κs = search needs
 
--- src/definition.rt:78:1
 returns : tie.Need-returns
 unfolding itemAt reads after
 returns c = simp (c .before .before .before .before .before .read-string .ensures, c .before .before .before .read-string2 .ensures, c .before .span-of .ensures, c .span-of2 .ensures)

@@ -6,15 +6,12 @@ use Rattle.wing_node.proofs.field.bytes_16.Tie as tie
 use Rattle.wing_node.proofs.field.bytes_16.Reads as reads
 use Rattle.wing_node.proofs.field.bytes_16.Lts as lts
 
--- src/field.rt:142:6
 cast-t4 : tie.Need-cast-t4
 cast-t4 c = search needs
 
--- src/field.rt:142:29
 cast-t6 : tie.Need-cast-t6
 cast-t6 c = search needs
 
--- src/field.rt:139:1
 returns : tie.Need-returns
 unfolding digitsIn
 returns c = refl

@@ -6,23 +6,18 @@ use Rattle.wing_node.proofs.field.bytes_32.Tie as tie
 use Rattle.wing_node.proofs.field.bytes_32.Reads as reads
 use Rattle.wing_node.proofs.field.bytes_32.Lts as lts
 
--- src/field.rt:149:9
 cast-t6 : tie.Need-cast-t6
 cast-t6 c = search needs
 
--- src/field.rt:150:9
 cast-t10 : tie.Need-cast-t10
 cast-t10 c = search needs
 
--- src/field.rt:151:9
 cast-t13 : tie.Need-cast-t13
 cast-t13 c = search needs
 
--- src/field.rt:152:9
 cast-t15 : tie.Need-cast-t15
 cast-t15 c = search needs
 
--- src/field.rt:145:1
 returns : tie.Need-returns
 unfolding digitsIn
 returns c = refl

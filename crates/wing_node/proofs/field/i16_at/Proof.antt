@@ -10,15 +10,12 @@ use Rattle.wing_node.proofs.field.i16_at.Lts as lts
 use Rattle.wing_node.proofs.field.to_i16.Reads as to-i16-reads
 use Rattle.wing_node.proofs.field.u16_at.Reads as u16-at-reads
 
--- src/field.rt:92:12
 u16-at-requires : tie.Need-u16-at-requires
 u16-at-requires c κs = search needs
 
--- src/field.rt:92:5
 to-i16-requires : tie.Need-to-i16-requires
 to-i16-requires c κs = search needs
 
--- src/field.rt:89:1
 returns : tie.Need-returns
 returns c =
     let back : toZ w16 (ofZ w16 (c .to-i16 .result)) ≡ c .to-i16 .result = search needs in

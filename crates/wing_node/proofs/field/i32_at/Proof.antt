@@ -10,15 +10,12 @@ use Rattle.wing_node.proofs.field.i32_at.Lts as lts
 use Rattle.wing_node.proofs.field.to_i32.Reads as to-i32-reads
 use Rattle.wing_node.proofs.field.u32_at.Reads as u32-at-reads
 
--- src/field.rt:98:12
 u32-at-requires : tie.Need-u32-at-requires
 u32-at-requires c κs = search needs
 
--- src/field.rt:98:5
 to-i32-requires : tie.Need-to-i32-requires
 to-i32-requires c κs = search needs
 
--- src/field.rt:95:1
 returns : tie.Need-returns
 returns c =
     let back : toZ w32 (ofZ w32 (c .to-i32 .result)) ≡ c .to-i32 .result = search needs in

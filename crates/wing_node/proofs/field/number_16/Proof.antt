@@ -8,15 +8,12 @@ use Rattle.wing_node.proofs.field.number_16.Tie as tie
 use Rattle.wing_node.proofs.field.number_16.Reads as reads
 use Rattle.wing_node.proofs.field.number_16.Lts as lts
 
--- src/field.rt:20:5
 mul-result : tie.Need-mul-result
 mul-result c = search needs
 
--- src/field.rt:20:5
 add-result : tie.Need-add-result
 add-result c = search needs
 
--- src/field.rt:17:1
 returns : tie.Need-returns
 unfolding numberIn numberFrom
 returns c = let first : 0 * 256 + c .args .a ≡ c .args .a = omega arith in rw first

@@ -8,31 +8,24 @@ use Rattle.wing_node.proofs.field.number_32.Tie as tie
 use Rattle.wing_node.proofs.field.number_32.Reads as reads
 use Rattle.wing_node.proofs.field.number_32.Lts as lts
 
--- src/field.rt:26:7
 mul-result : tie.Need-mul-result
 mul-result c = search needs
 
--- src/field.rt:26:7
 add-result : tie.Need-add-result
 add-result c = search needs
 
--- src/field.rt:26:6
 mul-result-2 : tie.Need-mul-result-2
 mul-result-2 c = search needs
 
--- src/field.rt:26:6
 add-result-2 : tie.Need-add-result-2
 add-result-2 c = search needs
 
--- src/field.rt:26:5
 mul-result-3 : tie.Need-mul-result-3
 mul-result-3 c = search needs
 
--- src/field.rt:26:5
 add-result-3 : tie.Need-add-result-3
 add-result-3 c = search needs
 
--- src/field.rt:23:1
 returns : tie.Need-returns
 unfolding numberIn numberFrom
 returns c = let first : 0 * 256 + c .args .a ≡ c .args .a = omega arith in rw first

@@ -11,19 +11,15 @@ use Rattle.wing_node.proofs.field.put_i16.Lts as lts
 use Rattle.wing_node.proofs.field.of_i16.Reads as of-i16-reads
 use Rattle.wing_node.proofs.field.put_u16.Reads as put-u16-reads
 
--- src/field.rt:129:22
 of-i16-requires : tie.Need-of-i16-requires
 of-i16-requires c κs = search needs
 
--- src/field.rt:129:5
 put-u16-requires : tie.Need-put-u16-requires
 put-u16-requires c κs = search needs
 
--- src/field.rt:126:1
 same-length : tie.Need-same-length
 same-length c = search needs
 
--- src/field.rt:126:1
 returns : tie.Need-returns
 returns c =
     let start = c .before .before .before .before .before .before in

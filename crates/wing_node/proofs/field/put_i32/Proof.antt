@@ -11,19 +11,15 @@ use Rattle.wing_node.proofs.field.put_i32.Lts as lts
 use Rattle.wing_node.proofs.field.of_i32.Reads as of-i32-reads
 use Rattle.wing_node.proofs.field.put_u32.Reads as put-u32-reads
 
--- src/field.rt:135:22
 of-i32-requires : tie.Need-of-i32-requires
 of-i32-requires c κs = search needs
 
--- src/field.rt:135:5
 put-u32-requires : tie.Need-put-u32-requires
 put-u32-requires c κs = search needs
 
--- src/field.rt:132:1
 same-length : tie.Need-same-length
 same-length c = search needs
 
--- src/field.rt:132:1
 returns : tie.Need-returns
 returns c =
     let start = c .before .before .before .before .before .before in

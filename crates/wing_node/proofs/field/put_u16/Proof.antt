@@ -11,44 +11,34 @@ use Rattle.wing_node.proofs.field.put_u16.Reads as reads
 use Rattle.wing_node.proofs.field.put_u16.Lts as lts
 use Rattle.wing_node.proofs.field.left.Reads as left-reads
 
--- src/field.rt:105:8
 left-requires : tie.Need-left-requires
 left-requires c κs = search needs
 
--- src/field.rt:106:9
 same-length : tie.Need-same-length
 same-length c = search needs
 
--- src/field.rt:106:9
 returns : tie.Need-returns
 unfolding digitsIn
 returns c = sym (put-short (bytesOf 2 _) _ _ (omega arith))
 
--- src/field.rt:108:15
 cast-out : tie.Need-cast-out
 cast-out c = search needs
 
--- src/field.rt:108:5
 slice-write-out : tie.Need-slice-write-out
 slice-write-out c = search needs
 
--- src/field.rt:109:19
 cast-out-2 : tie.Need-cast-out-2
 cast-out-2 c = search needs
 
--- src/field.rt:109:9
 add-out : tie.Need-add-out
 add-out c = search needs
 
--- src/field.rt:109:5
 slice-write-out-2 : tie.Need-slice-write-out-2
 slice-write-out-2 c = simp length-set (omega arith)
 
--- src/field.rt:102:1
 same-length-2 : tie.Need-same-length-2
 same-length-2 c = search needs
 
--- src/field.rt:102:1
 returns-2 : tie.Need-returns-2
 unfolding digitsIn
 returns-2 c = stores-two _ _ _ _ (omega arith)

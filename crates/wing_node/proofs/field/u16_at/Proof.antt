@@ -12,31 +12,24 @@ use Rattle.wing_node.proofs.field.u16_at.Lts as lts
 use Rattle.wing_node.proofs.field.left.Reads as left-reads
 use Rattle.wing_node.proofs.field.number_16.Reads as number-16-reads
 
--- src/field.rt:74:8
 left-requires : tie.Need-left-requires
 left-requires c κs = search needs
 
--- src/field.rt:75:9
 returns : tie.Need-returns
 returns c = sym (field-short 2 _ _ (omega arith))
 
--- src/field.rt:77:15
 shared-slice-read-number-16 : tie.Need-shared-slice-read-number-16
 shared-slice-read-number-16 c = search needs
 
--- src/field.rt:77:24
 add-number-16 : tie.Need-add-number-16
 add-number-16 c = search needs
 
--- src/field.rt:77:22
 shared-slice-read-number-16-2 : tie.Need-shared-slice-read-number-16-2
 shared-slice-read-number-16-2 c = search needs
 
--- src/field.rt:77:5
 number-16-requires : tie.Need-number-16-requires
 number-16-requires c κs = search needs
 
--- src/field.rt:71:1
 returns-2 : tie.Need-returns-2
 returns-2 c =
     let s = c .before .before .before .before .before .before .args .s .now in

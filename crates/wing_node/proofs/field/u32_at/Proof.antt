@@ -12,47 +12,36 @@ use Rattle.wing_node.proofs.field.u32_at.Lts as lts
 use Rattle.wing_node.proofs.field.left.Reads as left-reads
 use Rattle.wing_node.proofs.field.number_32.Reads as number-32-reads
 
--- src/field.rt:83:8
 left-requires : tie.Need-left-requires
 left-requires c κs = search needs
 
--- src/field.rt:84:9
 returns : tie.Need-returns
 returns c = sym (field-short 4 _ _ (omega arith))
 
--- src/field.rt:86:15
 shared-slice-read-number-32 : tie.Need-shared-slice-read-number-32
 shared-slice-read-number-32 c = search needs
 
--- src/field.rt:86:24
 add-number-32 : tie.Need-add-number-32
 add-number-32 c = search needs
 
--- src/field.rt:86:22
 shared-slice-read-number-32-2 : tie.Need-shared-slice-read-number-32-2
 shared-slice-read-number-32-2 c = search needs
 
--- src/field.rt:86:35
 add-number-32-2 : tie.Need-add-number-32-2
 add-number-32-2 c = search needs
 
--- src/field.rt:86:33
 shared-slice-read-number-32-3 : tie.Need-shared-slice-read-number-32-3
 shared-slice-read-number-32-3 c = search needs
 
--- src/field.rt:86:46
 add-number-32-3 : tie.Need-add-number-32-3
 add-number-32-3 c = search needs
 
--- src/field.rt:86:44
 shared-slice-read-number-32-4 : tie.Need-shared-slice-read-number-32-4
 shared-slice-read-number-32-4 c = search needs
 
--- src/field.rt:86:5
 number-32-requires : tie.Need-number-32-requires
 number-32-requires c κs = search needs
 
--- src/field.rt:80:1
 returns-2 : tie.Need-returns-2
 returns-2 c =
     let s = c .before .before .before .before .before .before .before .before .args .s .now in

@@ -5,63 +5,48 @@ use Rattle.wing_node.proofs.items.first_of.Reads as reads
 use Rattle.wing_node.proofs.items.first_of.Lts as lts
 use Rattle.wing_node.proofs.items.walk_of.Reads as walk-of-reads
 
--- src/items.rt:46:26
 enum-known-details : tie.Need-enum-known-details
 enum-known-details c = search needs
 
--- src/items.rt:46:44
 walk-of-requires : tie.Need-walk-of-requires
 walk-of-requires c κs = search needs
 
--- src/items.rt:47:26
 enum-told : tie.Need-enum-told
 enum-told c = search needs
 
--- src/items.rt:47:26
 walk-of-requires-2 : tie.Need-walk-of-requires-2
 walk-of-requires-2 c κs = search needs
 
--- src/items.rt:52:14
 enum-told-2 : tie.Need-enum-told-2
 enum-told-2 c = search needs
 
--- src/items.rt:52:14
 walk-of-requires-3 : tie.Need-walk-of-requires-3
 walk-of-requires-3 c κs = search needs
 
--- src/items.rt:53:49
 enum-told-3 : tie.Need-enum-told-3
 enum-told-3 c = search needs
 
--- src/items.rt:53:49
 walk-of-requires-4 : tie.Need-walk-of-requires-4
 walk-of-requires-4 c κs = search needs
 
--- src/items.rt:54:43
 enum-told-4 : tie.Need-enum-told-4
 enum-told-4 c = search needs
 
--- src/items.rt:54:43
 walk-of-requires-5 : tie.Need-walk-of-requires-5
 walk-of-requires-5 c κs = search needs
 
--- src/items.rt:42:1
 returns : tie.Need-returns
 returns c = simp (c .before .before .details .given .1, c .walk-of .ensures)
 
--- src/items.rt:42:1
 returns-2 : tie.Need-returns-2
 returns-2 c = simp (c .before .enum-told .given .1, c .walk-of2 .ensures)
 
--- src/items.rt:42:1
 returns-3 : tie.Need-returns-3
 returns-3 c = simp (c .before .enum-told2 .given .1, c .walk-of3 .ensures)
 
--- src/items.rt:42:1
 returns-4 : tie.Need-returns-4
 returns-4 c = simp (c .before .enum-told3 .given .1, c .walk-of4 .ensures)
 
--- src/items.rt:42:1
 returns-5 : tie.Need-returns-5
 returns-5 c = simp (c .before .enum-told4 .given .1, c .walk-of5 .ensures)
 

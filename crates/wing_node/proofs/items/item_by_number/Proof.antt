@@ -7,28 +7,22 @@ use Rattle.wing_node.proofs.items.item_by_number.Lts as lts
 use Rattle.wing_node.proofs.items.items_begin.Reads as items-begin-reads
 use Rattle.wing_node.proofs.items.numbered.Reads as numbered-reads
 
--- src/items.rt:125:9
 items-begin-requires : tie.Need-items-begin-requires
 items-begin-requires c κs = search needs
 
--- src/items.rt:127:21
 enum-known-begun : tie.Need-enum-known-begun
 enum-known-begun c = search needs
 
--- src/items.rt:127:31
 numbered-requires : tie.Need-numbered-requires
 numbered-requires c κs = search needs
 
--- src/items.rt:128:24
 enum-known-begun-2 : tie.Need-enum-known-begun-2
 enum-known-begun-2 c = search needs
 
--- src/items.rt:122:1
 returns : tie.Need-returns
 unfolding itemNumbered
 returns c = simp (← c .before .before .before .before .items-begin .ensures, c .before .before .begun .given .1, c .numbered .ensures)
 
--- src/items.rt:122:1
 returns-2 : tie.Need-returns-2
 unfolding itemNumbered
 returns-2 c = simp (← c .before .before .before .items-begin .ensures, c .before .begun2 .given .1)

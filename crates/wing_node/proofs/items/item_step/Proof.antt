@@ -9,50 +9,39 @@ use Rattle.wing_node.proofs.definition.read_item.Reads as read-item-rea
 use Rattle.wing_node.proofs.items.stay.Reads as stay-reads
 use Rattle.wing_node.proofs.node_type.has_items.Reads as has-items-reads
 
--- src/items.rt:91:9
 stay-requires : tie.Need-stay-requires
 stay-requires c κs = search needs
 
--- src/items.rt:91:9
 returns : tie.Need-returns
 unfolding stepAt
 returns c = simp (eq-eqb _ _ (c .before .if1 .taken), c .stay .ensures)
 
--- src/items.rt:93:8
 has-items-requires : tie.Need-has-items-requires
 has-items-requires c κs = search needs
 
--- src/items.rt:94:13
 read-item-requires : tie.Need-read-item-requires
 read-item-requires c κs = search needs
 
--- src/items.rt:98:13
 stay-requires-2 : tie.Need-stay-requires-2
 stay-requires-2 c κs = search needs
 
--- src/items.rt:98:13
 returns-2 : tie.Need-returns-2
 unfolding stepAt
 returns-2 c = simp (ne-eqb _ _ (c .before .before .before .before .before .before .if1 .left), ← c .before .before .before .before .before .has-items .ensures, c .before .before .before .before .if2 .taken, ← c .before .before .before .read-item .ensures, ne-eqb _ _ (c .before .if3 .taken), c .stay2 .ensures)
 
--- src/items.rt:101:36
 sub-stay : tie.Need-sub-stay
 sub-stay c = search needs
 
--- src/items.rt:101:9
 stay-requires-3 : tie.Need-stay-requires-3
 stay-requires-3 c κs = search needs
 
--- src/items.rt:101:9
 returns-3 : tie.Need-returns-3
 unfolding stepAt
 returns-3 c = simp (ne-eqb _ _ (c .before .before .before .before .before .before .if1 .left), ← c .before .before .before .before .before .has-items .ensures, c .before .before .before .before .if2 .taken, ← c .before .before .before .read-item .ensures, eq-eqb _ _ (c .before .if3 .left), c .stay3 .ensures)
 
--- src/items.rt:103:5
 stay-requires-4 : tie.Need-stay-requires-4
 stay-requires-4 c κs = search needs
 
--- src/items.rt:87:1
 returns-4 : tie.Need-returns-4
 unfolding stepAt
 returns-4 c = simp (ne-eqb _ _ (c .before .before .before .if1 .left), ← c .before .before .has-items .ensures, c .before .if2 .left, c .stay4 .ensures)

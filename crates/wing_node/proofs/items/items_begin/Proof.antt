@@ -7,28 +7,22 @@ use Rattle.wing_node.proofs.items.items_begin.Lts as lts
 use Rattle.wing_node.proofs.definition.from_bytes.Reads as from-bytes-reads
 use Rattle.wing_node.proofs.items.first_of.Reads as first-of-reads
 
--- src/items.rt:61:9
 from-bytes-requires : tie.Need-from-bytes-requires
 from-bytes-requires c κs = search needs
 
--- src/items.rt:63:22
 enum-known-parsed : tie.Need-enum-known-parsed
 enum-known-parsed c = search needs
 
--- src/items.rt:66:17
 first-of-requires : tie.Need-first-of-requires
 first-of-requires c κs = search needs
 
--- src/items.rt:69:25
 enum-known-parsed-2 : tie.Need-enum-known-parsed-2
 enum-known-parsed-2 c = search needs
 
--- src/items.rt:58:1
 returns : tie.Need-returns
 unfolding beginOf
 returns c = simp (← c .before .before .before .before .from-bytes .ensures, c .before .before .parsed .given .1, c .first-of .ensures)
 
--- src/items.rt:58:1
 returns-2 : tie.Need-returns-2
 unfolding beginOf
 returns-2 c = simp (← c .before .before .before .from-bytes .ensures, c .before .parsed2 .given .1)

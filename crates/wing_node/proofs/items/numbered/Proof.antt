@@ -8,32 +8,25 @@ use Rattle.wing_node.proofs.items.numbered.Lts as lts
 use Rattle.wing_node.proofs.definition.past_items.Reads as past-items-reads
 use Rattle.wing_node.proofs.items.item_step.Reads as item-step-reads
 
--- src/items.rt:112:8
 cast-if1 : tie.Need-cast-if1
 cast-if1 c = search needs
 
--- src/items.rt:113:9
 returns : tie.Need-returns
 unfolding numberedFrom
 returns c = simp (le-leb _ _ (c .if1 .taken))
 
--- src/items.rt:115:18
 cast-before : tie.Need-cast-before
 cast-before c = search needs
 
--- src/items.rt:116:9
 past-items-requires : tie.Need-past-items-requires
 past-items-requires c κs = search needs
 
--- src/items.rt:117:39
 sub-item-step : tie.Need-sub-item-step
 sub-item-step c = search needs
 
--- src/items.rt:117:9
 item-step-requires : tie.Need-item-step-requires
 item-step-requires c κs = search needs
 
--- src/items.rt:106:1
 returns-2 : tie.Need-returns-2
 unfolding numberedFrom
 returns-2 c = simp (lt-leb _ _ (c .before .before .if1 .left), c .before .past-items .ensures, c .item-step .ensures)

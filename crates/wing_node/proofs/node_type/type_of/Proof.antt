@@ -7,47 +7,38 @@ use Rattle.wing_node.proofs.node_type.type_of.Tie as tie
 use Rattle.wing_node.proofs.node_type.type_of.Reads as reads
 use Rattle.wing_node.proofs.node_type.type_of.Lts as lts
 
--- src/node_type.rt:28:1
 returns : tie.Need-returns
 unfolding typeOf
 returns c = simp (c .match .keys1)
 
--- src/node_type.rt:28:1
 returns-2 : tie.Need-returns-2
 unfolding typeOf
 returns-2 c = simp (c .match .keys2)
 
--- src/node_type.rt:28:1
 returns-3 : tie.Need-returns-3
 unfolding typeOf
 returns-3 c = simp (c .match .keys3)
 
--- src/node_type.rt:28:1
 returns-4 : tie.Need-returns-4
 unfolding typeOf
 returns-4 c = simp (c .match .keys4)
 
--- src/node_type.rt:28:1
 returns-5 : tie.Need-returns-5
 unfolding typeOf
 returns-5 c = simp (c .match .keys5)
 
--- src/node_type.rt:28:1
 returns-6 : tie.Need-returns-6
 unfolding typeOf
 returns-6 c = simp (c .match .keys6)
 
--- src/node_type.rt:28:1
 returns-7 : tie.Need-returns-7
 unfolding typeOf
 returns-7 c = simp (c .match .keys7)
 
--- src/node_type.rt:28:1
 returns-8 : tie.Need-returns-8
 unfolding typeOf
 returns-8 c = simp (c .match .keys8)
 
--- src/node_type.rt:28:1
 returns-9 : tie.Need-returns-9
 unfolding typeOf
 returns-9 c =

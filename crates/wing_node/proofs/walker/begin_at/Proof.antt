@@ -6,15 +6,12 @@ use Rattle.wing_node.proofs.walker.begin_at.Lts as lts
 use Rattle.wing_node.proofs.items.items_begin.Reads as items-begin-reads
 use Rattle.wing_node.proofs.walker.start_of.Reads as start-of-reads
 
--- src/walker.rt:69:9
 items-begin-requires : tie.Need-items-begin-requires
 items-begin-requires c κs = search needs
 
--- src/walker.rt:70:5
 start-of-requires : tie.Need-start-of-requires
 start-of-requires c κs = search needs
 
--- src/walker.rt:66:1
 returns : tie.Need-returns
 returns c = simp (c .before .items-begin .ensures, c .start-of .ensures)
 

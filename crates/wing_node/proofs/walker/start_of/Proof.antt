@@ -4,19 +4,15 @@ use Rattle.wing_node.proofs.walker.start_of.Tie as tie
 use Rattle.wing_node.proofs.walker.start_of.Reads as reads
 use Rattle.wing_node.proofs.walker.start_of.Lts as lts
 
--- src/walker.rt:48:21
 enum-known-begun : tie.Need-enum-known-begun
 enum-known-begun c = search needs
 
--- src/walker.rt:57:24
 enum-known-begun-2 : tie.Need-enum-known-begun-2
 enum-known-begun-2 c = search needs
 
--- src/walker.rt:44:1
 returns : tie.Need-returns
 returns c = simp (c .before .begun .given .1)
 
--- src/walker.rt:44:1
 returns-2 : tie.Need-returns-2
 returns-2 c = simp (c .before .begun2 .given .1)
 

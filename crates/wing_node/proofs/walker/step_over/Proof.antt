@@ -1,5 +1,4 @@
 -- `wing_node::walker::step_over` meets its contract: a walk of its MIR, by hand. A walker is made of the slice and the walk, `step` is called on it, and the plain numbers are taken out of the walker that it gives.
--- Assumes nothing.
 use mathlib.Core.Path.{_≡_, refl, ap}
 use Prim.Native.Nat.{ℕ}
 use mathlib.Core.List.{[], _∷_, List}

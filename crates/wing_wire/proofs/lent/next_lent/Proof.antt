@@ -1,5 +1,4 @@
 -- `wing_wire::lent::next_lent` meets its contract: a walk of its MIR, by hand. The borrow is opened, the struct is copied out and passed to `next_parted`, the state of what that returns is stored back, and the borrow is closed at it.
--- Assumes nothing.
 use mathlib.Core.Path.{_≡_, refl, ap}
 use Prim.Native.Nat.{ℕ}
 use mathlib.Core.List.{[], _∷_, List}

@@ -6,69 +6,54 @@ use Rattle.wing_wire.proofs.reader.body_beside.Reads as reads
 use Rattle.wing_wire.proofs.reader.body_beside.Lts as lts
 use Rattle.wing_wire.proofs.reader.body_front.Reads as body-front-reads
 
--- src/reader.rt:74:25
 enum-told : tie.Need-enum-told
 enum-told c = search needs
 
--- src/reader.rt:75:31
 enum-told-2 : tie.Need-enum-told-2
 enum-told-2 c = search needs
 
--- src/reader.rt:76:29
 enum-told-3 : tie.Need-enum-told-3
 enum-told-3 c = search needs
 
--- src/reader.rt:77:30
 enum-told-4 : tie.Need-enum-told-4
 enum-told-4 c = search needs
 
--- src/reader.rt:78:22
 enum-known-a : tie.Need-enum-known-a
 enum-known-a c = search needs
 
--- src/reader.rt:78:28
 body-front-requires : tie.Need-body-front-requires
 body-front-requires c κs = search needs
 
--- src/reader.rt:79:24
 enum-told-5 : tie.Need-enum-told-5
 enum-told-5 c = search needs
 
--- src/reader.rt:80:31
 enum-told-6 : tie.Need-enum-told-6
 enum-told-6 c = search needs
 
--- src/reader.rt:70:1
 returns : tie.Need-returns
 unfolding bodyBeside
 returns c = simp (c .enum-told .given .1)
 
--- src/reader.rt:70:1
 returns-2 : tie.Need-returns-2
 unfolding bodyBeside
 returns-2 c = simp (c .enum-told2 .given .1)
 
--- src/reader.rt:70:1
 returns-3 : tie.Need-returns-3
 unfolding bodyBeside
 returns-3 c = simp (c .enum-told3 .given .1)
 
--- src/reader.rt:70:1
 returns-4 : tie.Need-returns-4
 unfolding bodyBeside
 returns-4 c = simp (c .enum-told4 .given .1)
 
--- src/reader.rt:70:1
 returns-5 : tie.Need-returns-5
 unfolding bodyBeside
 returns-5 c = simp (c .before .before .a .given .1, c .body-front .ensures)
 
--- src/reader.rt:70:1
 returns-6 : tie.Need-returns-6
 unfolding bodyBeside
 returns-6 c = simp (c .enum-told5 .given .1)
 
--- src/reader.rt:70:1
 returns-7 : tie.Need-returns-7
 unfolding bodyBeside
 returns-7 c = simp (c .enum-told6 .given .1)

@@ -18,38 +18,30 @@ Inv-loop out₀ s n most i₀ out i = (i ≤ most) × (most ≡ min (min n (leng
 abbrev μ-loop : tie.MeasureT-loop
 μ-loop out₀ s n most i₀ out i = most - i
 
--- src/reader.rt:32:22
 least-requires : tie.Need-least-requires Inv-loop μ-loop
 least-requires c κs = search needs
 
--- src/reader.rt:32:9
 least-requires-2 : tie.Need-least-requires-2 Inv-loop μ-loop
 least-requires-2 c κs = search needs
 
--- src/reader.rt:34:5
 loop-holds : tie.Need-loop-holds Inv-loop μ-loop
 loop-holds c = (omega arith, c .least2 .ensures ∙ ap (λ (k : ℕ). min k (length (c .before .before .before .before .args .out .now))) (c .before .least .ensures), refl)
 
--- src/reader.rt:35:18
 shared-slice-read-out : tie.Need-shared-slice-read-out Inv-loop μ-loop
 shared-slice-read-out c = omega arith
 
--- src/reader.rt:35:9
 slice-write-out : tie.Need-slice-write-out Inv-loop μ-loop
 slice-write-out c =
     let l = c .before .before .loop in
     let e : length (l .out) ≡ length (c .before .before .before .before .before .before .before .args .out .now) = ap length (l .inv .2) ∙ simp length-over in
     omega arith
 
--- src/reader.rt:36:9
 add-i : tie.Need-add-i Inv-loop μ-loop
 add-i c = omega arith
 
--- src/reader.rt:34:5
 loop-less : tie.Need-loop-less Inv-loop μ-loop
 loop-less c = omega arith
 
--- src/reader.rt:34:5
 loop-again : tie.Need-loop-again Inv-loop μ-loop
 loop-again c =
     let l = c .before .before .loop in
@@ -59,11 +51,9 @@ loop-again c =
     let within : i < length s = omega arith in
     (omega arith, l .inv .1, ap (λ (d : List ℕ). set d i (getD s i 0)) (l .inv .2) ∙ over-turn s (args .out .now) i within)
 
--- src/reader.rt:29:1
 same-length : tie.Need-same-length Inv-loop μ-loop
 same-length c = ap length (c .before .loop .inv .2) ∙ simp length-over
 
--- src/reader.rt:29:1
 returns : tie.Need-returns Inv-loop μ-loop
 returns c =
     let l = c .before .loop in

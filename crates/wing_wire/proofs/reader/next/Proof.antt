@@ -12,15 +12,12 @@ use Rattle.wing_wire.proofs.reader.read_on.Reads as read-on-reads
 use Rattle.wing_wire.proofs.reader.refuse.Reads as refuse-reads
 use Rattle.wing_wire.proofs.state.is_sound.Reads as is-sound-reads
 
--- src/reader.rt:123:8
 is-sound-requires : tie.Need-is-sound-requires
 is-sound-requires c κs = search needs
 
--- src/reader.rt:125:13
 read-on-requires : tie.Need-read-on-requires
 read-on-requires c κs = search needs
 
--- src/reader.rt:125:13
 returns : tie.Need-returns
 unfolding nextOf
 returns c =
@@ -29,21 +26,17 @@ returns c =
     simp (← c .before .before .before .is-sound .ensures, c .before .before .if1 .taken, le-leb _ _ (c .before .if2 .taken), c .read-on .ensures)
     (refl, simp (← c .before .before .before .is-sound .ensures, c .before .before .if1 .taken, le-leb _ _ (c .before .if2 .taken)) at e)
 
--- src/reader.rt:127:9
 refuse-requires : tie.Need-refuse-requires
 refuse-requires c κs = search needs
 
--- src/reader.rt:127:9
 returns-2 : tie.Need-returns-2
 unfolding nextOf nextEvent eventOf
 returns-2 c =
     simp (← c .before .before .before .is-sound .ensures, c .before .before .if1 .taken, lt-leb _ _ (c .before .if2 .left), c .refuse .ensures) (refl, refl)
 
--- src/reader.rt:129:5
 refuse-requires-2 : tie.Need-refuse-requires-2
 refuse-requires-2 c κs = search needs
 
--- src/reader.rt:120:1
 returns-3 : tie.Need-returns-3
 unfolding nextOf nextEvent eventOf
 returns-3 c = simp (← c .before .before .is-sound .ensures, c .before .if1 .left, c .refuse2 .ensures) (refl, refl)

@@ -10,39 +10,30 @@ use Rattle.wing_wire.proofs.reader.string_beside.Reads as string-beside
 use Rattle.wing_wire.proofs.stream.advance.Reads as advance-reads
 use Rattle.wing_wire.proofs.stream.release.Reads as release-reads
 
--- src/reader.rt:102:24
 slice-aggregate-advance : tie.Need-slice-aggregate-advance
 slice-aggregate-advance c = search needs
 
--- src/reader.rt:102:9
 advance-requires : tie.Need-advance-requires
 advance-requires c κs = search needs
 
--- src/reader.rt:105:35
 slice-aggregate-string-beside : tie.Need-slice-aggregate-string-beside
 slice-aggregate-string-beside c = search needs
 
--- src/reader.rt:105:9
 string-beside-requires : tie.Need-string-beside-requires
 string-beside-requires c κs = search needs
 
--- src/reader.rt:106:31
 slice-aggregate-body-beside : tie.Need-slice-aggregate-body-beside
 slice-aggregate-body-beside c = search needs
 
--- src/reader.rt:106:9
 body-beside-requires : tie.Need-body-beside-requires
 body-beside-requires c κs = search needs
 
--- src/reader.rt:107:13
 slice-aggregate-release : tie.Need-slice-aggregate-release
 slice-aggregate-release c = search needs
 
--- src/reader.rt:107:5
 release-requires : tie.Need-release-requires
 release-requires c κs = search needs
 
--- src/reader.rt:97:1
 returns : tie.Need-returns
 returns c =
     rw (c .before .before .before .before .before .string-beside .ensures, c .before .before .before .body-beside .ensures, c .before .release .ensures)

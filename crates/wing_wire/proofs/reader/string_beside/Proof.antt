@@ -6,69 +6,54 @@ use Rattle.wing_wire.proofs.reader.string_beside.Reads as reads
 use Rattle.wing_wire.proofs.reader.string_beside.Lts as lts
 use Rattle.wing_wire.proofs.reader.string_front.Reads as string-front-reads
 
--- src/reader.rt:60:25
 enum-told : tie.Need-enum-told
 enum-told c = search needs
 
--- src/reader.rt:61:31
 enum-told-2 : tie.Need-enum-told-2
 enum-told-2 c = search needs
 
--- src/reader.rt:62:29
 enum-told-3 : tie.Need-enum-told-3
 enum-told-3 c = search needs
 
--- src/reader.rt:63:24
 enum-known-a : tie.Need-enum-known-a
 enum-known-a c = search needs
 
--- src/reader.rt:63:30
 string-front-requires : tie.Need-string-front-requires
 string-front-requires c κs = search needs
 
--- src/reader.rt:64:28
 enum-told-4 : tie.Need-enum-told-4
 enum-told-4 c = search needs
 
--- src/reader.rt:65:24
 enum-told-5 : tie.Need-enum-told-5
 enum-told-5 c = search needs
 
--- src/reader.rt:66:31
 enum-told-6 : tie.Need-enum-told-6
 enum-told-6 c = search needs
 
--- src/reader.rt:56:1
 returns : tie.Need-returns
 unfolding stringBeside
 returns c = simp (c .enum-told .given .1)
 
--- src/reader.rt:56:1
 returns-2 : tie.Need-returns-2
 unfolding stringBeside
 returns-2 c = simp (c .enum-told2 .given .1)
 
--- src/reader.rt:56:1
 returns-3 : tie.Need-returns-3
 unfolding stringBeside
 returns-3 c = simp (c .enum-told3 .given .1)
 
--- src/reader.rt:56:1
 returns-4 : tie.Need-returns-4
 unfolding stringBeside
 returns-4 c = simp (c .before .before .a .given .1, c .string-front .ensures)
 
--- src/reader.rt:56:1
 returns-5 : tie.Need-returns-5
 unfolding stringBeside
 returns-5 c = simp (c .enum-told4 .given .1)
 
--- src/reader.rt:56:1
 returns-6 : tie.Need-returns-6
 unfolding stringBeside
 returns-6 c = simp (c .enum-told5 .given .1)
 
--- src/reader.rt:56:1
 returns-7 : tie.Need-returns-7
 unfolding stringBeside
 returns-7 c = simp (c .enum-told6 .given .1)
