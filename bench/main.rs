@@ -15,7 +15,9 @@ extern "C" {
     fn port_set_float(out: *mut u8, m: usize, id: i32, bits: u32) -> usize;
     fn port_set_string(out: *mut u8, m: usize, id: i32, s: *const u8, n: usize) -> usize;
     fn port_read_meters(packet: *const u8, n: usize, out: *mut i16, m: usize) -> usize;
-    fn port_feed(table: *mut u8, m: usize, bytes: *const u8, n: usize) -> usize;
+    fn port_feed(table: *mut u8, m: usize, count: usize, bytes: *const u8, n: usize) -> usize;
+    fn port_mirror_set(table: *mut u8, m: usize, count: usize, out: *mut u8, n: usize, id: i32, x: i32) -> usize;
+    fn port_recall(table: *const u8, m: usize, count: usize, out: *mut u8, n: usize) -> usize;
     fn port_is_utf8(s: *const u8, n: usize) -> u32;
 }
 
@@ -313,7 +315,7 @@ fn loading() -> Part {
             });
             black_box(&map).len() as u64
         }),
-        port: Box::new(move || unsafe { port_feed(black_box(&mut table).as_mut_ptr(), 1024 * 264, black_box(&same).as_ptr(), same.len()) as u64 }),
+        port: Box::new(move || unsafe { port_feed(black_box(&mut table).as_mut_ptr(), 1024 * 264, 0, black_box(&same).as_ptr(), same.len()) as u64 }),
     }
 }
 
@@ -372,6 +374,28 @@ fn measure(p: &mut Part) {
     println!("{:<32} {:>10.1} {:>10.1} {:>7.2} {:>6.2}-{:<6.2} {:>5}{said}", p.name, rust * 1e6, port * 1e6, middle, low, high, budget);
 }
 
+fn print_alone(name: &str, mut work: Work) {
+    let calls = calls_for(&mut work);
+    let mut each: Vec<f64> = (0..21).map(|_| seconds(&mut work, calls)).collect();
+    each.sort_by(f64::total_cmp);
+    println!("{:<32} {:>10} {:>10.1}", name, "", each[10] * 1e6);
+}
+
+// What a call on a mirror of 1,024 records costs: libwing has no such calls.
+fn alone() {
+    let bytes = capture();
+    let mut table = vec![0u8; 1024 * 264];
+    let m = table.len();
+    let count = unsafe { port_feed(table.as_mut_ptr(), m, 0, bytes.as_ptr(), bytes.len()) };
+    let (mut fed, mut set, recalled) = (table.clone(), table.clone(), table);
+    let mut order = [0u8; 18];
+    let mut out = vec![0u8; 2 + 395 * 1024];
+    let short = [0xd7, 0, 0, 3, 0xe8, 5];
+    print_alone("feed 6 bytes", Box::new(move || unsafe { port_feed(black_box(&mut fed).as_mut_ptr(), m, count, black_box(&short).as_ptr(), 6) as u64 }));
+    print_alone("set an integer", Box::new(move || unsafe { port_mirror_set(black_box(&mut set).as_mut_ptr(), m, count, order.as_mut_ptr(), 18, 1000, 5) as u64 }));
+    print_alone("recall", Box::new(move || unsafe { port_recall(black_box(&recalled).as_ptr(), m, count, out.as_mut_ptr(), out.len()) as u64 }));
+}
+
 fn main() {
     let words: Vec<String> = std::env::args().skip(1).collect();
     let mut parts = parts();
@@ -394,4 +418,6 @@ fn main() {
         }
         measure(p);
     }
+    println!("with 1,024 records:");
+    alone();
 }

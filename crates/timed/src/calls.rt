@@ -1,5 +1,6 @@
 // The libraries' calls as bench/ times them: slices and numbers alone, since no enum crosses the border to Rust.
 use wing_mirror::feed::feed;
+use wing_mirror::recall::recall;
 use wing_node::definition::Parsed;
 use wing_node::definition::from_bytes;
 use wing_node::field::of_i32;
@@ -187,12 +188,30 @@ pub extern "C" fn port_read_meters(packet: &[u8], out: &mut [i16]) -> usize {
     }
 }
 
-// A capture of at most 65,536 bytes into a fresh mirror; the number of records.
+// At most 65,536 bytes into a mirror with a fresh decoder; the number of records.
 #[no_mangle]
-pub extern "C" fn port_feed(table: &mut [u8], bytes: &[u8]) -> usize {
+pub extern "C" fn port_feed(table: &mut [u8], count: usize, bytes: &[u8]) -> usize {
     let s = State::fresh();
-    let r = feed(s, table, 0, bytes);
+    let r = feed(s, table, count, bytes);
     r.count
+}
+
+#[no_mangle]
+pub extern "C" fn port_mirror_set(
+    table: &mut [u8],
+    count: usize,
+    out: &mut [u8],
+    id: i32,
+    x: i32,
+) -> usize {
+    let r = wing_mirror::set::set_int(table, count, out, id, x);
+    let a = r.answer;
+    length(a)
+}
+
+#[no_mangle]
+pub extern "C" fn port_recall(table: &[u8], count: usize, out: &mut [u8]) -> usize {
+    length(recall(table, count, out))
 }
 
 #[no_mangle]

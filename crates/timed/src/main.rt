@@ -24,6 +24,6 @@ fn main() {
     let mut table = [0u8; TABLE];
     print(
         b"records ",
-        calls::port_feed(&mut table, &bytes[..n]) as u64,
+        calls::port_feed(&mut table, 0, &bytes[..n]) as u64,
     );
 }

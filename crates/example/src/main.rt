@@ -1,0 +1,81 @@
+// A recall box in small, to copy from: what the console sent goes into a mirror, the engineer sets a strip, and between two
+// shows everything is sent back; here it goes into a second mirror, which is then equal to the first.
+use libc::STDIN_FILENO;
+use libc::STDOUT_FILENO;
+use wing_mirror::answer::Lookup;
+use wing_mirror::answer::Same;
+use wing_mirror::feed::feed;
+use wing_mirror::query::lookup;
+use wing_mirror::query::same;
+use wing_mirror::recall::recall;
+use wing_mirror::set::set_int;
+use wing_wire::state::State;
+use wing_wire::write::Written;
+
+// 16 places of 264 bytes.
+const TABLE: usize = 4224;
+
+// df d1, and at most 395 bytes for each of 16 records.
+const RECALL: usize = 6322;
+
+fn line(label: &[u8], n: u64) {
+    io::write_all(STDOUT_FILENO, label);
+    io::print_decimal(STDOUT_FILENO, n);
+    io::write_all(STDOUT_FILENO, b"\n");
+}
+
+fn said(w: Written) -> usize {
+    match w {
+        Written::Bytes(n) => {
+            line(b"bytes to send: ", n as u64);
+            n
+        }
+        Written::Refused(why) => {
+            line(b"refused: ", why as u64);
+            0
+        }
+    }
+}
+
+fn found(l: Lookup) {
+    match l {
+        Lookup::At(number) => line(b"node 1 is record ", number as u64),
+        Lookup::None => line(b"records of node 1: ", 0),
+        Lookup::Refused(why) => line(b"refused: ", why as u64),
+    }
+}
+
+fn compared(s: Same) {
+    match s {
+        Same::Yes => line(b"equal mirrors: ", 1),
+        Same::No => line(b"equal mirrors: ", 0),
+        Same::Refused(why) => line(b"refused: ", why as u64),
+    }
+}
+
+// A fresh mirror that is fed what recall wrote.
+fn rebuild(table: &[u8], count: usize, sent: &[u8]) {
+    let mut again = [0u8; TABLE];
+    let fed = feed(State::fresh(), &mut again, 0, sent);
+    compared(same(table, count, &again, fed.count));
+}
+
+fn main() {
+    let mut bytes = [0u8; 65536];
+    let n = io::read_full(STDIN_FILENO, &mut bytes);
+    let mut table = [0u8; TABLE];
+    let fed = feed(State::fresh(), &mut table, 0, &bytes[..n]);
+    line(b"records: ", fed.count as u64);
+
+    let mut order = [0u8; 18];
+    let set = set_int(&mut table, fed.count, &mut order, 1, -5);
+    let answer = set.answer;
+    said(answer);
+    found(lookup(&table, set.count, 1));
+
+    let mut out = [0u8; RECALL];
+    let k = said(recall(&table, set.count, &mut out));
+    if k <= out.len() {
+        rebuild(&table, set.count, &out[0..k]);
+    }
+}
