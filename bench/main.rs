@@ -374,7 +374,8 @@ fn measure(p: &mut Part) {
     println!("{:<32} {:>10.1} {:>10.1} {:>7.2} {:>6.2}-{:<6.2} {:>5}{said}", p.name, rust * 1e6, port * 1e6, middle, low, high, budget);
 }
 
-fn print_alone(name: &str, mut work: Work) {
+fn print_alone(name: &str, wanted: impl Fn(u64) -> bool, mut work: Work) {
+    assert!(wanted(work()), "{name}: refused");
     let calls = calls_for(&mut work);
     let mut each: Vec<f64> = (0..21).map(|_| seconds(&mut work, calls)).collect();
     each.sort_by(f64::total_cmp);
@@ -391,9 +392,9 @@ fn alone() {
     let mut order = [0u8; 18];
     let mut out = vec![0u8; 2 + 395 * 1024];
     let short = [0xd7, 0, 0, 3, 0xe8, 5];
-    print_alone("feed 6 bytes", Box::new(move || unsafe { port_feed(black_box(&mut fed).as_mut_ptr(), m, count, black_box(&short).as_ptr(), 6) as u64 }));
-    print_alone("set an integer", Box::new(move || unsafe { port_mirror_set(black_box(&mut set).as_mut_ptr(), m, count, order.as_mut_ptr(), 18, 1000, 5) as u64 }));
-    print_alone("recall", Box::new(move || unsafe { port_recall(black_box(&recalled).as_ptr(), m, count, out.as_mut_ptr(), out.len()) as u64 }));
+    print_alone("feed 6 bytes", |n| n == 1024, Box::new(move || unsafe { port_feed(black_box(&mut fed).as_mut_ptr(), m, count, black_box(&short).as_ptr(), 6) as u64 }));
+    print_alone("set an integer", |n| n == 6, Box::new(move || unsafe { port_mirror_set(black_box(&mut set).as_mut_ptr(), m, count, order.as_mut_ptr(), 18, 1000, 5) as u64 }));
+    print_alone("recall", |n| n > 6 * 1024, Box::new(move || unsafe { port_recall(black_box(&recalled).as_ptr(), m, count, out.as_mut_ptr(), out.len()) as u64 }));
 }
 
 fn main() {
