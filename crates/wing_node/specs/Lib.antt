@@ -1,4 +1,5 @@
 pub mod Bool
+pub mod Result
 pub mod Digits
 pub mod Bytes
 pub mod Signed
