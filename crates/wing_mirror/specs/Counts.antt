@@ -1,40 +1,44 @@
 -- 01: a feed counts values stored, values with no place, strings refused, definitions read, definitions refused, and ends.
-use Prim.Native.Nat.{ℕ, suc, _+_}
-use lib.Dec.{eqb}
+use Prim.Native.Nat.{ℕ, _+_}
+use lib.Dec.{leb, eqb}
 use Rattle.wing_node.specs.Bool.{if}
 use Rattle.wing_node.specs.declared.definition.Parsed.{Parsed}
 use Rattle.wing_node.specs.declared.definition.Parsed.the-variants.{Good, Refused}
 use Rattle.wing_mirror.specs.declared.answer.Counts.{Counts}
 use Rattle.wing_mirror.specs.declared.counts.Mark.{Mark}
-use Rattle.wing_mirror.specs.declared.counts.Mark.the-variants.{Stored, Unplaced, StringRefused, DefinitionRead, DefinitionRefused, Ended}
+use Rattle.wing_mirror.specs.declared.counts.Mark.the-variants.{Stored, Unplaced, StringRefused, DefinitionRead, DefinitionRefused, Ended, Uncounted}
 
 -- 01's six counts, all 0
 abbrev pub none : Counts
 none = record { stored = 0; unplaced = 0; «strings_refused» = 0; «definitions_read» = 0; «definitions_refused» = 0; ends = 0 }
 
--- one more of them
-abbrev pub tick : Mark → Counts → Counts
-tick Stored c = record { stored = suc (c .stored); unplaced = c .unplaced; «strings_refused» = c .«strings_refused»; «definitions_read» = c .«definitions_read»; «definitions_refused» = c .«definitions_refused»; ends = c .ends }
-tick Unplaced c = record { stored = c .stored; unplaced = suc (c .unplaced); «strings_refused» = c .«strings_refused»; «definitions_read» = c .«definitions_read»; «definitions_refused» = c .«definitions_refused»; ends = c .ends }
-tick StringRefused c = record { stored = c .stored; unplaced = c .unplaced; «strings_refused» = suc (c .«strings_refused»); «definitions_read» = c .«definitions_read»; «definitions_refused» = c .«definitions_refused»; ends = c .ends }
-tick DefinitionRead c = record { stored = c .stored; unplaced = c .unplaced; «strings_refused» = c .«strings_refused»; «definitions_read» = suc (c .«definitions_read»); «definitions_refused» = c .«definitions_refused»; ends = c .ends }
-tick DefinitionRefused c = record { stored = c .stored; unplaced = c .unplaced; «strings_refused» = c .«strings_refused»; «definitions_read» = c .«definitions_read»; «definitions_refused» = suc (c .«definitions_refused»); ends = c .ends }
-tick Ended c = record { stored = c .stored; unplaced = c .unplaced; «strings_refused» = c .«strings_refused»; «definitions_read» = c .«definitions_read»; «definitions_refused» = c .«definitions_refused»; ends = suc (c .ends) }
+-- the number of a mark among them
+unfoldable pub order : Mark → ℕ
+order Stored = 0
+order Unplaced = 1
+order StringRefused = 2
+order DefinitionRead = 3
+order DefinitionRefused = 4
+order Ended = 5
+order Uncounted = 6
 
--- 01: refusal 1 is a string's; a definition refused is one with 2 to 5
-unfoldable pub refusalMark : ℕ → Mark
-refusalMark n = if (eqb n 1) StringRefused DefinitionRefused
+-- 1 if both marks are the same, else 0
+abbrev pub match : Mark → Mark → ℕ
+match m k = if (eqb (order m) (order k)) 1 0
 
--- 01: each body goes through the parser
-unfoldable pub bodyMark : Parsed → Mark
-bodyMark (Good d) = DefinitionRead
-bodyMark (Refused n) = DefinitionRefused
+-- one of a mark: 1 in its count, 0 in the others
+unfoldable pub one : Mark → Counts
+one m =
+    record {
+      stored = match m Stored;
+      unplaced = match m Unplaced;
+      «strings_refused» = match m StringRefused;
+      «definitions_read» = match m DefinitionRead;
+      «definitions_refused» = match m DefinitionRefused;
+      ends = match m Ended;
+    }
 
--- their sum
-abbrev pub total : Counts → ℕ
-total c = c .stored + c .unplaced + c .«strings_refused» + c .«definitions_read» + c .«definitions_refused» + c .ends
-
--- each of the six counts of two feeds together
+-- each of the counts of two together
 abbrev pub added : Counts → Counts → Counts
 added c d =
     record {
@@ -45,3 +49,20 @@ added c d =
       «definitions_refused» = c .«definitions_refused» + d .«definitions_refused»;
       ends = c .ends + d .ends;
     }
+
+-- one more of a mark
+abbrev pub tick : Mark → Counts → Counts
+tick m c = added c (one m)
+
+-- 01: refusal 1 is a string's; a definition refused is one with 2 to 5; no other number is counted
+unfoldable pub refusalMark : ℕ → Mark
+refusalMark n = if (eqb n 1) StringRefused (if (leb 2 n) (if (leb n 5) DefinitionRefused Uncounted) Uncounted)
+
+-- 01: each body goes through the parser: one that it takes, or its 4 or 5
+unfoldable pub bodyMark : Parsed → Mark
+bodyMark (Good d) = DefinitionRead
+bodyMark (Refused n) = refusalMark n
+
+-- their sum
+abbrev pub total : Counts → ℕ
+total c = c .stored + c .unplaced + c .«strings_refused» + c .«definitions_read» + c .«definitions_refused» + c .ends

@@ -5,7 +5,7 @@ ghost use Rattle.wing_mirror.specs.Counts.{none as noneOf, tick as tickO
 use crate::answer::Counts;
 use wing_node::definition::Parsed;
 
-// Which of the six is meant.
+// Which of the six is meant, if any.
 pub enum Mark {
     Stored,
     Unplaced,
@@ -13,6 +13,7 @@ pub enum Mark {
     DefinitionRead,
     DefinitionRefused,
     Ended,
+    Uncounted,
 }
 
 pub(crate) fn none() -> Counts
@@ -59,17 +60,23 @@ pub(crate) fn tick(c: Counts, m: Mark) -> Counts
             d.ends += 1;
             d
         }
+        Mark::Uncounted => d,
     }
 }
 
-// 01: refusal 1 is a string's; 2 and 3 are a definition's.
+// 01: refusal 1 is a string's, 2 to 5 are a definition's.
 pub(crate) fn refusal_mark(n: u8) -> Mark
     ensures { λ r. ⌜ r ≡ refusalMark n ⌝ }
 {
     if n == 1 {
         return Mark::StringRefused;
     }
-    Mark::DefinitionRefused
+    if 2 <= n {
+        if n <= 5 {
+            return Mark::DefinitionRefused;
+        }
+    }
+    Mark::Uncounted
 }
 
 pub(crate) fn body_mark(p: Parsed) -> Mark
@@ -77,6 +84,6 @@ pub(crate) fn body_mark(p: Parsed) -> Mark
 {
     match p {
         Parsed::Good(_) => Mark::DefinitionRead,
-        Parsed::Refused(_) => Mark::DefinitionRefused,
+        Parsed::Refused(n) => refusal_mark(n),
     }
 }

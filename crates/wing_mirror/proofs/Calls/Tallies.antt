@@ -4,7 +4,7 @@ use mathlib.Core.Bool.{Bool, true, false}
 use mathlib.Core.Path.{_≡_, refl, ap}
 use mathlib.Core.List.{List, [], _∷_}
 use native.Mathlib.Omega.{arith}
-use native.Mathlib.Nat.{add-zero, add-suc}
+use native.Mathlib.Nat.{add-zero, add-assoc}
 use lib.IntN.{ℤ}
 use lib.ListN.{length}
 use Rattle.wing_node.specs.Bool.{if}
@@ -12,22 +12,27 @@ use Rattle.wing_node.specs.Definition.{definitionOf}
 use Rattle.wing_wire.specs.Reader.{Event, more, value, body, end, refused}
 use Rattle.wing_mirror.specs.Record.{entry}
 use Rattle.wing_mirror.specs.Table.{put, fits}
-use Rattle.wing_mirror.specs.Counts.{none, tick, refusalMark, bodyMark, total, added}
+use Rattle.wing_mirror.specs.Counts.{none, order, one, tick, refusalMark, bodyMark, total, added}
 use Rattle.wing_mirror.specs.Mirror.{Tallied, tallied, keepEvent}
 use Rattle.wing_mirror.specs.Machine.{Reading}
 use Rattle.wing_mirror.specs.declared.answer.Counts.{Counts}
 use Rattle.wing_mirror.specs.declared.counts.Mark.{Mark}
-use Rattle.wing_mirror.specs.declared.counts.Mark.the-variants.{Stored, Unplaced, StringRefused, DefinitionRead, DefinitionRefused, Ended}
+use Rattle.wing_mirror.specs.declared.counts.Mark.the-variants.{Stored, Unplaced, StringRefused, DefinitionRead, DefinitionRefused, Ended, Uncounted}
 use Rattle.wing_mirror.proofs.Histories.Along.{handed}
 
--- a mark is one more in all
-tick-total : (k : Mark) (c : Counts) → total (tick k c) ≡ suc (total c)
-tick-total Stored c = omega arith
-tick-total Unplaced c = omega arith
-tick-total StringRefused c = omega arith
-tick-total DefinitionRead c = omega arith
-tick-total DefinitionRefused c = omega arith
-tick-total Ended c = omega arith
+-- a mark is at most one more in all
+one-total : (m : Mark) → total (one m) ≤ 1
+unfolding one order
+one-total Stored = omega arith
+one-total Unplaced = omega arith
+one-total StringRefused = omega arith
+one-total DefinitionRead = omega arith
+one-total DefinitionRefused = omega arith
+one-total Ended = omega arith
+one-total Uncounted = omega arith
+
+tick-total : (m : Mark) (c : Counts) → total (tick m c) ≤ suc (total c)
+tick-total m c = omega (arith, one-total m)
 
 -- each reading counts at most once
 pub keep-total : (node : ℤ) (e : Event) (k : Tallied) → total (keepEvent node e k .counts) ≤ suc (total (k .counts))
@@ -37,11 +42,11 @@ keep-total node (value v) k = go (fits (entry node v) (k .table))
   where
     go : (t : Bool) →
         total ((if {A = Tallied} t (tallied (put (entry node v) (k .table)) (tick Stored (k .counts))) (tallied (k .table) (tick Unplaced (k .counts)))) .counts) ≤ suc (total (k .counts))
-    go true = omega arith
-    go false = omega arith
-keep-total node (body b) k = omega (arith, tick-total (bodyMark (definitionOf b)) (k .counts))
-keep-total node end k = omega arith
-keep-total node (refused n) k = omega (arith, tick-total (refusalMark n) (k .counts))
+    go true = tick-total Stored (k .counts)
+    go false = tick-total Unplaced (k .counts)
+keep-total node (body b) k = tick-total (bodyMark (definitionOf b)) (k .counts)
+keep-total node end k = tick-total Ended (k .counts)
+keep-total node (refused n) k = tick-total (refusalMark n) (k .counts)
 
 -- so the counts sum to at most the readings
 pub handed-total : (rs : List Reading) (k : Tallied) → total (handed keepEvent rs k .counts) ≤ total (k .counts) + length rs
@@ -55,12 +60,7 @@ atop c k = tallied (k .table) (added c (k .counts))
 
 -- a mark on a sum is one on its second part
 tick-adds : (m : Mark) (c d : Counts) → added c (tick m d) ≡ tick m (added c d)
-tick-adds Stored c d = simp add-suc
-tick-adds Unplaced c d = simp add-suc
-tick-adds StringRefused c d = simp add-suc
-tick-adds DefinitionRead c d = simp add-suc
-tick-adds DefinitionRefused c d = simp add-suc
-tick-adds Ended c d = simp add-suc
+tick-adds m c d = simp add-assoc
 
 -- nothing added
 pub added-none : (c : Counts) → added c none ≡ c

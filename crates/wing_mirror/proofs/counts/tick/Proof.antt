@@ -1,4 +1,5 @@
-use native.Mathlib.Numerals.{add-one}
+use native.Mathlib.Nat.{add-zero}
+use Rattle.wing_mirror.specs.Counts.{order, one}
 use borrow.Author.Needs.{needs}
 use Rattle.wing_mirror.proofs.counts.tick.Statement.{statement}
 use Rattle.wing_mirror.proofs.counts.tick.Tie as tie
@@ -39,23 +40,36 @@ enum-told-6 c = search needs
 add-d-6 : tie.Need-add-d-6
 add-d-6 c = search needs
 
+enum-told-7 : tie.Need-enum-told-7
+enum-told-7 c = search needs
+
 returns : tie.Need-returns
-returns c = simp (c .before .enum-told .given .1, add-one)
+unfolding one order
+returns c = simp (c .before .enum-told .given .1, add-zero)
 
 returns-2 : tie.Need-returns-2
-returns-2 c = simp (c .before .enum-told2 .given .1, add-one)
+unfolding one order
+returns-2 c = simp (c .before .enum-told2 .given .1, add-zero)
 
 returns-3 : tie.Need-returns-3
-returns-3 c = simp (c .before .enum-told3 .given .1, add-one)
+unfolding one order
+returns-3 c = simp (c .before .enum-told3 .given .1, add-zero)
 
 returns-4 : tie.Need-returns-4
-returns-4 c = simp (c .before .enum-told4 .given .1, add-one)
+unfolding one order
+returns-4 c = simp (c .before .enum-told4 .given .1, add-zero)
 
 returns-5 : tie.Need-returns-5
-returns-5 c = simp (c .before .enum-told5 .given .1, add-one)
+unfolding one order
+returns-5 c = simp (c .before .enum-told5 .given .1, add-zero)
 
 returns-6 : tie.Need-returns-6
-returns-6 c = simp (c .before .enum-told6 .given .1, add-one)
+unfolding one order
+returns-6 c = simp (c .before .enum-told6 .given .1, add-zero)
+
+returns-7 : tie.Need-returns-7
+unfolding one order
+returns-7 c = simp (c .enum-told7 .given .1, add-zero)
 
 pub tick-spec : {M : Type 1} → statement M
 tick-spec =
@@ -73,9 +87,11 @@ tick-spec =
     add-d-5
     enum-told-6
     add-d-6
+    enum-told-7
     returns
     returns-2
     returns-3
     returns-4
     returns-5
-    returns-6)
+    returns-6
+    returns-7)
