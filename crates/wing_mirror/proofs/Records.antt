@@ -8,3 +8,4 @@ pub mod Equals
 pub mod Trips
 pub mod Ids
 pub mod Entries
+pub mod Lookups

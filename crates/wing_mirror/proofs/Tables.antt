@@ -5,6 +5,7 @@ pub mod Stays
 pub mod Moves
 pub mod Laying
 pub mod Finds
+pub mod Numbers
 pub mod Tests
 pub mod Keys
 pub mod Images

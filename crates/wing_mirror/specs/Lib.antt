@@ -2,6 +2,8 @@ pub mod Rows
 pub mod Record
 pub mod Table
 pub mod Query
+pub mod Answers
+pub mod Lookups
 pub mod Puts
 pub mod Counts
 pub mod Call

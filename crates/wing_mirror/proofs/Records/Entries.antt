@@ -92,7 +92,8 @@ records-same (r ∷ rs) a =
     ap₂ {C = List (List ℕ)} (λ x l. x ∷ l) (record-back r (a .0 .wide) (a .0 .bytes) (a .0 .form)) (records-same rs (a .1))
 
 module _ (t : Table) (b : AreBytes (t .buffer)) (u : usable t ≡ true) where
-  each : All Row (rows t)
+  -- each of its records
+  pub each : All Row (rows t)
   each = all-rows (t .count) (t .buffer) (room t u) (are-digits (t .buffer) b) (formed t u)
 
   pub rows-proper : All Proper (map entryIn (rows t))

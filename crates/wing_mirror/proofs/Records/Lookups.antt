@@ -1,0 +1,166 @@
+-- Lookup and record reads tell of the same records, as specs/Lookups states it.
+use Prim.Native.Nat.{ℕ, zero, suc, _<_, _≤_}
+use mathlib.Core.Bool.{Bool, true, false}
+use mathlib.Core.Path.{_≡_, refl, sym, _∙_, ap}
+use mathlib.Core.Logic.{_↔_}
+use mathlib.Core.List.{List, [], _∷_}
+use native.Mathlib.Omega.{arith}
+use borrow.Author.Tests.{lt-ltb, ltb-true, leb-true, eq-eqb, eqb-true}
+use lib.Dec.{ltb, leb, eqb}
+use lib.IntN.{ℤ, pos, negsuc}
+use lib.ListN.{length, getD, replicate, length-replicate}
+use Rattle.wing_node.specs.Bool.{if}
+use Rattle.wing_node.specs.Result.{Result, ok, refused}
+use Rattle.wing_node.specs.Signed.{InBits}
+use Rattle.wing_node.specs.Utf8.{utf8}
+use Rattle.wing_node.specs.Value.{NodeValue, integer, float, string, meant}
+use Rattle.wing_wire.specs.Range.{AreBytes}
+use Rattle.wing_mirror.specs.Rows.{Table, Found, found, nothing, holds, below, rising, numberOf, All}
+use Rattle.wing_mirror.specs.Record.{Entry, entry, rankOf, keyOf, entryIn, storable}
+use Rattle.wing_mirror.specs.Table.{rows, usable, lookupOf}
+use Rattle.wing_mirror.specs.Machine.{sameId}
+use Rattle.wing_mirror.specs.Query.{answerOf, lookupAnswer, valueOf, bytesBeside, readOf, unread, recordAnswer}
+use Rattle.wing_mirror.specs.Answers.{lookupResult, entryResult, recordResult}
+use Rattle.wing_mirror.specs.Lookups.{RecordOf, Lookups}
+use Rattle.wing_mirror.specs.declared.answer.Lookup.the-variants.{Refused as NotLookedUp}
+use Rattle.wing_mirror.specs.declared.answer.RecordRead.{RecordRead}
+use Rattle.wing_mirror.proofs.Tables.Chunks.{length-records}
+use Rattle.wing_mirror.proofs.Tables.Numbers.{placed, found-at}
+use Rattle.wing_mirror.proofs.Records.Ids.{same-rank}
+use Rattle.wing_mirror.proofs.Records.Usables.{both, up}
+use Rattle.wing_mirror.proofs.Records.Formed.{take-over}
+use Rattle.wing_mirror.proofs.Records.Entries.{Row, row-proper, row-stands, each}
+
+-- ids that stand at one place are one
+same-one : (i j : ℤ) → sameId i j ≡ true → i ≡ j
+same-one (pos m) (pos n) e = ap pos (eqb-true m n e)
+same-one (pos m) (negsuc n) e = absurd (let z : _≡_ {A = Bool} false true = e in let w : _≡_ {A = ℕ} 0 1 = cc in omega arith)
+same-one (negsuc m) (pos n) e = absurd (let z : _≡_ {A = Bool} false true = e in let w : _≡_ {A = ℕ} 0 1 = cc in omega arith)
+same-one (negsuc m) (negsuc n) e = ap negsuc (eqb-true m n e)
+
+rank-one : (i j : ℤ) → InBits 31 i → InBits 31 j → rankOf i ≡ rankOf j → i ≡ j
+rank-one i j h k e = same-one i j (same-rank i j h k ∙ eq-eqb (rankOf i) (rankOf j) e)
+
+-- what a read of an entry's record says is the entry
+value-read : (id : ℤ) (v : NodeValue) → storable v ≡ true → recordResult (readOf (entry id v)) ≡ ok (entry id v)
+unfolding entryResult readOf valueOf bytesBeside meant storable
+value-read id (integer x) h = refl
+value-read id (float bits) h = refl
+value-read id (string s) h =
+    let l : length s ≤ 256 = leb-true (length s) 256 (both (leb (length s) 256) (utf8 s) h .0) in
+    ap (λ (x : List ℕ). ok (entry id (string x))) (take-over s (replicate 256 0) (omega (arith, length-replicate {A = ℕ} 256 0)))
+
+-- an element of a list all of which have it
+all-at : {A : Type 0} (P : A → Type 0) (none : A) (xs : List A) (n : ℕ) → All P xs → n < length xs → P (getD xs n none)
+all-at P none [] n a l = absurd (omega arith)
+all-at P none (x ∷ xs) zero a l = a .0
+all-at P none (x ∷ xs) (suc n) a l = all-at P none xs n (a .1) (omega arith)
+
+-- a refusal is no value
+no-value : {A : Type 0} (n : ℕ) (a : A) → refused n ≡ ok a → ⊥
+no-value n a e = let z : _≡_ {A = ℕ} 0 1 = cc in omega arith
+
+unlooked : (t : Table) (id : ℤ) → usable t ≡ false → lookupResult (lookupAnswer t id) ≡ refused 7
+unfolding lookupAnswer lookupResult
+unlooked t id q = rw q
+
+unrecorded : (t : Table) (n : ℕ) → usable t ≡ false → recordResult (recordAnswer t n) ≡ refused 7
+unfolding recordAnswer entryResult
+unrecorded t n q = rw q
+
+module _ (t : Table) (b : AreBytes (t .buffer)) (u : usable t ≡ true) where
+  row : ℕ → List ℕ
+  row n = getD (rows t) n []
+
+  counted : length (rows t) ≡ t .count
+  counted = length-records 264 (t .count) (t .buffer)
+
+  formed : (n : ℕ) → n < t .count → Row (row n)
+  unfolding row
+  formed n l = all-at Row [] (rows t) n (each t b u) (omega (arith, counted))
+
+  -- a record that is there is read whole
+  read-row : (n : ℕ) → n < t .count → recordResult (recordAnswer t n) ≡ ok (entryIn (row n))
+  unfolding recordAnswer row
+  read-row n l =
+      rw (u, lt-ltb n (t .count) l) (value-read (entryIn (row n) .id) (entryIn (row n) .value) (row-proper (row n) (formed n l) .text))
+
+  -- its key is its id's
+  key-row : (n : ℕ) → n < t .count → keyOf (row n) ≡ rankOf (entryIn (row n) .id)
+  key-row n l = sym (row-stands (row n) (formed n l))
+
+  -- a number that is not below the count
+  past : (n : ℕ) → ltb n (t .count) ≡ false → recordResult (recordAnswer t n) ≡ refused 14
+  unfolding recordAnswer entryResult
+  past n q = rw (u, q)
+
+  module _ (id : ℤ) (i : InBits 31 id) where
+    -- lookup by the list of rows
+    looked : lookupResult (lookupAnswer t id) ≡ ok (if (holds keyOf (rankOf id) (rows t)) (found (below keyOf (rankOf id) (rows t))) nothing)
+    unfolding lookupAnswer lookupOf numberOf answerOf lookupResult
+    looked = rw u (go (holds keyOf (rankOf id) (rows t)))
+      where
+        go : (h : Bool) → lookupResult (answerOf (if h (found (below keyOf (rankOf id) (rows t))) nothing)) ≡ ok (if h (found (below keyOf (rankOf id) (rows t))) nothing)
+        go true = refl
+        go false = refl
+
+    -- the record at the place that was found
+    there : holds keyOf (rankOf id) (rows t) ≡ true → RecordOf t (below keyOf (rankOf id) (rows t)) id
+    unfolding row
+    there h =
+        let n = below keyOf (rankOf id) (rows t) in
+        let p = placed keyOf [] (rankOf id) (rows t) (up t u) h in
+        let l : n < t .count = omega (arith, p .0, counted) in
+        let e = entryIn (row n) in
+        let k : rankOf (e .id) ≡ rankOf id = sym (key-row n l) ∙ p .1 in
+        record { value = e .value; read = read-row n l ∙ ap (λ (j : ℤ). ok (entry j (e .value))) (rank-one (e .id) id (row-proper (row n) (formed n l) .node) i k) }
+
+    -- a record of this id is found
+    held : (n : ℕ) → RecordOf t n id → (holds keyOf (rankOf id) (rows t) ≡ true) × (below keyOf (rankOf id) (rows t) ≡ n)
+    unfolding row
+    held n r = go (ltb n (t .count)) refl
+      where
+        go : (x : Bool) → ltb n (t .count) ≡ x → (holds keyOf (rankOf id) (rows t) ≡ true) × (below keyOf (rankOf id) (rows t) ≡ n)
+        go true q =
+            let l : n < t .count = ltb-true n (t .count) q in
+            let same : _≡_ {A = Result Entry} (ok (entryIn (row n))) (ok (entry id (r .value))) = sym (read-row n l) ∙ r .read in
+            let w : _≡_ {A = Entry} (entryIn (row n)) (entry id (r .value)) = cc in
+            let e : entryIn (row n) .id ≡ id = ap (λ (x : Entry). x .id) w in
+            found-at keyOf [] (rankOf id) n (rows t) (up t u) (omega (arith, l, counted)) (key-row n l ∙ ap rankOf e)
+        go false q = absurd (no-value 14 (entry id (r .value)) (sym (past n q) ∙ r .read))
+
+    -- lookup and record read, both ways
+    pub at-row : (n : ℕ) → (lookupResult (lookupAnswer t id) ≡ ok (found n) ↔ RecordOf t n id)
+    at-row n = (λ e. from (holds keyOf (rankOf id) (rows t)) refl (sym looked ∙ e), λ r. looked ∙ rw (held n r .0, held n r .1))
+      where
+        from : (h : Bool) → holds keyOf (rankOf id) (rows t) ≡ h → ok (if h (found (below keyOf (rankOf id) (rows t))) nothing) ≡ ok (found n) → RecordOf t n id
+        from true q e = let z : below keyOf (rankOf id) (rows t) ≡ n = cc in rw z at (there q)
+        from false q e = absurd (let z : nothing ≡ found n = cc in let w : _≡_ {A = ℕ} 0 1 = cc in omega arith)
+
+    pub none-row : lookupResult (lookupAnswer t id) ≡ ok nothing ↔ ((n : ℕ) → RecordOf t n id → ⊥)
+    none-row = (λ e. from (holds keyOf (rankOf id) (rows t)) refl (sym looked ∙ e), λ f. looked ∙ back (holds keyOf (rankOf id) (rows t)) refl f)
+      where
+        from : (h : Bool) → holds keyOf (rankOf id) (rows t) ≡ h → ok (if h (found (below keyOf (rankOf id) (rows t))) nothing) ≡ ok nothing → (n : ℕ) → RecordOf t n id → ⊥
+        from true q e n r = let z : found (below keyOf (rankOf id) (rows t)) ≡ nothing = cc in let w : _≡_ {A = ℕ} 0 1 = cc in omega arith
+        from false q e n r = let z : _≡_ {A = Bool} true false = sym (held n r .0) ∙ q in let w : _≡_ {A = ℕ} 0 1 = cc in omega arith
+
+        back : (h : Bool) → holds keyOf (rankOf id) (rows t) ≡ h → ((n : ℕ) → RecordOf t n id → ⊥) → ok (if h (found (below keyOf (rankOf id) (rows t))) nothing) ≡ ok nothing
+        back true q f = absurd (f (below keyOf (rankOf id) (rows t)) (there q))
+        back false q f = refl
+
+-- a table that is not usable is refused by both
+unusable : (t : Table) (id : ℤ) (n : ℕ) → usable t ≡ false → (lookupResult (lookupAnswer t id) ≡ ok (found n) ↔ RecordOf t n id)
+unusable t id n q = (λ e. absurd (no-value 7 (found n) (sym looks ∙ e)), λ r. absurd (no-value 7 (entry id (r .value)) (sym reads ∙ r .read)))
+  where
+    looks : lookupResult (lookupAnswer t id) ≡ refused 7
+    looks = unlooked t id q
+
+    reads : recordResult (recordAnswer t n) ≡ refused 7
+    reads = unrecorded t n q
+
+pub lookups : Lookups
+lookups = record { at = λ t id n b i. go t id n b i (usable t) refl; none = λ t id b i u. none-row t b u id i }
+  where
+    go : (t : Table) (id : ℤ) (n : ℕ) → AreBytes (t .buffer) → InBits 31 id → (u : Bool) → usable t ≡ u → (lookupResult (lookupAnswer t id) ≡ ok (found n) ↔ RecordOf t n id)
+    go t id n b i true q = at-row t b q id i n
+    go t id n b i false q = unusable t id n q
