@@ -150,19 +150,25 @@ Recalling = (b : List ℕ) (calls : List Call) → All TypedCall calls → place
     recallOf t out ≡ writeOf (recallBytes t) out
 
 -- feeds of at most 65,536 bytes each, to a fresh mirror with 1 to 1,024 places and at least as many as t has records, whose bytes join
--- to what recall writes of t, make it equal to t
-abbrev pub Rebuilds : Table → Type 0
-Rebuilds t = (buffer : List ℕ) → placesAllowed (placesIn buffer) ≡ true → t .count ≤ placesIn buffer →
-    (pieces : List (List ℕ)) → All TypedCall (map feed pieces) → All (λ (p : List ℕ). length p ≤ 65536) pieces → joined pieces ≡ recallBytes t →
+-- to these, make it equal to t
+abbrev pub RebuiltBy : List ℕ → Table → Type 0
+RebuiltBy bytes t = (buffer : List ℕ) → placesAllowed (placesIn buffer) ≡ true → t .count ≤ placesIn buffer →
+    (pieces : List (List ℕ)) → All TypedCall (map feed pieces) → All (λ (p : List ℕ). length p ≤ 65536) pieces → joined pieces ≡ bytes →
     Equal (mirrorRun buffer (map feed pieces) .state .table) t
 
--- so does recall of any mirror after any history, and of any table that recall takes
-abbrev pub Rebuilding : Type 0
-Rebuilding = (b : List ℕ) (calls : List Call) → All TypedCall calls → Rebuilds (mirrorRun b calls .state .table)
+-- an answer that n bytes were written, and the output after it: these n bytes do that
+abbrev pub Rebuilt : Written → List ℕ → Table → Type 0
+Rebuilt answer out t = (n : ℕ) → answer ≡ Bytes n → RebuiltBy (take n out) t
 
--- any table that recall takes
+-- what recall writes of any mirror after any history does
+abbrev pub Rebuilding : Type 0
+Rebuilding = (b : List ℕ) (calls : List Call) → All TypedCall calls → (out : List ℕ) →
+    let t = mirrorRun b calls .state .table in
+    Rebuilt (recallOf t out .answer) (recallOf t out .out) t
+
+-- and so does what it writes of any table
 abbrev pub RebuildingTables : Type 0
-RebuildingTables = (t : Table) → AreBytes (t .buffer) → usable t ≡ true → Rebuilds t
+RebuildingTables = (t : Table) → AreBytes (t .buffer) → (out : List ℕ) → Rebuilt (recallOf t out .answer) (recallOf t out .out) t
 
 -- each accepted feed's counts and each accepted set's bytes are bounded
 abbrev pub Bounds : Type 0

@@ -1,16 +1,21 @@
 -- Demand 3, as specs/History states it.
 use Prim.Native.Nat.{ℕ, _≤_}
-use mathlib.Core.Bool.{true}
-use mathlib.Core.Path.{_≡_, sym, _∙_, ap}
-use mathlib.Core.List.{List, map}
+use mathlib.Core.Bool.{Bool, true, false}
+use mathlib.Core.Path.{_≡_, refl, sym, _∙_, ap}
+use mathlib.Core.List.{List, _++_, map}
 use native.Mathlib.Omega.{arith}
-use lib.ListN.{length, length-map}
+use lib.Dec.{ltb}
+use lib.ListN.{length, take, drop, length-map}
+use lib.Seq.{take-append-seam}
+use Rattle.wing_node.specs.Bool.{if}
+use Rattle.wing_wire.specs.Write.{Wrote, wrote, writeOf}
+use Rattle.wing_wire.specs.declared.write.Written.the-variants.{Bytes, Refused}
 use Rattle.wing_mirror.specs.Rows.{Table, All, rising}
 use Rattle.wing_mirror.specs.Record.{Entry, width, recordOf, entryIn}
-use Rattle.wing_mirror.specs.Table.{rows}
+use Rattle.wing_mirror.specs.Table.{rows, usable}
 use Rattle.wing_mirror.specs.Call.{feed}
-use Rattle.wing_mirror.specs.Recall.{recallBytes}
-use Rattle.wing_mirror.specs.History.{rank, inOrder, newMirror, mirrorRun, machineRun, placesIn, Agree, Equal, Agreement, RisingOrder, Equality, Rebuilds, Rebuilding, RebuildingTables, Bounds, Histories}
+use Rattle.wing_mirror.specs.Recall.{recallBytes, recallOf}
+use Rattle.wing_mirror.specs.History.{rank, inOrder, newMirror, mirrorRun, machineRun, placesIn, Agree, Equal, Agreement, RisingOrder, Equality, RebuiltBy, Rebuilding, RebuildingTables, Bounds, Histories}
 use Rattle.wing_mirror.proofs.Tables.Chunks.{length-records}
 use Rattle.wing_mirror.proofs.Histories.Maps.{Proper, all-order, order-rising}
 use Rattle.wing_mirror.proofs.Records.Entries.{rows-proper, rows-back, rows-rise, rows-signed}
@@ -19,9 +24,23 @@ use Rattle.wing_mirror.proofs.Histories.Agrees.{map-fine, run-agrees, r
 use Rattle.wing_mirror.proofs.Histories.Asked.{comparing, recalling}
 use Rattle.wing_mirror.proofs.Histories.Bounds.{run-bounded}
 
+-- a recall that says that n bytes were written was of a usable table, and these are its bytes
+recall-wrote : (t : Table) (out : List ℕ) (n : ℕ) → recallOf t out .answer ≡ Bytes n → (usable t ≡ true) × (take n (recallOf t out .out) ≡ recallBytes t)
+unfolding recallOf writeOf
+recall-wrote t out n = go (usable t) refl (ltb (length out) (length (recallBytes t)))
+  where
+    bytes : List ℕ
+    bytes = recallBytes t
+
+    go : (u : Bool) → usable t ≡ u → (s : Bool) → let x : Wrote = if u (if s (wrote (Refused 9) out) (wrote (Bytes (length bytes)) (bytes ++ drop (length bytes) out))) (wrote (Refused 7) out) in
+        x .answer ≡ Bytes n → (u ≡ true) × (take n (x .out) ≡ bytes)
+    go true q true e = absurd (let z : _≡_ {A = ℕ} 0 1 = cc in omega arith)
+    go true q false e = let k : length bytes ≡ n = cc in (refl, rw (← k) (take-append-seam bytes (drop (length bytes) out)))
+    go false q s e = absurd (let z : _≡_ {A = ℕ} 0 1 = cc in omega arith)
+
 -- a table whose records say proper entries in rising order, and are the records of these
 module _ (t : Table) (proper : All Proper (map entryIn (rows t))) (up : rising rank (map entryIn (rows t)) ≡ true) (back : map recordOf (map entryIn (rows t)) ≡ rows t) where
-  rebuilds : Rebuilds t
+  rebuilds : RebuiltBy (recallBytes t) t
   unfolding recallBytes
   rebuilds buffer n l pieces typed short q =
       let es : List Entry = map entryIn (rows t) in
@@ -33,17 +52,21 @@ module _ (t : Table) (proper : All Proper (map entryIn (rows t))) (up : rising r
         records = g .records ∙ ap (λ (x : List Entry). map recordOf (inOrder x)) m ∙ ap (map recordOf) (order-own es up) ∙ back;
       }
 
--- of any table that recall takes
+-- of any table
 rebuilding-tables : RebuildingTables
-rebuilding-tables t b u = rebuilds t (rows-proper t b u) (rows-rise t b u) (rows-back t b u)
+rebuilding-tables t b out n e =
+    let w = recall-wrote t out n e in
+    rw (w .1) (rebuilds t (rows-proper t b (w .0)) (rows-rise t b (w .0)) (rows-back t b (w .0)))
 
 -- of any mirror after any history
 rebuilding : Rebuilding
-rebuilding b calls typed =
+rebuilding b calls typed out n e =
     let g = run-agrees b calls typed in
+    let t : Table = mirrorRun b calls .state .table in
     let m : List Entry = machineRun (placesIn b) calls .state .map in
     let f = map-fine (placesIn b) calls typed in
-    rebuilds (mirrorRun b calls .state .table) (rw (g .entries) (all-order Proper m (f .proper))) (rw (g .entries) (order-rising m)) (ap (map recordOf) (g .entries) ∙ sym (g .records))
+    rw (recall-wrote t out n e .1)
+    (rebuilds t (rw (g .entries) (all-order Proper m (f .proper))) (rw (g .entries) (order-rising m)) (ap (map recordOf) (g .entries) ∙ sym (g .records)))
 
 pub histories : Histories
 histories =
