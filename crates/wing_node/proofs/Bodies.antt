@@ -1,6 +1,9 @@
 -- Definitions: fields in a row, read and written anew.
 pub mod Cases
 pub mod Fields
+pub mod Standing
+pub mod InBody
+pub mod Parsing
 pub mod Round
 pub mod Whole
 pub mod Flags

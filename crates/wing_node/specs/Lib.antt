@@ -11,7 +11,11 @@ pub mod Cursor
 pub mod Types
 pub mod Definition
 pub mod Laid
-pub mod Written
+pub mod Standing
 pub mod Items
 pub mod Walker
+pub mod Answers
+pub mod InBody
+pub mod Parsing
+pub mod Written
 pub mod Cases

@@ -21,22 +21,13 @@ use Rattle.wing_node.specs.declared.node_type.NodeType.{NodeType}
 use Rattle.wing_node.specs.declared.definition.Parsed.{Parsed}
 use Rattle.wing_node.specs.declared.definition.Parsed.the-variants.{Good, Refused}
 use Rattle.wing_node.specs.declared.definition.Definition.{Definition}
-use Rattle.wing_node.proofs.Bodies.Fields.{after-append}
+use Rattle.wing_node.proofs.Bodies.InBody.{one-name, end-of}
 use Rattle.wing_node.proofs.Bodies.Round.{reads-laid, laid-reads, contents-held, value-read}
 use Rattle.wing_node.proofs.Numerals.Numbers.{Digits}
 
 taken : (b : Bool) (d e : Definition) (n : ℕ) → if b (Good d) (Refused n) ≡ Good e → b ≡ true
 taken true d e n h = refl
 taken false d e n h = absurd (let z : _≡_ {A = ℕ} 0 1 = cc in omega arith)
-
-end-of : (body : List ℕ) →
-    after (fieldsIn body) body start ≡ detailsAt (kindFrom (named header body start)) body (past header body start) .next
-unfolding fieldsIn detailsAt
-end-of body =
-    let c = past header body start in
-    let t = kindFrom (named header body start) in
-    let items = itemsOf t (named (added t) body c Count .value) in
-    after-append (map form header) (map form (added t) ++ items) body start ∙ after-append (map form (added t)) items body c
 
 good-end : (body : List ℕ) (d : Definition) → definitionOf body ≡ Good d → after (fieldsIn body) body start .refused ≡ 0
 unfolding definitionOf
@@ -81,26 +72,6 @@ body-read held each rest fh fd fi =
     rw (head .0, begun, more .0, more .1, listed)
 
 -- the fields that a type has read back as what they held
-known : ℕ → FieldName
-known n = getD (ParentId ∷ Id ∷ Index ∷ Name ∷ LongName ∷ Flags ∷ Min ∷ Max ∷ Steps ∷ Count ∷ []) n MaxLen
-
-known-order : (k : FieldName) → known (order k) ≡ k
-unfolding known
-known-order ParentId = refl
-known-order Id = refl
-known-order Index = refl
-known-order Name = refl
-known-order LongName = refl
-known-order Flags = refl
-known-order Min = refl
-known-order Max = refl
-known-order Steps = refl
-known-order Count = refl
-known-order MaxLen = refl
-
-one-name : (j k : FieldName) → order j ≡ order k → j ≡ k
-one-name j k e = sym (known-order j) ∙ ap known e ∙ known-order k
-
 module _ (d : FieldName → List ℕ) where
   -- what the names in a list read as, one by one
   choose : (P : FieldName → FieldRead → Type 0) (b : Bool) (j k : FieldName) (js : List FieldName) (r r' : FieldRead) → (b ≡ true → j ≡ k) →

@@ -1,0 +1,165 @@
+-- Fields that stand at the front of bytes, and what a cursor that reads them comes to.
+use mathlib.Core.Path.{_≡_, refl, _∙_, ap, sym}
+use mathlib.Core.Bool.{Bool, true, false}
+use mathlib.Core.Logic.{_↔_, _⊎_, inl, inr}
+use mathlib.Core.List.{List, [], _∷_, _++_}
+use Prim.Native.Nat.{ℕ, zero, suc, _+_, _-_, _≤_, _<_}
+use native.Mathlib.Omega.{arith}
+use lib.Dec.{ltb, eqb}
+use lib.ListN.{length, take, drop, length-drop}
+use lib.Seq.{drop-drop}
+use borrow.Author.Tests.{eq-eqb, ne-eqb, lt-ltb, le-ltb, ltb-true, ltb-false}
+use Rattle.wing_node.specs.Bool.{if}
+use Rattle.wing_node.specs.Cursor.{Field, number, string, size, right, fault, valueOf, begins, cursor, from, stopped, fieldRead, nothing, readAt, reads, after}
+use Rattle.wing_node.specs.Standing.{Whole, PastEnd, NotUtf8, extent, beyond, Stand, none, more, StopsAt}
+use Rattle.wing_node.specs.declared.cursor.Cursor.{Cursor}
+use Rattle.wing_node.specs.declared.cursor.FieldRead.{FieldRead}
+use Rattle.wing_node.proofs.Bodies.Cases.{read-there}
+use Rattle.wing_node.proofs.Bodies.Fields.{after-append, after-refused}
+
+-- a field that stands is read, and the cursor goes past it
+pub one-read : (f : Field) (body : List ℕ) (at : ℕ) → Whole f (drop at body) → right f (drop at body) ≡ true →
+    readAt f body (cursor at 0) ≡ fieldRead (valueOf f (drop at body)) (begins f at) (cursor (at + size f (drop at body)) 0)
+one-read f body at w r =
+    let e : length (drop at body) ≡ length body - at = length-drop at body in
+    let h : size f (drop at body) ≤ length body - at = omega arith in
+    read-there f body (cursor at 0) refl h r
+
+-- what stands after the first field stands from the place after it
+pub onward : (f : Field) (fs : List Field) (body : List ℕ) (at : ℕ) → Stand fs (drop (size f (drop at body)) (drop at body)) → Stand fs (drop (at + size f (drop at body)) body)
+onward f fs body at h = rw drop-drop at h
+
+-- fields that stand are passed
+pub passes : (fs : List Field) (body : List ℕ) (at : ℕ) → Stand fs (drop at body) → after fs body (cursor at 0) ≡ cursor (at + extent fs (drop at body)) 0
+unfolding after extent
+passes [] body at none = let e : at + 0 ≡ at = omega arith in rw e
+passes (f ∷ fs) body at (more w r h) =
+    let n = size f (drop at body) in
+    let rest : after fs body (cursor (at + n) 0) ≡ cursor (at + n + extent fs (drop (at + n) body)) 0 = passes fs body (at + n) (onward f fs body at h) in
+    let e : at + (n + extent fs (drop (at + n) body)) ≡ at + n + extent fs (drop (at + n) body) = omega arith in
+    rw (one-read f body at w r, drop-drop, e) rest
+
+-- a fault stops the cursor
+stopped-at : (f : Field) (body : List ℕ) (c : Cursor) (n : ℕ) → c .refused ≡ 0 → fault f (from body c) ≡ suc n → readAt f body c .next .refused ≡ suc n
+unfolding readAt
+stopped-at f body c n z e = simp (eq-eqb _ _ z, e, ne-eqb (suc n) 0 (λ x. omega arith))
+
+-- what fails with a number refuses the row with it
+module _ (Fails : Field → List ℕ → Type 0) (n : ℕ) (number : (f : Field) (s : List ℕ) → Fails f s → fault f s ≡ suc n) where
+  pub stops : (fs : List Field) (body : List ℕ) (at : ℕ) → StopsAt Fails fs (drop at body) → after fs body (cursor at 0) .refused ≡ suc n
+  unfolding after
+  stops fs body at h =
+      let here = at + extent (h .stood) (drop at body) in
+      let c = after (h .stood) body (cursor at 0) in
+      let past : c ≡ cursor here 0 = passes (h .stood) body at (h .stand) in
+      let there : beyond (h .stood) (drop at body) ≡ drop here body = drop-drop (extent (h .stood) (drop at body)) at body in
+      let e : fault (h .next) (drop here body) ≡ suc n = rw there at (number (h .next) (beyond (h .stood) (drop at body)) (h .fails)) in
+      let r : readAt (h .next) body (cursor here 0) .next .refused ≡ suc n = stopped-at (h .next) body (cursor here 0) n refl e in
+      let end : after (h .next ∷ h .others) body (cursor here 0) ≡ readAt (h .next) body (cursor here 0) .next =
+      after-refused (h .others) body (readAt (h .next) body (cursor here 0) .next) (λ z. omega arith) in
+      rw (h .row, after-append, past, end) r
+
+pub past-end : (f : Field) (s : List ℕ) → PastEnd f s → fault f s ≡ 4
+unfolding fault
+past-end f s h = go (ltb (length s) (size f s)) refl
+  where
+    go : (b : Bool) → ltb (length s) (size f s) ≡ b → _≡_ {A = ℕ} (if b 4 (if (right f s) 0 5)) 4
+    go true e = refl
+    go false e = absurd (h (ltb-false _ _ e))
+
+pub not-utf8 : (f : Field) (s : List ℕ) → NotUtf8 f s → fault f s ≡ 5
+unfolding fault
+not-utf8 f s h = simp (le-ltb _ _ (h .0), h .1)
+
+-- one of three: all stand, or the first that fails is past the end, or not UTF-8
+abbrev pub Found : List Field → List ℕ → Type 0
+Found fs s = Stand fs s ⊎ (StopsAt PastEnd fs s ⊎ StopsAt NotUtf8 fs s)
+
+-- the first field fails
+at-once : {Fails : Field → List ℕ → Type 0} (f : Field) (fs : List Field) (s : List ℕ) → Fails f s → StopsAt Fails (f ∷ fs) s
+unfolding extent
+at-once f fs s h = record { stood = []; next = f; others = fs; row = refl; stand = none; fails = h }
+
+-- it stands, and a later one fails
+later : {Fails : Field → List ℕ → Type 0} (f : Field) (fs : List Field) (s : List ℕ) → Whole f s → right f s ≡ true →
+    StopsAt Fails fs (drop (size f s) s) → StopsAt Fails (f ∷ fs) s
+unfolding extent
+later f fs s w r h =
+    record {
+      stood = f ∷ h .stood;
+      next = h .next;
+      others = h .others;
+      row = ap (λ l. f ∷ l) (h .row);
+      stand = more w r (h .stand);
+      fails = rw drop-drop at (h .fails);
+    }
+
+pub find : (fs : List Field) (s : List ℕ) → Found fs s
+find [] s = inl none
+find (f ∷ fs) s = go (ltb (length s) (size f s)) (right f s) refl refl (find fs (drop (size f s) s))
+  where
+    rest : Whole f s → right f s ≡ true → Found fs (drop (size f s) s) → Found (f ∷ fs) s
+    rest w r (inl h) = inl (more w r h)
+    rest w r (inr (inl h)) = inr (inl (later f fs s w r h))
+    rest w r (inr (inr h)) = inr (inr (later f fs s w r h))
+
+    go : (short good : Bool) → ltb (length s) (size f s) ≡ short → right f s ≡ good → Found fs (drop (size f s) s) → Found (f ∷ fs) s
+    go true good e r others = inr (inl (at-once f fs s (λ w. let l : length s < size f s = ltb-true _ _ e in omega arith)))
+    go false true e r others = rest (ltb-false _ _ e) r others
+    go false false e r others = inr (inr (at-once f fs s (ltb-false _ _ e, r)))
+
+-- what a cursor comes to, exactly
+module _ (fs : List Field) (body : List ℕ) (at : ℕ) where
+  abbrev came : ℕ
+  came = after fs body (cursor at 0) .refused
+
+  all : Stand fs (drop at body) → came ≡ 0
+  all h = ap (λ (c : Cursor). c .refused) (passes fs body at h)
+
+  pub stands : (came ≡ 0) ↔ Stand fs (drop at body)
+  stands = (λ e. go e (find fs (drop at body)), all)
+    where
+      go : came ≡ 0 → Found fs (drop at body) → Stand fs (drop at body)
+      go e (inl h) = h
+      go e (inr (inl h)) = absurd (let z = stops PastEnd 3 past-end fs body at h in omega arith)
+      go e (inr (inr h)) = absurd (let z = stops NotUtf8 4 not-utf8 fs body at h in omega arith)
+
+  pub ends-past : (came ≡ 4) ↔ StopsAt PastEnd fs (drop at body)
+  ends-past = (λ e. go e (find fs (drop at body)), stops PastEnd 3 past-end fs body at)
+    where
+      go : came ≡ 4 → Found fs (drop at body) → StopsAt PastEnd fs (drop at body)
+      go e (inl h) = absurd (let z = all h in omega arith)
+      go e (inr (inl h)) = h
+      go e (inr (inr h)) = absurd (let z = stops NotUtf8 4 not-utf8 fs body at h in omega arith)
+
+  pub ends-wrong : (came ≡ 5) ↔ StopsAt NotUtf8 fs (drop at body)
+  ends-wrong = (λ e. go e (find fs (drop at body)), stops NotUtf8 4 not-utf8 fs body at)
+    where
+      go : came ≡ 5 → Found fs (drop at body) → StopsAt NotUtf8 fs (drop at body)
+      go e (inl h) = absurd (let z = all h in omega arith)
+      go e (inr (inl h)) = absurd (let z = stops PastEnd 3 past-end fs body at h in omega arith)
+      go e (inr (inr h)) = h
+
+  pub ends-so : (came ≡ 0) ⊎ ((came ≡ 4) ⊎ (came ≡ 5))
+  ends-so = go (find fs (drop at body))
+    where
+      go : Found fs (drop at body) → (came ≡ 0) ⊎ ((came ≡ 4) ⊎ (came ≡ 5))
+      go (inl h) = inl (all h)
+      go (inr (inl h)) = inr (inl (stops PastEnd 3 past-end fs body at h))
+      go (inr (inr h)) = inr (inr (stops NotUtf8 4 not-utf8 fs body at h))
+
+-- a row in two parts
+pub stand-parts : (fs gs : List Field) (s : List ℕ) → Stand (fs ++ gs) s → Stand fs s × Stand gs (beyond fs s)
+unfolding extent
+stand-parts [] gs s h = (none, h)
+stand-parts (f ∷ fs) gs s (more w r h) =
+    let p = stand-parts fs gs (drop (size f s) s) h in
+    (more w r (p .0), rw drop-drop at (p .1))
+
+pub extent-parts : (fs gs : List Field) (s : List ℕ) → extent (fs ++ gs) s ≡ extent fs s + extent gs (beyond fs s)
+unfolding extent
+extent-parts [] gs s = omega arith
+extent-parts (f ∷ fs) gs s =
+    let t = drop (size f s) s in
+    let e : size f s + (extent fs t + extent gs (beyond fs t)) ≡ size f s + extent fs t + extent gs (beyond fs t) = omega arith in
+    rw (extent-parts fs gs t, e, drop-drop)
