@@ -10,7 +10,6 @@ pub mod Overs
 pub mod Pieces
 pub mod Inners
 pub mod Plains
-pub mod FirstUnits
 pub mod Steps
 pub mod Branches
 pub mod Bounds

@@ -4,10 +4,10 @@ use Prim.Native.Nat.{ℕ, _+_, _-_}
 use mathlib.Core.Bool.{Bool, true, false, not}
 use mathlib.Core.List.{List, [], _∷_}
 use lib.Dec.{ltb, leb, eqb}
-use lib.ListN.{length, drop, getD, set}
+use lib.ListN.{drop, set}
 use Rattle.wing_node.specs.Bool.{if}
-use Rattle.wing_wire.specs.State.{escape, control}
-use Rattle.wing_wire.specs.Escape.{decodeOf}
+use Rattle.wing_wire.specs.State.{control}
+use Rattle.wing_wire.specs.Escape.{decodeNextOf}
 use Rattle.wing_wire.specs.Unit.{shiftIn}
 use Rattle.wing_wire.specs.Stream.{told, Heard, heard, quiet, isMore, givenOf}
 use Rattle.wing_wire.specs.declared.token.Class.{Class}
@@ -20,7 +20,6 @@ use Rattle.wing_wire.specs.declared.state.Control.{Control}
 use Rattle.wing_wire.specs.declared.escape.Unit.{Unit}
 use Rattle.wing_wire.specs.declared.escape.Unit.the-variants.{Nothing, Bare, Appended}
 use Rattle.wing_wire.specs.declared.stream.Told.{Told}
-use Rattle.wing_wire.specs.declared.stream.Upcoming.{Upcoming}
 use Rattle.wing_wire.specs.declared.stream.Inside.{Inside}
 use Rattle.wing_wire.specs.declared.stream.Stepped.{Stepped}
 
@@ -46,25 +45,6 @@ abbrev pub valueOf : Unit → ℕ
 valueOf Nothing = 0
 valueOf (Bare u) = u
 valueOf (Appended u) = u
-
--- the escapes, the next unit, and the place after it
-abbrev pub coming : Escape → Unit → ℕ → Upcoming
-coming e u n = record { escape = e; unit = u; at = n }
-
--- what the byte at n gives
-unfoldable pub byteComing : Escape → List ℕ → ℕ → Upcoming
-byteComing e bytes n =
-    if (ltb n (length bytes)) (coming (decodeOf e (getD bytes n 0) .escape) (decodeOf e (getD bytes n 0) .unit) (n + 1))
-    (coming e Nothing n)
-
--- a pending byte is the next unit; else the bytes are read on
-abbrev pub comingBy : Pending → Escape → List ℕ → ℕ → Upcoming
-comingBy None e bytes n = byteComing e bytes n
-comingBy (Byte u) e bytes n = coming (escape (e .escaped) (e .channel) None) (Appended u) n
-
--- the next unit: the pending byte, or what the byte at n gives
-unfoldable pub comingOf : Escape → List ℕ → ℕ → Upcoming
-comingOf e bytes n = comingBy (e .pending) e bytes n
 
 -- a plain byte that is a unit, and not the last
 unfoldable pub isInner : ℕ → ℕ → Bool
@@ -136,7 +116,7 @@ onAhead h bytes n = if (isFree (h .told)) (aheadOf (h .told .control) (h .store)
 -- one unit, and the inner units after it
 unfoldable pub onceOf : Control → List ℕ → List ℕ → ℕ → Turned
 onceOf c s bytes n =
-    onAhead (givenOf (comingOf (c .escape) bytes n .unit) (comingOf (c .escape) bytes n .escape) c s) bytes (comingOf (c .escape) bytes n .at)
+    onAhead (givenOf (decodeNextOf (c .escape) bytes n .unit) (decodeNextOf (c .escape) bytes n .escape) c s) bytes (decodeNextOf (c .escape) bytes n .at)
 
 -- nothing told, and a byte is left or pending
 abbrev pub isOn : Told → ℕ → ℕ → Bool

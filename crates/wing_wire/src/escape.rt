@@ -1,7 +1,7 @@
-// The escapes (libwing's decode_next): one byte to at most one unit.
+// The escapes: bytes into units, one at a time (libwing's decode_next).
 ghost use mathlib.Core.Path.{_≡_};
 ghost use Rattle.wing_wire.specs.State.{escape};
-ghost use Rattle.wing_wire.specs.Escape.{ended, otherOf, escapedOf, plainOf, decodeOf};
+ghost use Rattle.wing_wire.specs.Escape.{ended, otherOf, escapedOf, plainOf, decodeOf, decodeNextOf};
 use crate::state::Escape;
 use crate::state::Pending;
 
@@ -12,12 +12,20 @@ pub enum Unit {
     Appended(u8),
 }
 
+// The escapes after one byte, and what it gives.
 pub struct Decoded {
     pub escape: Escape,
     pub unit: Unit,
 }
 
-pub(crate) fn escape_of(escaped: bool, channel: i8, pending: Pending) -> Escape
+// The escapes, the next unit, if there is one, and the place of the byte after it.
+pub struct NextUnit {
+    pub escape: Escape,
+    pub unit: Unit,
+    pub at: usize,
+}
+
+fn escape_of(escaped: bool, channel: i8, pending: Pending) -> Escape
     ensures { λ r. ⌜ r ≡ escape escaped channel pending ⌝ }
 {
     Escape {
@@ -99,13 +107,48 @@ fn decode_plain(e: Escape, b: u8) -> Decoded
     }
 }
 
-// The escapes after one byte, where nothing is pending, and the unit that it gives. The core takes a pending byte before.
-pub fn decode_next(e: Escape, b: u8) -> Decoded
+// One byte, where nothing is pending.
+fn decode_byte(e: Escape, b: u8) -> Decoded
     ensures { λ r. ⌜ r ≡ decodeOf e b ⌝ }
 {
     if e.escaped {
         decode_escaped(e, b)
     } else {
         decode_plain(e, b)
+    }
+}
+
+// The pending byte, if there is one, is the next unit and no byte is taken. Else the byte at the place, if there is one,
+// is taken and gives its unit or none.
+pub fn decode_next(e: Escape, bytes: &[u8], at: usize) -> NextUnit
+    ensures { λ r. ⌜ r ≡ decodeNextOf e (now (bytes .entry)) at ⌝ }
+{
+    let pending = e.pending;
+    match pending {
+        Pending::None => {
+            if at < bytes.len() {
+                let d = decode_byte(e, bytes[at]);
+                let after = d.escape;
+                let unit = d.unit;
+                return NextUnit {
+                    escape: after,
+                    unit: unit,
+                    at: at + 1,
+                };
+            }
+            NextUnit {
+                escape: e,
+                unit: Unit::Nothing,
+                at: at,
+            }
+        }
+        Pending::Byte(u) => {
+            let after = escape_of(e.escaped, e.channel, Pending::None);
+            NextUnit {
+                escape: after,
+                unit: Unit::Appended(u),
+                at: at,
+            }
+        }
     }
 }

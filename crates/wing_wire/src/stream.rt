@@ -3,10 +3,9 @@ ghost use mathlib.Core.Path.{_≡_};
 ghost use Rattle.wing_wire.specs.State.{control};
 ghost use lib.ListN.{drop};
 ghost use Rattle.wing_wire.specs.Stream.{told, heard, isMore, givenOf, advanceOf, run, released};
-ghost use Rattle.wing_wire.specs.Plain.{isWaiting, isNothing, isAppended, valueOf, comingOf, isInner, numberAhead, gone, stringAhead, tokenAhead, isPlain, isFree, stepped, aheadOf, onceOf, isOn};
+ghost use Rattle.wing_wire.specs.Plain.{isWaiting, isNothing, isAppended, valueOf, isInner, numberAhead, gone, stringAhead, tokenAhead, isPlain, isFree, stepped, aheadOf, onceOf, isOn};
 use crate::escape::Unit;
 use crate::escape::decode_next;
-use crate::escape::escape_of;
 use crate::state::Control;
 use crate::state::Escape;
 use crate::state::Pending;
@@ -70,13 +69,6 @@ pub fn is_more(a: Answer) -> bool
     }
 }
 
-// The next unit, with the escapes after it and the place of the byte after it.
-pub struct Upcoming {
-    pub escape: Escape,
-    pub unit: Unit,
-    pub at: usize,
-}
-
 // The token after a run of plain bytes, and the place of the byte after them.
 pub struct Inside {
     pub token: Token,
@@ -125,40 +117,6 @@ fn value_of(u: Unit) -> u8
         Unit::Nothing => 0,
         Unit::Bare(b) => b,
         Unit::Appended(b) => b,
-    }
-}
-
-// The pending byte, if there is one, is the next unit; else it is what the next byte gives.
-fn coming(e: Escape, bytes: &[u8], at: usize) -> Upcoming
-    ensures { λ r. ⌜ r ≡ comingOf e (now (bytes .entry)) at ⌝ }
-{
-    let pending = e.pending;
-    match pending {
-        Pending::None => {
-            if at < bytes.len() {
-                let d = decode_next(e, bytes[at]);
-                let after = d.escape;
-                let unit = d.unit;
-                return Upcoming {
-                    escape: after,
-                    unit: unit,
-                    at: at + 1,
-                };
-            }
-            Upcoming {
-                escape: e,
-                unit: Unit::Nothing,
-                at: at,
-            }
-        }
-        Pending::Byte(u) => {
-            let after = escape_of(e.escaped, e.channel, Pending::None);
-            Upcoming {
-                escape: after,
-                unit: Unit::Appended(u),
-                at: at,
-            }
-        }
     }
 }
 
@@ -303,7 +261,7 @@ fn step(c: Control, store: &mut [u8], bytes: &[u8], at: usize) -> Stepped
     ensures { λ r. ⌜ stepped r (now (store .exit)) ≡ onceOf c (now (store .entry)) (now (bytes .entry)) at ⌝ }
 {
     let e = c.escape;
-    let g = coming(e, bytes, at);
+    let g = decode_next(e, bytes, at);
     let after = g.escape;
     let unit = g.unit;
     let t = take(c, store, after, unit);

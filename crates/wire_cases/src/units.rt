@@ -4,7 +4,6 @@ use wing_wire::escape::Unit;
 use wing_wire::escape::decode_next;
 use wing_wire::state::Control;
 use wing_wire::state::Escape;
-use wing_wire::state::Pending;
 
 fn show_unit(u: Unit) {
     match u {
@@ -17,28 +16,19 @@ fn show_unit(u: Unit) {
     }
 }
 
-// The pending byte is the next unit, appended: printed, and then gone.
-fn settled(e: Escape) -> Escape {
-    let pending = e.pending;
-    match pending {
-        Pending::None => e,
-        Pending::Byte(b) => {
-            show_unit(Unit::Appended(b));
-            Escape {
-                escaped: e.escaped,
-                channel: e.channel,
-                pending: Pending::None,
-            }
-        }
-    }
-}
-
-fn past(e: Escape, b: u8) -> Escape {
-    let d = decode_next(e, b);
+// The next unit from the place on, printed.
+fn shown(e: Escape, bytes: &[u8], at: usize) -> Escape {
+    let d = decode_next(e, bytes, at);
     let unit = d.unit;
     let after = d.escape;
     show_unit(unit);
-    settled(after)
+    after
+}
+
+// The byte at the place, and then the byte that it made pending: at the end of the bytes a step takes no other.
+fn past(e: Escape, bytes: &[u8], at: usize) -> Escape {
+    let after = shown(e, bytes, at);
+    shown(after, bytes, bytes.len())
 }
 
 // From fresh escapes: each unit as hex, with + if it is appended, then the channel and escaped.
@@ -48,7 +38,7 @@ pub fn units(bytes: &[u8]) -> bool {
     show::text(b"units");
     let mut i = 0;
     while i < bytes.len() {
-        e = past(e, bytes[i]);
+        e = past(e, bytes, i);
         i += 1;
     }
     show::signed(b"; channel=", show::wide(e.channel));

@@ -1,14 +1,16 @@
--- The token table's rule: one test of both columns, computed at each of the 256 first units.
+-- The token table's rule: one test of both columns, and of what is answered before them, computed at each of the 256 first units.
 use mathlib.Core.Bool.{Bool}
 use mathlib.Core.Path.{_≡_, refl, sym, ap, _∙_}
 use mathlib.Core.List.{List, [], _∷_, _++_}
-use Prim.Native.Nat.{ℕ, zero, suc, _<_}
+use Prim.Native.Nat.{ℕ, zero, suc, _+_, _-_, _<_}
 use lib.Dec.{T, eqb, ltb, eqb→eq, ltb→lt}
 use lib.ListN.{getD, replicate}
+use Rattle.wing_node.specs.Bool.{if}
 use Rattle.wing_node.proofs.Below.{both, both-left, both-right, below}
 use Rattle.wing_wire.specs.Token.{rule, classes, classOf, classNumber, ruleIn, ruleOf}
 use Rattle.wing_wire.specs.declared.token.Class.{Class}
 use Rattle.wing_wire.specs.declared.token.Class.the-variants.{NoEvent, Integer, String, Length, Int16, Int32, Float, Node, End, Count, ZeroCount}
+use Rattle.wing_wire.specs.declared.token.Rule.{Rule}
 
 -- a class again from its number
 named : ℕ → Class
@@ -47,39 +49,58 @@ wantsColumn =
     replicate 128 0 ++ (counting 1 64 ++ (counting 1 16 ++ (
     0 ∷ 1 ∷ 2 ∷ 2 ∷ 4 ∷ 4 ∷ 4 ∷ 4 ∷ 0 ∷ 1 ∷ 0 ∷ 0 ∷ 0 ∷ 0 ∷ 0 ∷ 2 ∷ replicate 32 0)))
 
--- the entries for t are the class of its rule and the units that it wants, a byte
-rightClass : ℕ → Bool
-rightClass t = eqb (classNumber (classOf (getD classColumn t 0))) (classNumber (ruleOf t .class))
+-- the entries for t, as a rule
+unfoldable pub entryOf : ℕ → Rule
+entryOf t = rule (classOf (getD classColumn t 0)) (getD wantsColumn t 0)
 
-rightWants : ℕ → Bool
-rightWants t = eqb (getD wantsColumn t 0) (ruleOf t .wants)
+-- the rule that `token::first_rule` answers before the columns; for any other first unit it asks for that of the columns
+unfoldable pub earlyOf : ℕ → Rule
+earlyOf t =
+    if (ltb t 0x40) (rule Integer 0)
+    (if (ltb t 0x80) (rule NoEvent 0)
+    (if (ltb t 0xc0) (rule String (t - 0x80 + 1))
+    (if (eqb t 0xd3) (rule Int16 2)
+    (if (eqb t 0xd5) (rule Float 4)
+    (if (eqb t 0xd7) (rule Node 4)
+    (entryOf t))))))
 
+sameRule : Rule → Rule → Bool
+sameRule a b = both (eqb (classNumber (a .class)) (classNumber (b .class))) (eqb (a .wants) (b .wants))
+
+same-rule : (a b : Rule) → T (sameRule a b) → a ≡ b
+unfolding sameRule
+same-rule a b t =
+    let p = eqb (classNumber (a .class)) (classNumber (b .class)) in
+    let q = eqb (a .wants) (b .wants) in
+    let c : a .class ≡ b .class = same-class _ _ (eqb→eq _ _ (both-left p q t)) in
+    let w : a .wants ≡ b .wants = eqb→eq _ _ (both-right p q t) in
+    ap (λ (x : Class). rule x (a .wants)) c ∙ ap (rule (b .class)) w
+
+-- the units wanted are a byte
 isByte : ℕ → Bool
 isByte t = ltb (getD wantsColumn t 0) 256
 
 right : ℕ → Bool
-right t = both (rightClass t) (both (rightWants t) (isByte t))
+right t = both (sameRule (entryOf t) (ruleOf t)) (both (sameRule (earlyOf t) (ruleOf t)) (isByte t))
 
 computed : (t : ℕ) → t < 256 → T (right t)
-unfolding right rightClass rightWants isByte classColumn wantsColumn classNumber classOf ruleOf ruleIn
+unfolding right sameRule isByte entryOf earlyOf classColumn wantsColumn classNumber classOf ruleOf ruleIn
 computed = below right 256 tt
 
 module _ (t : ℕ) (h : t < 256) where
-  class-at : T (rightClass t)
+  others : T (both (sameRule (earlyOf t) (ruleOf t)) (isByte t))
   unfolding right
-  class-at = both-left (rightClass t) _ (computed t h)
+  others = both-right (sameRule (entryOf t) (ruleOf t)) _ (computed t h)
 
-  wants-at : T (both (rightWants t) (isByte t))
+  -- the columns are 01's table
+  pub entry-right : entryOf t ≡ ruleOf t
   unfolding right
-  wants-at = both-right (rightClass t) _ (computed t h)
+  entry-right = same-rule _ _ (both-left (sameRule (entryOf t) (ruleOf t)) _ (computed t h))
 
-  pub rule-at : rule (classOf (getD classColumn t 0)) (getD wantsColumn t 0) ≡ ruleOf t
-  unfolding rightClass rightWants
-  rule-at =
-      let c : classOf (getD classColumn t 0) ≡ ruleOf t .class = same-class _ _ (eqb→eq _ _ class-at) in
-      let w : getD wantsColumn t 0 ≡ ruleOf t .wants = eqb→eq _ _ (both-left (rightWants t) _ wants-at) in
-      rw (c, w)
+  -- and so is what is answered before them
+  pub early-right : earlyOf t ≡ ruleOf t
+  early-right = same-rule _ _ (both-left (sameRule (earlyOf t) (ruleOf t)) _ others)
 
   pub wants-byte : getD wantsColumn t 0 < 256
   unfolding isByte
-  wants-byte = ltb→lt _ _ (both-right (rightWants t) _ wants-at)
+  wants-byte = ltb→lt _ _ (both-right (sameRule (earlyOf t) (ruleOf t)) _ others)

@@ -11,10 +11,10 @@ use lib.ListN.{length, drop, getD, set}
 use lib.Seq.{drop-drop}
 use Rattle.wing_node.specs.Bool.{if}
 use Rattle.wing_wire.specs.State.{escape, control}
-use Rattle.wing_wire.specs.Escape.{decodeOf, plainOf}
+use Rattle.wing_wire.specs.Escape.{decodeOf, plainOf, byteNext, pendingNext, decodeNextOf}
 use Rattle.wing_wire.specs.Unit.{out, awaits, shiftIn, numberUnit, stringUnit, unitOf}
 use Rattle.wing_wire.specs.Stream.{told, Heard, heard, quiet, isMore, joined, pendingOf, settleOf, givenOf, firstOf, followOf, stepOf, Run, runOf}
-use Rattle.wing_wire.specs.Plain.{isWaiting, isNothing, isAppended, valueOf, coming, byteComing, comingBy, comingOf, isInner, ahead, numberAhead, Gone, gone, stringAhead, tokenAhead, isPlain, isFree, Turned, turned, aheadOf, onAhead, onceOf, isOn}
+use Rattle.wing_wire.specs.Plain.{isWaiting, isNothing, isAppended, valueOf, isInner, ahead, numberAhead, Gone, gone, stringAhead, tokenAhead, isPlain, isFree, Turned, turned, aheadOf, onAhead, onceOf, isOn}
 use Rattle.wing_wire.specs.Units.{waiting}
 use Rattle.wing_wire.specs.declared.token.Class.{Class}
 use Rattle.wing_wire.specs.declared.state.Pending.{Pending}
@@ -204,15 +204,15 @@ settled : (c : Control) (s : List ℕ) (u : ℕ) → c .escape .pending ≡ Byte
 unfolding followOf settleOf
 settled c s u e = rw e
 
--- nor does the unit that comes
-coming-whole : (a : Answer) (c : Control) (s bytes : List ℕ) (n : ℕ) → isOn (told a c) n (length bytes) ≡ true →
+-- nor does the next unit
+next-whole : (a : Answer) (c : Control) (s bytes : List ℕ) (n : ℕ) → isOn (told a c) n (length bytes) ≡ true →
     whole bytes (turned (heard (told a c) s) n) ≡
-    whole bytes (turned (givenOf (comingOf (c .escape) bytes n .unit) (comingOf (c .escape) bytes n .escape) c s) (comingOf (c .escape) bytes n .at))
-unfolding comingOf byteComing firstOf
-coming-whole More c s bytes n on = go (c .escape .pending) refl on
+    whole bytes (turned (givenOf (decodeNextOf (c .escape) bytes n .unit) (decodeNextOf (c .escape) bytes n .escape) c s) (decodeNextOf (c .escape) bytes n .at))
+unfolding decodeNextOf byteNext firstOf
+next-whole More c s bytes n on = go (c .escape .pending) refl on
   where
     go : (p : Pending) → c .escape .pending ≡ p → if (ltb n (length bytes)) true (isWaiting p) ≡ true →
-        whole bytes (turned (quiet c s) n) ≡ whole bytes (turned (givenOf (comingBy p (c .escape) bytes n .unit) (comingBy p (c .escape) bytes n .escape) c s) (comingBy p (c .escape) bytes n .at))
+        whole bytes (turned (quiet c s) n) ≡ whole bytes (turned (givenOf (pendingNext p (c .escape) bytes n .unit) (pendingNext p (c .escape) bytes n .escape) c s) (pendingNext p (c .escape) bytes n .at))
     go None e on =
         let l : ltb n (length bytes) ≡ true = only-first (ltb n (length bytes)) on in
         rw l (ap (λ (o : Heard). runOf (at o n) (drop n bytes)) (calm-follow More c s e) ∙ turn (at (quiet c s) n) bytes n (ltb-true _ _ l) refl)
@@ -220,20 +220,20 @@ coming-whole More c s bytes n on = go (c .escape .pending) refl on
         let o = unitOf (c .node) (c .token) s u true in
         let after = control (escape (c .escape .escaped) (c .escape .channel) None) (o .taken .node) (o .taken .token) in
         ap (λ (o : Heard). runOf (at o n) (drop n bytes)) (settled c s u e ∙ sym (calm-follow (o .taken .answer) after (o .store) refl))
-coming-whole (Integer x) c s bytes n on = absurd (clash on refl)
-coming-whole (Float x) c s bytes n on = absurd (clash on refl)
-coming-whole (String x) c s bytes n on = absurd (clash on refl)
-coming-whole (Body x) c s bytes n on = absurd (clash on refl)
-coming-whole End c s bytes n on = absurd (clash on refl)
-coming-whole (Refused x) c s bytes n on = absurd (clash on refl)
+next-whole (Integer x) c s bytes n on = absurd (clash on refl)
+next-whole (Float x) c s bytes n on = absurd (clash on refl)
+next-whole (String x) c s bytes n on = absurd (clash on refl)
+next-whole (Body x) c s bytes n on = absurd (clash on refl)
+next-whole End c s bytes n on = absurd (clash on refl)
+next-whole (Refused x) c s bytes n on = absurd (clash on refl)
 
 -- a turn
 pub once-whole : (t : Told) (s bytes : List ℕ) (n : ℕ) → isOn t n (length bytes) ≡ true → whole bytes (turned (heard t s) n) ≡ whole bytes (onceOf (t .control) s bytes n)
 unfolding onceOf
 once-whole t s bytes n on =
-    let g = comingOf (t .control .escape) bytes n in
+    let g = decodeNextOf (t .control .escape) bytes n in
     let h = givenOf (g .unit) (g .escape) (t .control) s in
-    coming-whole (t .answer) (t .control) s bytes n on ∙ ahead-whole (h .told .answer) (h .told .control) (h .store) bytes (g .at)
+    next-whole (t .answer) (t .control) s bytes n on ∙ ahead-whole (h .told .answer) (h .told .control) (h .store) bytes (g .at)
 
 over : (a : Answer) (c : Control) (s bytes : List ℕ) (n : ℕ) → isMore a ≡ false → whole bytes (turned (heard (told a c) s) n) ≡ at (heard (told a c) s) n
 unfolding followOf
@@ -279,17 +279,17 @@ waiting-few : (p : Pending) → waiting p ≤ 1
 waiting-few None = omega arith
 waiting-few (Byte u) = omega arith
 
-coming-less : (e : Escape) (bytes : List ℕ) (n m : ℕ) → if (ltb n (length bytes)) true (isWaiting (e .pending)) ≡ true → comingOf e bytes n .at ≤ m →
-    2 * (length bytes - m) + waiting (comingOf e bytes n .escape .pending) < 2 * (length bytes - n) + waiting (e .pending)
-unfolding comingOf byteComing
-coming-less e bytes n m = go (e .pending)
+next-less : (e : Escape) (bytes : List ℕ) (n m : ℕ) → if (ltb n (length bytes)) true (isWaiting (e .pending)) ≡ true → decodeNextOf e bytes n .at ≤ m →
+    2 * (length bytes - m) + waiting (decodeNextOf e bytes n .escape .pending) < 2 * (length bytes - n) + waiting (e .pending)
+unfolding decodeNextOf byteNext
+next-less e bytes n m = go (e .pending)
   where
-    go : (p : Pending) → if (ltb n (length bytes)) true (isWaiting p) ≡ true → comingBy p e bytes n .at ≤ m →
-        2 * (length bytes - m) + waiting (comingBy p e bytes n .escape .pending) < 2 * (length bytes - n) + waiting p
+    go : (p : Pending) → if (ltb n (length bytes)) true (isWaiting p) ≡ true → pendingNext p e bytes n .at ≤ m →
+        2 * (length bytes - m) + waiting (pendingNext p e bytes n .escape .pending) < 2 * (length bytes - n) + waiting p
     go None on h =
         let l : ltb n (length bytes) ≡ true = only-first (ltb n (length bytes)) on in
         let k : n + 1 ≤ m = rw l at h in
-        omega (arith, k, ltb-true n (length bytes) l, waiting-few (comingBy None e bytes n .escape .pending))
+        omega (arith, k, ltb-true n (length bytes) l, waiting-few (pendingNext None e bytes n .escape .pending))
     go (Byte u) on h = omega (arith, h)
 
 more-on : (t : Told) (n end : ℕ) → isOn t n end ≡ true → if (ltb n end) true (isWaiting (t .control .escape .pending)) ≡ true
@@ -304,7 +304,7 @@ pub once-less : (t : Told) (s bytes : List ℕ) (n : ℕ) → isOn t n (length b
     < 2 * (length bytes - n) + waiting (t .control .escape .pending)
 unfolding onceOf
 once-less t s bytes n on =
-    let g = comingOf (t .control .escape) bytes n in
+    let g = decodeNextOf (t .control .escape) bytes n in
     let h = givenOf (g .unit) (g .escape) (t .control) s in
     rw (ahead-escape h bytes (g .at) ∙ given-escape (g .unit) (g .escape) (t .control) s)
-    (coming-less (t .control .escape) bytes n (onAhead h bytes (g .at) .at) (more-on t n (length bytes) on) (ahead-up h bytes (g .at)))
+    (next-less (t .control .escape) bytes n (onAhead h bytes (g .at) .at) (more-on t n (length bytes) on) (ahead-up h bytes (g .at)))

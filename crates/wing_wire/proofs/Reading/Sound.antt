@@ -9,13 +9,13 @@ use borrow.Author.Tests.{ltb-true, leb-true, leb-false, eqb-false, lt-ltb, le-le
 use lib.Dec.{ltb, leb, eqb}
 use lib.IntN.{ℤ, pos, negsuc}
 use lib.Signed.{leZ, ltZ}
-use lib.ListN.{length, take, drop, set, replicate}
+use lib.ListN.{length, take, drop, getD, set, replicate}
 use lib.Seq.{drop-drop, drop-set-lt}
 use Rattle.wing_node.specs.Bool.{if}
 use Rattle.wing_node.specs.Utf8.{charsFrom, utf8}
 use Rattle.wing_wire.specs.Token.{Row, table, ruleIn, ruleOf, widthOf}
 use Rattle.wing_wire.specs.State.{and, zeros, escape, soundPending, soundEscape, underway, soundNumber, soundString, soundBody, soundCounts, storedBy, soundToken, soundState, freshState}
-use Rattle.wing_wire.specs.Escape.{decoded, ended, decodeOf, escapedOf, plainOf, otherOf}
+use Rattle.wing_wire.specs.Escape.{decoded, ended, decodeOf, escapedOf, plainOf, otherOf, byteNext, pendingNext, decodeNextOf, DecodeNextSound}
 use Rattle.wing_wire.specs.Unit.{gives, singleOf, isString, tokenOf, beginOf, countOf, numberOf, shiftIn, numberUnit, Out, cleared, stringDone, stringUnit, keeps, bodyDone, bodyNext, bodyUnit, unitOf}
 use Rattle.wing_wire.specs.Stream.{Heard, isMore, pendingOf, settleOf, givenOf, firstOf, followOf, stepOf, runOf, advanceOf, released, Fed, calm, fedByte, fedFrom, feedOf}
 use Rattle.wing_wire.specs.Reader.{nextFrom, nextOf}
@@ -33,6 +33,7 @@ use Rattle.wing_wire.specs.declared.state.State.{State}
 use Rattle.wing_wire.specs.declared.escape.Unit.{Unit as Unitʷ}
 use Rattle.wing_wire.specs.declared.escape.Unit.the-variants.{Nothing, Bare, Appended}
 use Rattle.wing_wire.specs.declared.escape.Decoded.{Decoded}
+use Rattle.wing_wire.specs.declared.escape.NextUnit.{NextUnit}
 use Rattle.wing_wire.specs.declared.unit.Answer.{Answer}
 use Rattle.wing_wire.specs.declared.unit.Taken.{Taken}
 use Rattle.wing_wire.specs.declared.reader.Reply.{Reply}
@@ -350,52 +351,66 @@ pub data UnitByte : Unitʷ → Type 0 where
   bare : {u : ℕ} → u < 256 → UnitByte (Bare u)
   appended : {u : ℕ} → u < 256 → UnitByte (Appended u)
 
-record GoodDecoded (d : Decoded) : Type 0 where
+record GoodDecoded (b : ℕ) (d : Decoded) : Type 0 where
   pub escape : SoundEscape (d .escape)
-  pub byte : PendingByte (d .escape .pending)
-  pub unit : UnitByte (d .unit)
+  pub byte : b < 256 → PendingByte (d .escape .pending)
+  pub unit : b < 256 → UnitByte (d .unit)
 
 not-below : (z : ℤ) → ltZ z (pos 0) ≡ false → leZ (pos 0) z ≡ true
 not-below (pos a) e = le-leb 0 a (omega arith)
 not-below (negsuc a) e = absurd (clash refl e)
 
-module _ (e : Escape) (b : ℕ) (h : b < 256) (g : SoundEscape e) (calm : e .pending ≡ None) where
+module _ (e : Escape) (b : ℕ) (g : SoundEscape e) (calm : e .pending ≡ None) where
   ended-sound : SoundEscape (ended e)
   unfolding soundPending
   ended-sound = record { low = g .low; high = g .high; pending = rw calm refl }
 
-  ended-good : (u : Unitʷ) → UnitByte u → GoodDecoded (decoded (ended e) u)
-  ended-good u k = record { escape = ended-sound; byte = rw calm noPending; unit = k }
+  ended-good : (u : Unitʷ) → (b < 256 → UnitByte u) → GoodDecoded b (decoded (ended e) u)
+  ended-good u k = record { escape = ended-sound; byte = λ _. rw calm noPending; unit = k }
 
-  other-good : GoodDecoded (otherOf e b)
+  other-good : GoodDecoded b (otherOf e b)
   unfolding otherOf soundPending
   other-good =
-      branch GoodDecoded (ltZ (e .channel) (pos 0)) _ _ (λ _. ended-good (Appended b) (appended h))
-      (λ q. record { escape = record { low = g .low; high = g .high; pending = not-below (e .channel) q }; byte = pendingByte h; unit = appended (omega arith) })
+      branch (GoodDecoded b) (ltZ (e .channel) (pos 0)) _ _ (λ _. ended-good (Appended b) (λ h. appended h))
+      (λ q. record { escape = record { low = g .low; high = g .high; pending = not-below (e .channel) q }; byte = λ h. pendingByte h; unit = λ _. appended (omega arith) })
 
-  channel-good : b < 0xde → GoodDecoded (decoded (escape false (pos (b - 0xd0)) (e .pending)) Nothing)
+  channel-good : b < 0xde → GoodDecoded b (decoded (escape false (pos (b - 0xd0)) (e .pending)) Nothing)
   unfolding soundPending
-  channel-good l = record { escape = record { low = refl; high = le-leb (b - 0xd0) 13 (omega arith); pending = rw calm refl }; byte = rw calm noPending; unit = noUnit }
+  channel-good l = record { escape = record { low = refl; high = le-leb (b - 0xd0) 13 (omega arith); pending = rw calm refl }; byte = λ _. rw calm noPending; unit = λ _. noUnit }
 
-  escaped-good : GoodDecoded (escapedOf e b)
+  escaped-good : GoodDecoded b (escapedOf e b)
   unfolding escapedOf
   escaped-good =
-      branch GoodDecoded (eqb b 0xdf) _ _ (λ _. record { escape = g; byte = rw calm noPending; unit = bare (omega arith) })
-      (λ _. branch GoodDecoded (eqb b 0xde) _ _ (λ _. ended-good (Appended 0xdf) (appended (omega arith)))
-      (λ _. branch GoodDecoded (ltb b 0xd0) _ _ (λ _. other-good)
-      (λ _. branch GoodDecoded (ltb b 0xde) _ _ (λ l. channel-good (ltb-true _ _ l)) (λ _. other-good))))
+      branch (GoodDecoded b) (eqb b 0xdf) _ _ (λ _. record { escape = g; byte = λ _. rw calm noPending; unit = λ _. bare (omega arith) })
+      (λ _. branch (GoodDecoded b) (eqb b 0xde) _ _ (λ _. ended-good (Appended 0xdf) (λ _. appended (omega arith)))
+      (λ _. branch (GoodDecoded b) (ltb b 0xd0) _ _ (λ _. other-good)
+      (λ _. branch (GoodDecoded b) (ltb b 0xde) _ _ (λ l. channel-good (ltb-true _ _ l)) (λ _. other-good))))
 
-  plain-good : GoodDecoded (plainOf e b)
+  plain-good : GoodDecoded b (plainOf e b)
   unfolding plainOf soundPending
   plain-good =
-      branch GoodDecoded (eqb b 0xdf) _ _
-      (λ _. record { escape = record { low = g .low; high = g .high; pending = rw calm refl }; byte = rw calm noPending; unit = noUnit })
-      (λ _. record { escape = g; byte = rw calm noPending; unit = appended h })
+      branch (GoodDecoded b) (eqb b 0xdf) _ _
+      (λ _. record { escape = record { low = g .low; high = g .high; pending = rw calm refl }; byte = λ _. rw calm noPending; unit = λ _. noUnit })
+      (λ _. record { escape = g; byte = λ _. rw calm noPending; unit = λ h. appended h })
 
   -- a byte keeps the escapes sound
-  decode-good : GoodDecoded (decodeOf e b)
+  decode-good : GoodDecoded b (decodeOf e b)
   unfolding decodeOf
-  decode-good = branch GoodDecoded (e .escaped) _ _ (λ _. escaped-good) (λ _. plain-good)
+  decode-good = branch (GoodDecoded b) (e .escaped) _ _ (λ _. escaped-good) (λ _. plain-good)
+
+-- and so does a step of the decoder, which takes the pending byte before any other
+pub decode-next-sound : DecodeNextSound
+unfolding decodeNextOf byteNext soundPending
+decode-next-sound e bytes n sound = go (e .pending) refl
+  where
+    g : SoundEscape e
+    g = escape-parts e sound
+
+    go : (p : Pending) → e .pending ≡ p → soundEscape (pendingNext p e bytes n .escape) ≡ true
+    go None calm =
+        let P : NextUnit → Type 0 = λ u. soundEscape (u .escape) ≡ true in
+        branch P (ltb n (length bytes)) _ _ (λ _. escape-tested _ (decode-good e (getD bytes n 0) g calm .escape)) (λ _. sound)
+    go (Byte u) waits = escape-tested _ (record { low = g .low; high = g .high; pending = refl })
 
 -- ---- runs and feeds
 
@@ -423,8 +438,8 @@ settle-good c s g = go (c .escape .pending) refl (g .byte)
 pub first-good : (c : Control) (s : List ℕ) (b : ℕ) → b < 256 → c .escape .pending ≡ None → Good c s → Kept (firstOf c s b)
 unfolding firstOf
 first-good c s b h q g =
-    let d = decode-good (c .escape) b h (g .escape) q in
-    go (decodeOf (c .escape) b .unit) (d .unit) (decodeOf (c .escape) b .escape) (d .escape) (d .byte)
+    let d = decode-good (c .escape) b (g .escape) q in
+    go (decodeOf (c .escape) b .unit) (d .unit h) (decodeOf (c .escape) b .escape) (d .escape) (d .byte h)
   where
     go : (u : Unitʷ) → UnitByte u → (e : Escape) → SoundEscape e → PendingByte (e .pending) → Kept (givenOf u e c s)
     go Nothing noUnit e k l = (record { escape = k; byte = l; token = g .token }, tt)

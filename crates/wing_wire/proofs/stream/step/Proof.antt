@@ -3,8 +3,8 @@ use borrow.Author.Needs.{needs}
 use Rattle.wing_wire.proofs.stream.step.Statement.{statement}
 use Rattle.wing_wire.proofs.stream.step.Tie as tie
 
-coming-requires : tie.Need-coming-requires
-coming-requires c κs = search needs
+decode-next-requires : tie.Need-decode-next-requires
+decode-next-requires c κs = search needs
 
 take-requires : tie.Need-take-requires
 take-requires c κs = search needs
@@ -20,20 +20,20 @@ same-length c = search needs
 
 returns : tie.Need-returns
 unfolding onceOf onAhead
-returns c = simp (← c .before .before .before .before .before .before .before .before .before .before .before .before .coming .ensures, ← c .before .before .before .before .before .before .before .before .before .take .ensures, ← c .before .before .before .before .before .before .is-free .ensures, c .before .before .before .before .before .if1 .taken, c .before .before .ahead .ensures)
+returns c = simp (← c .before .before .before .before .before .before .before .before .before .before .before .before .decode-next .ensures, ← c .before .before .before .before .before .before .before .before .before .take .ensures, ← c .before .before .before .before .before .before .is-free .ensures, c .before .before .before .before .before .if1 .taken, c .before .before .ahead .ensures)
 
 same-length-2 : tie.Need-same-length-2
 same-length-2 c = search needs
 
 returns-2 : tie.Need-returns-2
 unfolding onceOf onAhead
-returns-2 c = simp (← c .before .before .before .before .before .before .before .coming .ensures, ← c .before .before .before .before .take .ensures, ← c .before .is-free .ensures, c .if1 .left)
+returns-2 c = simp (← c .before .before .before .before .before .before .before .decode-next .ensures, ← c .before .before .before .before .take .ensures, ← c .before .is-free .ensures, c .if1 .left)
 
 pub step-spec : {M : Type 1} → statement M
 step-spec =
     tie.close
     (tie.spec
-    coming-requires
+    decode-next-requires
     take-requires
     is-free-requires
     ahead-requires

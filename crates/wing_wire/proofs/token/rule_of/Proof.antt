@@ -1,7 +1,7 @@
 -- `token::rule_of` meets its contract.
 use native.Mathlib.Omega.{arith}
 use borrow.Author.Needs.{needs}
-use Rattle.wing_wire.proofs.Reading.Columns.{classColumn, wantsColumn, rule-at, wants-byte}
+use Rattle.wing_wire.proofs.Reading.Columns.{classColumn, wantsColumn, entryOf, entry-right, wants-byte}
 use Rattle.wing_wire.proofs.token.rule_of.Statement.{statement}
 use Rattle.wing_wire.proofs.token.rule_of.Tie as tie
 
@@ -19,8 +19,8 @@ unfolding classColumn wantsColumn
 cast-t13 c = record { fits = omega (arith, wants-byte (c .before .before .before .args .t) (search needs)) }
 
 returns : tie.Need-returns
-unfolding classColumn wantsColumn
-returns c = rw (c .before .class-of .ensures) (rule-at (c .before .before .before .args .t) (search needs))
+unfolding classColumn wantsColumn entryOf
+returns c = rw (c .before .class-of .ensures) (entry-right (c .before .before .before .args .t) (search needs))
 
 pub rule-of-spec : {M : Type 1} → statement M
 rule-of-spec =

@@ -22,9 +22,6 @@ text-requires c κs = search needs
 loop-holds : tie.Need-loop-holds Inv-loop μ-loop
 loop-holds c = search needs
 
-shared-slice-read-past : tie.Need-shared-slice-read-past Inv-loop μ-loop
-shared-slice-read-past c = search needs
-
 past-requires : tie.Need-past-requires Inv-loop μ-loop
 past-requires c κs = search needs
 
@@ -71,7 +68,6 @@ units-spec =
     slice-aggregate-text
     text-requires
     loop-holds
-    shared-slice-read-past
     past-requires
     add-i
     loop-less
