@@ -13,3 +13,4 @@ pub mod Command
 pub mod Meter
 pub mod Cases
 pub mod RoundTrip
+pub mod Answers
