@@ -14,3 +14,4 @@ pub mod Meter
 pub mod Cases
 pub mod RoundTrip
 pub mod Answers
+pub mod SetOrders
