@@ -20,3 +20,4 @@ pub mod Handled
 pub mod Beside
 pub mod Few
 pub mod ByUnits
+pub mod Repeats

@@ -15,3 +15,4 @@ pub mod Cases
 pub mod RoundTrip
 pub mod Answers
 pub mod SetOrders
+pub mod Repeated
