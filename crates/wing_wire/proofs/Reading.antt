@@ -19,3 +19,4 @@ pub mod Handled
 pub mod Beside
 pub mod Few
 pub mod ByUnits
+pub mod Repeats

@@ -13,3 +13,6 @@ pub mod Command
 pub mod Meter
 pub mod Cases
 pub mod RoundTrip
+pub mod Answers
+pub mod SetOrders
+pub mod Repeated
