@@ -1,4 +1,4 @@
-mod Reading
-mod Parsing
-pub mod Turned
-mod TakesAll
+pub mod Typed
+pub mod Lines
+pub mod Writers
+pub mod Calls

@@ -1,3 +1,3 @@
 pub mod Lines
-pub mod Refusals
-pub mod Mores
+pub mod Wire
+pub mod Mirror

@@ -7,14 +7,8 @@ ghost use Rattle.wing_wire.specs.RoundTrip.{RoundTrip, RoundTripPieces};
 ghost use Rattle.wing_wire.specs.Cases.{Case, cases};
 ghost use Rattle.wing_mirror.specs.Machine.{Reading, reading};
 ghost use Rattle.wing_mirror.specs.History.{Agreement, Equality, Rebuilding, Histories};
-ghost use Rattle.promises.specs.Refusals.{Refusals};
-ghost use Rattle.promises.specs.Mores.{MoreTakesAll};
 
-// Demand 1. Whatever it is given, every call is taken, or sent back with the number of the first of 01's lines that applies,
-// and then leaves every lent buffer as it was.
-pub fn demand_1_refusals()
-    ensures { λ _. ⌜ Refusals ⌝ }
-{}
+pub mod mirror;
 
 // Demand 2. The bytes of every accepted set order, read while unescaped, between tokens and with no byte pending, give
 // that value at that node.
@@ -31,11 +25,6 @@ pub fn demand_2_in_pieces()
 // the numbers and the bytes that they hold.
 pub fn demand_2_definitions()
     ensures { λ _. ⌜ ReadsBack ⌝ }
-{}
-
-// Demand 2, for the decoder: it says 'more' only when all bytes are taken and none is pending.
-pub fn demand_2_more()
-    ensures { λ _. ⌜ MoreTakesAll ⌝ }
 {}
 
 // Demand 3. After any list of feed and set calls, refused ones included, a mirror has answered each call as the plain

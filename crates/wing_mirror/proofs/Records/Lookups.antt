@@ -69,19 +69,18 @@ unfolding recordAnswer entryResult
 unrecorded t n q = rw q
 
 module _ (t : Table) (b : AreBytes (t .buffer)) (u : usable t ≡ true) where
-  row : ℕ → List ℕ
+  abbrev row : ℕ → List ℕ
   row n = getD (rows t) n []
 
   counted : length (rows t) ≡ t .count
   counted = length-records 264 (t .count) (t .buffer)
 
   formed : (n : ℕ) → n < t .count → Row (row n)
-  unfolding row
   formed n l = all-at Row [] (rows t) n (each t b u) (omega (arith, counted))
 
   -- a record that is there is read whole
-  read-row : (n : ℕ) → n < t .count → recordResult (recordAnswer t n) ≡ ok (entryIn (row n))
-  unfolding recordAnswer row
+  pub read-row : (n : ℕ) → n < t .count → recordResult (recordAnswer t n) ≡ ok (entryIn (row n))
+  unfolding recordAnswer
   read-row n l =
       rw (u, lt-ltb n (t .count) l) (value-read (entryIn (row n) .id) (entryIn (row n) .value) (row-proper (row n) (formed n l) .text))
 
@@ -106,7 +105,6 @@ module _ (t : Table) (b : AreBytes (t .buffer)) (u : usable t ≡ true) where
 
     -- the record at the place that was found
     there : holds keyOf (rankOf id) (rows t) ≡ true → RecordOf t (below keyOf (rankOf id) (rows t)) id
-    unfolding row
     there h =
         let n = below keyOf (rankOf id) (rows t) in
         let p = placed keyOf [] (rankOf id) (rows t) (up t u) h in
@@ -117,7 +115,6 @@ module _ (t : Table) (b : AreBytes (t .buffer)) (u : usable t ≡ true) where
 
     -- a record of this id is found
     held : (n : ℕ) → RecordOf t n id → (holds keyOf (rankOf id) (rows t) ≡ true) × (below keyOf (rankOf id) (rows t) ≡ n)
-    unfolding row
     held n r = go (ltb n (t .count)) refl
       where
         go : (x : Bool) → ltb n (t .count) ≡ x → (holds keyOf (rankOf id) (rows t) ≡ true) × (below keyOf (rankOf id) (rows t) ≡ n)

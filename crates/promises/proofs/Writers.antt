@@ -1,0 +1,130 @@
+-- What is promised of the commands, the meter request and the packets, as specs/Wire states it.
+use Prim.Native.Nat.{ℕ, _+_}
+use mathlib.Core.Bool.{Bool, true, false}
+use mathlib.Core.Path.{_≡_, refl, sym, _∙_, ap}
+use mathlib.Core.List.{List, [], _∷_, _++_}
+use native.Mathlib.Omega.{arith}
+use lib.Dec.{ltb, leb, eqb}
+use lib.IntN.{ℤ}
+use lib.ListN.{length, take, drop}
+use lib.Seq.{take-append-seam, drop-append-seam}
+use Rattle.wing_node.specs.Bool.{if}
+use Rattle.wing_node.specs.Field.{big}
+use Rattle.wing_node.specs.Result.{Result, ok, refused}
+use Rattle.wing_node.specs.Utf8.{utf8}
+use Rattle.wing_node.specs.Value.{string}
+use Rattle.wing_wire.specs.Write.{Wrote, wrote, writeOf}
+use Rattle.wing_wire.specs.Command.{setBytes, setString}
+use Rattle.wing_wire.specs.Meter.{Asked, asked, askOf, meterRequest, requestMeter, Heard, heard, readings, packetOf}
+use Rattle.wing_wire.specs.Answers.{writtenResult, MeterRequest, requestedResult, MeterPacket, metersResult}
+use Rattle.wing_wire.specs.declared.write.Written.the-variants.{Bytes, Refused}
+use Rattle.wing_wire.specs.declared.meter.Meter.{Meter}
+use Rattle.wing_wire.specs.declared.meter.Requested.the-variants.{Bytes as Asks, Refused as Unrequested}
+use Rattle.wing_wire.specs.declared.meter.MetersRead.the-variants.{Readings, Refused as Unheard}
+use Rattle.wing_wire.proofs.Reading.Branches.{branch}
+use Rattle.promises.specs.Lines.{Line, _gives_, Answers}
+use Rattle.promises.specs.Wire.{Writes, CommandCall, stringLines, MeterCall, PacketCall}
+use Rattle.promises.proofs.Lines.{taken, line, unless}
+
+-- the bytes at the front, and those after them
+pub at-front : {A : Type 0} (bytes out : List A) → take (length bytes) (bytes ++ drop (length bytes) out) ≡ bytes
+at-front bytes out = take-append-seam bytes (drop (length bytes) out)
+
+pub past-front : {A : Type 0} (bytes out : List A) (n : ℕ) → length bytes ≡ n → drop n (bytes ++ drop (length bytes) out) ≡ drop n out
+past-front bytes out n e = rw (← e) (drop-append-seam bytes (drop (length bytes) out))
+
+-- ---- commands
+
+abbrev came : Wrote → Result (List ℕ)
+came x = writtenResult (x .answer) (x .out)
+
+abbrev Kept : List ℕ → Wrote → Type 0
+Kept out x = (x .out ≡ out) × Unit {0}
+
+abbrev Rest : List ℕ → Wrote → Type 0
+Rest out x = (n : ℕ) → x .answer ≡ Bytes n → drop n (x .out) ≡ drop n out
+
+-- a refusal wrote nothing
+refused-rest : (k : ℕ) (out after : List ℕ) → Rest out (wrote (Refused k) after)
+refused-rest k out after n e = absurd (let z : _≡_ {A = ℕ} 0 1 = cc in omega arith)
+
+pub written-rest : (bytes out : List ℕ) → Rest out (writeOf bytes out)
+unfolding writeOf
+written-rest bytes out =
+    branch (Rest out) (ltb (length out) (length bytes)) _ _ (λ _. refused-rest 9 out out) (λ _ n e. past-front bytes out n (let z : length bytes ≡ n = cc in z))
+
+-- every command of given bytes
+pub command-writes : (bytes out : List ℕ) → CommandCall bytes out (writeOf bytes out .answer) (writeOf bytes out .out)
+unfolding writeOf writtenResult
+command-writes bytes out = record {
+  answered = line came (Kept out) bytes (ltb (length out) (length bytes)) 9 _ _ _ refl (refl, tt) (taken came (Kept out) bytes (wrote (Bytes (length bytes)) (bytes ++ drop (length bytes) out)) (ap ok (at-front bytes out)));
+  rest = unfold writeOf in written-rest bytes out;
+}
+
+-- a set order of a string
+pub string-writes : (id : ℤ) (s out : List ℕ) → Writes (stringLines id s out) (setBytes id (string s)) out (setString id s out .answer) (setString id s out .out) (Unit {0})
+unfolding setString writtenResult
+string-writes id s out = record {
+  answered = unless came (Kept out) bytes (leb (length s) 256) 10 _ _ _ refl (refl, tt) (unless came (Kept out) bytes (utf8 s) 1 _ _ _ refl (refl, tt) (command-writes bytes out .answered));
+  rest = branch (Rest out) (leb (length s) 256) _ _ (λ _. branch (Rest out) (utf8 s) _ _ (λ _. written-rest bytes out) (λ _. refused-rest 1 out out)) (λ _. refused-rest 10 out out);
+}
+  where
+    bytes : List ℕ
+    bytes = setBytes id (string s)
+
+-- ---- meters
+
+pub meters-write : (port last : ℕ) (ms : List Meter) (count : ℕ) (out : List ℕ) → MeterCall port last ms count out (requestMeter port last ms count out .answer) (requestMeter port last ms count out .out)
+unfolding requestMeter askOf requestedResult
+meters-write port last ms count out = record {
+  answered = unless asks W request (leb count 64) 11 _ _ _ refl refl (line asks W request (eqb last 65535) 12 _ _ _ refl refl
+      (line asks W request (ltb (length out) (length bytes)) 9 _ _ _ refl refl (taken asks W request (asked (Asks (length bytes) (last + 1)) (bytes ++ drop (length bytes) out)) (ap (λ (b : List ℕ). ok (record { bytes = b; id = last + 1 })) (at-front bytes out)))));
+  rest = branch R (leb count 64) _ _
+      (λ _. branch R (eqb last 65535) _ _ (λ _. none 12) (λ _. branch R (ltb (length out) (length bytes)) _ _ (λ _. none 9) (λ _ n id e. past-front bytes out n (let z : length bytes ≡ n = cc in z))))
+      (λ _. none 11);
+}
+  where
+    bytes : List ℕ
+    bytes = meterRequest port (last + 1) (take count ms)
+
+    request : MeterRequest
+    request = record { bytes = bytes; id = last + 1 }
+
+    asks : Asked → Result MeterRequest
+    asks x = requestedResult (x .answer) (x .out)
+
+    W : Asked → Type 0
+    W x = x .out ≡ out
+
+    R : Asked → Type 0
+    R x = (n id : ℕ) → x .answer ≡ Asks n id → drop n (x .out) ≡ drop n out
+
+    none : (k : ℕ) → R (asked (Unrequested k) out)
+    none k n id e = refl
+
+pub packet-reads : (p : List ℕ) (out : List ℤ) → PacketCall p out (packetOf p out .answer) (packetOf p out .out)
+unfolding packetOf metersResult
+packet-reads p out = record {
+  answered = line hears W packet (ltb (length p) 4) 13 _ _ _ refl refl (line hears W packet (ltb 8192 (length p)) 13 _ _ _ refl refl
+      (line hears W packet (ltb (length out) (length rs)) 9 _ _ _ refl refl (taken hears W packet (heard (Readings (big (take 2 p)) (length rs)) (rs ++ drop (length rs) out)) (ap (λ (r : List ℤ). ok (record { id = big (take 2 p); readings = r })) (at-front rs out)))));
+  rest = branch R (ltb (length p) 4) _ _ (λ _. none 13)
+      (λ _. branch R (ltb 8192 (length p)) _ _ (λ _. none 13) (λ _. branch R (ltb (length out) (length rs)) _ _ (λ _. none 9) (λ _ id n e. past-front rs out n (let z : length rs ≡ n = cc in z))));
+}
+  where
+    rs : List ℤ
+    rs = readings (drop 4 p)
+
+    packet : MeterPacket
+    packet = record { id = big (take 2 p); readings = rs }
+
+    hears : Heard → Result MeterPacket
+    hears x = metersResult (x .answer) (x .out)
+
+    W : Heard → Type 0
+    W x = x .out ≡ out
+
+    R : Heard → Type 0
+    R x = (id n : ℕ) → x .answer ≡ Readings id n → drop n (x .out) ≡ drop n out
+
+    none : (k : ℕ) → R (heard (Unheard k) out)
+    none k id n e = refl

@@ -1,0 +1,112 @@
+-- What is promised of each call of the mirror, by its arguments, its answer and the lent buffers after it.
+use Prim.Native.Nat.{ℕ}
+use mathlib.Core.Bool.{Bool, not, true}
+use mathlib.Core.Path.{_≡_}
+use mathlib.Core.Logic.{_↔_}
+use mathlib.Core.List.{List, [], _∷_}
+use lib.Dec.{ltb, leb}
+use lib.IntN.{ℤ}
+use lib.ListN.{length, getD}
+use Rattle.wing_node.specs.Result.{ok, refused}
+use Rattle.wing_node.specs.Value.{NodeValue}
+use Rattle.wing_wire.specs.State.{soundState}
+use Rattle.wing_wire.specs.Command.{setBytes}
+use Rattle.wing_wire.specs.SetOrders.{ReadsAsSet}
+use Rattle.wing_wire.specs.declared.state.State.{State}
+use Rattle.wing_wire.specs.declared.write.Written.{Written}
+use Rattle.wing_mirror.specs.Rows.{Table, found, nothing}
+use Rattle.wing_mirror.specs.Record.{entry, entryIn}
+use Rattle.wing_mirror.specs.Table.{table, rows, usable, fits, lookupOf}
+use Rattle.wing_mirror.specs.Query.{sameTables, unread}
+use Rattle.wing_mirror.specs.Answers.{lookupResult, recordResult, sameResult, feedResult}
+use Rattle.wing_mirror.specs.Lookups.{RecordOf}
+use Rattle.wing_mirror.specs.Counts.{none}
+use Rattle.wing_mirror.specs.Call.{feed, set, Step, tooLong, notText}
+use Rattle.wing_mirror.specs.Mirror.{fedAll}
+use Rattle.wing_mirror.specs.Recall.{recallBytes}
+use Rattle.wing_mirror.specs.History.{Mirror, Equal, feedOutcome, setOutcome, mirrorStep, Rebuilt}
+use Rattle.wing_mirror.specs.declared.answer.Counts.{Counts}
+use Rattle.wing_mirror.specs.declared.answer.FeedAnswer.{FeedAnswer}
+use Rattle.wing_mirror.specs.declared.answer.Lookup.{Lookup}
+use Rattle.wing_mirror.specs.declared.answer.RecordRead.{RecordRead}
+use Rattle.wing_mirror.specs.declared.answer.Same.{Same}
+use Rattle.promises.specs.Lines.{Line, _gives_, by, Answers}
+use Rattle.promises.specs.Wire.{Writes, commandLines}
+
+-- 01: a mirror is a decoder state, a table buffer and its count
+abbrev pub mirror : State → Table → Mirror
+mirror s t = record { decoder = s; table = t }
+
+-- ---- 01's lines, call by call, in the order in which they apply
+
+-- a feed: the state, the table, too many bytes
+abbrev pub feedLines : Mirror → List ℕ → List Line
+feedLines m bytes =
+    (not (soundState (m .decoder)) gives 8) ∷ (not (usable (m .table)) gives 7) ∷ (not (leb (length bytes) 65536) gives 14) ∷ []
+
+-- a set through the mirror: the table, the string's length, its UTF-8, no place, too short an output
+abbrev pub setLines : ℤ → NodeValue → Table → List ℕ → List Line
+setLines id v t out =
+    (not (usable t) gives 7) ∷ (tooLong v gives 10) ∷ (notText v gives 1) ∷ (not (fits (entry id v) t) gives 6) ∷ commandLines (setBytes id v) out
+
+-- recall: the table, too short an output
+abbrev pub recallLines : Table → List ℕ → List Line
+recallLines t out = (not (usable t) gives 7) ∷ commandLines (recallBytes t) out
+
+-- a table that is asked: not usable
+abbrev pub tableLines : Table → List Line
+tableLines t = (not (usable t) gives 7) ∷ []
+
+-- a record by number: a number that is not below the count as well
+abbrev pub recordLines : Table → ℕ → List Line
+recordLines t number = (not (usable t) gives 7) ∷ (not (ltb number (t .count)) gives 14) ∷ []
+
+-- two tables
+abbrev pub sameLines : Table → Table → List Line
+sameLines t u = (not (usable t) gives 7) ∷ (not (usable u) gives 7) ∷ []
+
+-- ---- what is promised
+
+-- a feed
+pub record FeedCall (m : Mirror) (bytes : List ℕ) (answer : FeedAnswer) (counts : Counts) (after : Mirror) : Type 0 where
+  -- demand 1: 8, 7, 14, and then the mirror is as it was and nothing is counted; else the counts of what the bytes held
+  pub answered : Answers (feedLines m bytes) (fedAll (m .decoder) (m .table) bytes .memo .counts) (feedResult answer counts) ((after ≡ m) × (counts ≡ none))
+  -- demand 3: one step of the mirror's history is this call
+  pub step : mirrorStep m (feed bytes) ≡ record { state = after; outcome = feedOutcome answer counts }
+
+-- a set through the mirror
+pub record SetCall (id : ℤ) (v : NodeValue) (t : Table) (out : List ℕ) (answer : Written) (after : Table) (written : List ℕ) : Type 0 where
+  -- demand 1: 7, 10, 1, 6, 9, and then table and output are as they were; else the set order's bytes are written, and the rest of the output stays
+  pub writes : Writes (setLines id v t out) (setBytes id v) out answer written (after ≡ t)
+  -- demand 2: what was written is read as that value at that node
+  pub reads : ReadsAsSet id v answer written
+  -- demand 3: one step of the mirror's history is this call, whatever the decoder, which it neither reads nor alters
+  pub step : (s : State) → mirrorStep (mirror s t) (set id v out) ≡ record { state = mirror s after; outcome = setOutcome answer written }
+
+-- recall
+pub record RecallCall (t : Table) (out : List ℕ) (answer : Written) (written : List ℕ) : Type 0 where
+  -- demand 1: 7, 9; else df d1 and the set bytes of each record
+  pub writes : Writes (recallLines t out) (recallBytes t) out answer written (Unit {0})
+  -- demand 3: what was written, in any split, rebuilds an equal mirror
+  pub rebuilds : Rebuilt answer written t
+
+-- lookup
+pub record LookupCall (t : Table) (id : ℤ) (answer : Lookup) : Type 0 where
+  -- demand 1: 7
+  pub result : lookupResult answer ≡ by (tableLines t) (lookupOf id t)
+  -- 01: an id's record number, exactly if that record is there and has that id
+  pub at : (number : ℕ) → (lookupResult answer ≡ ok (found number) ↔ RecordOf t number id)
+  -- 01: or none, exactly if no record has it
+  pub nowhere : usable t ≡ true → (lookupResult answer ≡ ok nothing ↔ ((number : ℕ) → RecordOf t number id → ⊥))
+
+-- a record by number
+pub record RecordCall (t : Table) (number : ℕ) (reply : RecordRead) : Type 0 where
+  -- demand 1: 7, 14; else the node and value of that record
+  pub result : recordResult reply ≡ by (recordLines t number) (entryIn (getD (rows t) number []))
+  -- sent back, the string's bytes are all 0
+  pub zeros : (n : ℕ) → recordResult reply ≡ refused n → reply ≡ unread n
+
+-- two tables: 7; else whether count and records are equal
+pub record SameCall (t u : Table) (answer : Same) : Type 0 where
+  pub result : sameResult answer ≡ by (sameLines t u) (sameTables t u)
+  pub equal : usable t ≡ true → usable u ≡ true → (sameResult answer ≡ ok true ↔ Equal t u)

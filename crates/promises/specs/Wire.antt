@@ -1,0 +1,78 @@
+-- What is promised of each call of the wire, by its arguments, its answer and the lent buffers after it.
+use Prim.Native.Nat.{ℕ, _+_}
+use mathlib.Core.Bool.{Bool, not}
+use mathlib.Core.Path.{_≡_}
+use mathlib.Core.List.{List, [], _∷_}
+use lib.Dec.{ltb, leb, eqb}
+use lib.IntN.{ℤ}
+use lib.ListN.{length, take, drop}
+use Rattle.wing_node.specs.Field.{big}
+use Rattle.wing_node.specs.Result.{Result, ok, refused}
+use Rattle.wing_node.specs.Utf8.{utf8}
+use Rattle.wing_node.specs.Value.{NodeValue, string}
+use Rattle.wing_wire.specs.State.{soundState}
+use Rattle.wing_wire.specs.Command.{setBytes}
+use Rattle.wing_wire.specs.Meter.{meterRequest, readings}
+use Rattle.wing_wire.specs.Reader.{refusedNext}
+use Rattle.wing_wire.specs.Answers.{writtenResult, MeterRequest, requestedResult, MeterPacket, metersResult}
+use Rattle.wing_wire.specs.SetOrders.{ReadsAsSet}
+use Rattle.wing_wire.specs.declared.state.State.{State}
+use Rattle.wing_wire.specs.declared.write.Written.{Written}
+use Rattle.wing_wire.specs.declared.write.Written.the-variants.{Bytes, Refused}
+use Rattle.wing_wire.specs.declared.meter.Meter.{Meter}
+use Rattle.wing_wire.specs.declared.meter.Requested.{Requested}
+use Rattle.wing_wire.specs.declared.meter.Requested.the-variants.{Bytes as Asks}
+use Rattle.wing_wire.specs.declared.meter.MetersRead.{MetersRead}
+use Rattle.wing_wire.specs.declared.meter.MetersRead.the-variants.{Readings}
+use Rattle.promises.specs.Lines.{Line, _gives_, by, Answers}
+
+-- ---- 01's lines, call by call, in the order in which they apply
+
+-- console bytes: an unsound state, too many bytes
+abbrev pub nextLines : State → List ℕ → List Line
+nextLines s bytes = (not (soundState s) gives 8) ∷ (not (leb (length bytes) 65536) gives 14) ∷ []
+
+-- a command of given bytes: an output too short for the whole
+abbrev pub commandLines : List ℕ → List ℕ → List Line
+commandLines bytes out = (ltb (length out) (length bytes) gives 9) ∷ []
+
+-- a set order of a string: over 256 bytes, not UTF-8, too short an output
+abbrev pub stringLines : ℤ → List ℕ → List ℕ → List Line
+stringLines id s out = (not (leb (length s) 256) gives 10) ∷ (not (utf8 s) gives 1) ∷ commandLines (setBytes id (string s)) out
+
+-- a meter request: over 64 meters, no id left, too short an output
+abbrev pub meterLines : ℕ → ℕ → List Meter → ℕ → List ℕ → List Line
+meterLines port last ms count out =
+    (not (leb count 64) gives 11) ∷ (eqb last 65535 gives 12) ∷ commandLines (meterRequest port (last + 1) (take count ms)) out
+
+-- a meter packet: outside 4 to 8,192 bytes, too few places for its readings
+abbrev pub packetLines : List ℕ → List ℤ → List Line
+packetLines p out =
+    (ltb (length p) 4 gives 13) ∷ (ltb 8192 (length p) gives 13) ∷ (ltb (length out) (length (readings (drop 4 p))) gives 9) ∷ []
+
+-- ---- what is promised
+
+-- a command: sent back as its lines have it, with the output as it was and what else must stay; else these bytes at the front of the output,
+-- whose bytes past them are not altered
+pub record Writes (lines : List Line) (bytes out : List ℕ) (answer : Written) (after : List ℕ) (Stays : Type 0) : Type 0 where
+  pub answered : Answers lines bytes (writtenResult answer after) ((after ≡ out) × Stays)
+  pub rest : (n : ℕ) → answer ≡ Bytes n → drop n after ≡ drop n out
+
+-- a command of given bytes: 9
+abbrev pub CommandCall : List ℕ → List ℕ → Written → List ℕ → Type 0
+CommandCall bytes out answer after = Writes (commandLines bytes out) bytes out answer after (Unit {0})
+
+-- a set order: its lines; and demand 2: what was written is read as that value at that node
+pub record SetOrder (lines : List Line) (id : ℤ) (v : NodeValue) (out : List ℕ) (answer : Written) (after : List ℕ) : Type 0 where
+  pub writes : Writes lines (setBytes id v) out answer after (Unit {0})
+  pub reads : ReadsAsSet id v answer after
+
+-- a meter request: 11, 12, 9; else its bytes and the id after the last one
+pub record MeterCall (port last : ℕ) (ms : List Meter) (count : ℕ) (out : List ℕ) (answer : Requested) (after : List ℕ) : Type 0 where
+  pub answered : Answers (meterLines port last ms count out) (record { bytes = meterRequest port (last + 1) (take count ms); id = last + 1 }) (requestedResult answer after) (after ≡ out)
+  pub rest : (n id : ℕ) → answer ≡ Asks n id → drop n after ≡ drop n out
+
+-- a meter packet: 13, 9; else its id and readings, and the readings' buffer past them as it was
+pub record PacketCall (p : List ℕ) (out : List ℤ) (answer : MetersRead) (after : List ℤ) : Type 0 where
+  pub answered : Answers (packetLines p out) (record { id = big (take 2 p); readings = readings (drop 4 p) }) (metersResult answer after) (after ≡ out)
+  pub rest : (id n : ℕ) → answer ≡ Readings id n → drop n after ≡ drop n out
