@@ -21,3 +21,4 @@ pub mod Beside
 pub mod Few
 pub mod ByUnits
 pub mod Repeats
+pub mod WholeTokens
