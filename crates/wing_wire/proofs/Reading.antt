@@ -22,3 +22,4 @@ pub mod Few
 pub mod ByUnits
 pub mod Repeats
 pub mod WholeTokens
+pub mod Cuts

@@ -6,7 +6,7 @@ use mathlib.Core.List.{List, [], _∷_, _++_}
 use mathlib.Core.Logic.{_⊎_, inl, inr}
 use native.Mathlib.Omega.{arith}
 use native.Mathlib.Nat.{pow-suc, pow-le-pow-right}
-use lib.Dec.{ltb, leb, eqb}
+use lib.Dec.{leb, eqb}
 use lib.IntN.{ℤ, pos}
 use lib.ListN.{length, take, drop, set, replicate}
 use lib.Seq.{drop-append-seam, sets, sets-eq, take-at}
@@ -24,14 +24,14 @@ use Rattle.wing_wire.specs.Stream.{joined, Fed, heed}
 use Rattle.wing_wire.specs.Reader.{Event, value, body, end, refused, eventOf}
 use Rattle.wing_wire.specs.Range.{AreBytes, noBytes, byteThen}
 use Rattle.wing_wire.specs.Units.{Given, given, unitTaken, unitsTaken}
-use Rattle.wing_wire.specs.Tokens.{emptyStore, values, appended, Further, From, Rest, Gives, event, nothing, newNode, stringOf, between, after, Waiting, Token, Tokens, TakesUnits}
+use Rattle.wing_wire.specs.Tokens.{emptyStore, values, appended, Further, From, Rest, Gives, event, nothing, newNode, stringOf, between, after, Holds, Token, TakesUnits, InTable, integer-t, string-80, string-c0, string-d0, string-d1, integer-16, integer-32, float-bits, new-node, skips-two, skips-one, end-unit, bodies, count-over, count-zero, no-event}
 use Rattle.wing_wire.specs.declared.token.Class.{Class}
 use Rattle.wing_wire.specs.declared.token.Class.the-variants.{NoEvent, Integer, String, Length, Int16, Int32, Float, Node, End, Count, ZeroCount}
 use Rattle.wing_wire.specs.declared.state.Escape.{Escape}
 use Rattle.wing_wire.specs.declared.state.Token.{Token as Progress}
 use Rattle.wing_wire.specs.declared.state.Token.the-variants.{Between, Number, String as InString, Body as InBody}
 use Rattle.wing_wire.specs.declared.unit.Answer.{Answer}
-use Rattle.wing_wire.specs.declared.unit.Answer.the-variants.{String as aString, Body as aBody, Refused}
+use Rattle.wing_wire.specs.declared.unit.Answer.the-variants.{String as aString, Refused}
 use Rattle.wing_wire.proofs.Reading.Branches.{branch, and-left, and-right}
 use Rattle.wing_wire.proofs.Reading.ByUnits.{feed-units}
 
@@ -123,7 +123,7 @@ module _ {M : Type 0} (h : ℤ → Event → M → M) where
   each-append P x [] b p q = q
   each-append P x (g ∷ a) b (p, t) q = (p, each-append P (unitTaken handed x g) a b t q)
 
-  taken-append : (x : Fed M) (a b : List Given) → unitsTaken handed x (a ++ b) ≡ unitsTaken handed (unitsTaken handed x a) b
+  pub taken-append : (x : Fed M) (a b : List Given) → unitsTaken handed x (a ++ b) ≡ unitsTaken handed (unitsTaken handed x a) b
   unfolding unitsTaken
   taken-append x [] b = refl
   taken-append x (g ∷ a) b = taken-append (unitTaken handed x g) a b
@@ -139,27 +139,27 @@ module _ {M : Type 0} (h : ℤ → Event → M → M) where
 
     -- units that lead from x to y, and nothing is handed on before the last
     record Leads (x : Fed M) (us : List Given) (y : Fed M) : Type 0 where
-      pub each : Each (Waiting h e node m) x us
+      pub each : Each (Holds h e node m) x us
       pub ends : unitsTaken handed x us ≡ y
 
     leads-on : {x y z : Fed M} {a b : List Given} → Leads x a y → Leads y b z → Leads x (a ++ b) z
     leads-on {x} {y} {z} {a} {b} p q =
         record {
-          each = each-append (Waiting h e node m) x a b (p .each) (subst (λ (w : Fed M). Each (Waiting h e node m) w b) (sym (p .ends)) (q .each));
+          each = each-append (Holds h e node m) x a b (p .each) (subst (λ (w : Fed M). Each (Holds h e node m) w b) (sym (p .ends)) (q .each));
           ends = taken-append x a b ∙ ap (λ (w : Fed M). unitsTaken handed w b) (p .ends) ∙ q .ends;
         }
 
-    waiting : (t : Progress) (s : List ℕ) → Waiting h e node m (stands t s)
+    waiting : (t : Progress) (s : List ℕ) → Holds h e node m (stands t s)
     waiting t s = record { memo = refl; node = refl; escape = refl }
 
     -- a token that wants no fewer units hands nothing on before the last of them
-    each-waits : (t : Progress) (s : List ℕ) (us : List Given) → length us ≤ leftOf t → Each (Waiting h e node m) (stands t s) us
+    each-waits : (t : Progress) (s : List ℕ) (us : List Given) → length us ≤ leftOf t → Each (Holds h e node m) (stands t s) us
     each-waits t s [] l = tt
     each-waits t s (g ∷ []) l = (waiting t s, tt)
     each-waits t s (g ∷ k ∷ us) l =
         let q = held node t s (g .unit) (g .appended) (omega arith) in
-        let rest : Each (Waiting h e node m) (stands (q .token) (q .store)) (k ∷ us) = each-waits (q .token) (q .store) (k ∷ us) (omega (arith, q .left)) in
-        (waiting t s, subst (λ (o : Out). Each (Waiting h e node m) (done o) (k ∷ us)) (sym (q .same)) rest)
+        let rest : Each (Holds h e node m) (stands (q .token) (q .store)) (k ∷ us) = each-waits (q .token) (q .store) (k ∷ us) (omega (arith, q .left)) in
+        (waiting t s, subst (λ (o : Out). Each (Holds h e node m) (done o) (k ∷ us)) (sym (q .same)) rest)
 
     -- ---- the first unit
 
@@ -406,7 +406,7 @@ module _ {M : Type 0} (h : ℤ → Event → M → M) where
   whole : (us : List Given) (g : Gives) → ((e : Escape) (node : ℤ) (m : M) → Leads h e node m (between h e node m) us (after h e node m g)) → Token h us g
   whole us g l =
       record {
-        before = λ e node m n k. each-front h (Waiting h e node m) (between h e node m) us (l e node m .each) n k;
+        before = λ e node m n k. each-front h (Holds h e node m) (between h e node m) us (l e node m .each) n k;
         last = λ e node m. l e node m .ends;
       }
 
@@ -483,29 +483,26 @@ module _ {M : Type 0} (h : ℤ → Event → M → M) where
       string-token t (t - low) a us (rw next at q) (rw next at l) (rw next at f)
 
   -- 01's table, row by row
-  pub tokens : Tokens h
-  unfolding ruleOf ruleIn singleOf isString numberOf eventOf cleared
-  tokens =
-      record {
-        small = λ t a r. alone t a Integer (event (value (integer (pos t)))) (rule-small t r) (λ e node m. refl);
-        string-80 = λ t a us r f. row-token t 0x80 a us (rule-80 t r) (omega (arith, r .1)) f;
-        string-c0 = λ t a us r f. row-token t 0xc0 a us (rule-c0 t r) (omega (arith, r .1)) f;
-        string-d0 = λ a. alone 0xd0 a String (event (value (string []))) refl (λ e node m. refl);
-        string-d1 = length-token;
-        integer-16 = λ a us f.
-            number-token 0xd3 a Int16 1 us (event (value (integer (signed 15 (big (values us)))))) refl refl (omega arith) f
-            (λ e node m. let low : big (values us) % 0x10000 ≡ big (values us) = omega (arith, big-small 2 us f) in rw low);
-        integer-32 = λ a us f. number-token 0xd4 a Int32 3 us (event (value (integer (signed 31 (big (values us)))))) refl refl (omega arith) f (λ e node m. refl);
-        float-bits = λ t a us r f. number-token t a Float 3 us (event (value (float (big (values us))))) (rule-float t r) refl (omega arith) f (λ e node m. refl);
-        node = λ a us f. number-token 0xd7 a Node 3 us (newNode (signed 31 (big (values us)))) refl refl (omega arith) f (λ e node m. refl);
-        two = λ a us f. number-token 0xd2 a NoEvent 1 us nothing refl refl (omega arith) f (λ e node m. refl);
-        one = λ a us f. number-token 0xd9 a NoEvent 0 us nothing refl refl (omega arith) f (λ e node m. refl);
-        ends = λ a. alone 0xde a End (event end) refl (λ e node m. refl);
-        bodies = λ a c us f some most k. rw (le-leb (big (values c)) 4096 most) at (body-token a c us f some k);
-        count-over = λ a c us f over k. rw (lt-leb (big (values c)) 4096 over) at (body-token a c us f (omega arith) k);
-        count-zero = zero-token;
-        rest = λ t a r. alone t a NoEvent nothing (rule-rest t r) (λ e node m. refl);
-      }
+  pub row : (us : List Given) (g : Gives) → InTable us g → Token h us g
+  unfolding ruleOf ruleIn singleOf isString numberOf eventOf
+  row us g (integer-t t a r) = alone t a Integer (event (value (integer (pos t)))) (rule-small t r) (λ e node m. refl)
+  row us g (string-80 t a vs r f) = row-token t 0x80 a vs (rule-80 t r) (omega (arith, r .1)) f
+  row us g (string-c0 t a vs r f) = row-token t 0xc0 a vs (rule-c0 t r) (omega (arith, r .1)) f
+  row us g (string-d0 a) = alone 0xd0 a String (event (value (string []))) refl (λ e node m. refl)
+  row us g (string-d1 n a b vs l f) = length-token n a b vs l f
+  row us g (integer-16 a vs f) =
+      let low : big (values vs) % 0x10000 ≡ big (values vs) = omega (arith, big-small 2 vs f) in
+      number-token 0xd3 a Int16 1 vs (event (value (integer (signed 15 (big (values vs)))))) refl refl (omega arith) f (λ e node m. rw low)
+  row us g (integer-32 a vs f) = number-token 0xd4 a Int32 3 vs (event (value (integer (signed 31 (big (values vs)))))) refl refl (omega arith) f (λ e node m. refl)
+  row us g (float-bits t a vs r f) = number-token t a Float 3 vs (event (value (float (big (values vs))))) (rule-float t r) refl (omega arith) f (λ e node m. refl)
+  row us g (new-node a vs f) = number-token 0xd7 a Node 3 vs (newNode (signed 31 (big (values vs)))) refl refl (omega arith) f (λ e n m. refl)
+  row us g (skips-two a vs f) = number-token 0xd2 a NoEvent 1 vs nothing refl refl (omega arith) f (λ e node m. refl)
+  row us g (skips-one a vs f) = number-token 0xd9 a NoEvent 0 vs nothing refl refl (omega arith) f (λ e node m. refl)
+  row us g (end-unit a) = alone 0xde a End (event end) refl (λ e node m. refl)
+  row us g (bodies a c vs f some most k) = rw (le-leb (big (values c)) 4096 most) at (body-token a c vs f some k)
+  row us g (count-over a c vs f over k) = rw (lt-leb (big (values c)) 4096 over) at (body-token a c vs f (omega arith) k)
+  row us g (count-zero a c vs f z k) = zero-token a c vs f z k
+  row us g (no-event t a r) = alone t a NoEvent nothing (rule-rest t r) (λ e node m. refl)
 
 -- a feed takes exactly the units of its bytes
 pub takes-units : {M : Type 0} (f : ℤ → Answer → List ℕ → M → M) → TakesUnits f
