@@ -20,3 +20,5 @@ pub mod Beside
 pub mod Few
 pub mod ByUnits
 pub mod Repeats
+pub mod WholeTokens
+pub mod Cuts

@@ -16,3 +16,4 @@ pub mod RoundTrip
 pub mod Answers
 pub mod SetOrders
 pub mod Repeated
+pub mod Tokens

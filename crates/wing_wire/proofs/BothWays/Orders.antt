@@ -1,8 +1,8 @@
 -- Demand 2, on the writers' own answers: what a set order wrote is read as that value at that node.
-use Prim.Native.Nat.{ℕ, _≤_}
-use mathlib.Core.Bool.{Bool, true, false}
+use Prim.Native.Nat.{ℕ}
+use mathlib.Core.Bool.{true}
 use mathlib.Core.Path.{_≡_, refl, sym, _∙_, ap, subst}
-use mathlib.Core.List.{List, _++_}
+use mathlib.Core.List.{List}
 use lib.Dec.{ltb, leb}
 use lib.IntN.{ℤ}
 use lib.ListN.{length, take, drop}
@@ -14,13 +14,12 @@ use Rattle.wing_node.specs.Value.{NodeValue, string}
 use Rattle.wing_wire.specs.State.{soundState}
 use Rattle.wing_wire.specs.Write.{Wrote, wrote, writeOf}
 use Rattle.wing_wire.specs.Command.{setBytes, setString}
-use Rattle.wing_wire.specs.Reader.{nextOf, eventIn}
+use Rattle.wing_wire.specs.Reader.{nextOf}
 use Rattle.wing_wire.specs.Answers.{heardAt, answerResult, replyResult}
 use Rattle.wing_wire.specs.RoundTrip.{Settable, calmState}
 use Rattle.wing_wire.specs.SetOrders.{AtRest, ReadBack, ReadsAsSet}
 use Rattle.wing_wire.specs.declared.state.State.{State}
 use Rattle.wing_wire.specs.declared.write.Written.{Written}
-use Rattle.wing_wire.specs.declared.write.Written.the-variants.{Bytes, Refused}
 use Rattle.wing_wire.proofs.Reading.Branches.{branch}
 use Rattle.wing_wire.proofs.BothWays.RoundTrip.{round-trip}
 

@@ -1,14 +1,14 @@
 -- Next calls repeated are the feed, by nextOf itself; and the core gives what a next call gives.
 use Prim.Native.Nat.{ℕ}
-use mathlib.Core.Bool.{Bool, true, false}
+use mathlib.Core.Bool.{true, false}
 use mathlib.Core.Path.{_≡_, refl, sym, _∙_, ap}
 use mathlib.Core.List.{List}
 use lib.IntN.{ℤ}
-use lib.ListN.{length, drop}
+use lib.ListN.{length}
 use borrow.Author.Tests.{le-leb}
-use Rattle.wing_wire.specs.Stream.{isMore, advanceOf, Fed, feedOf}
+use Rattle.wing_wire.specs.Stream.{isMore, advanceOf}
 use Rattle.wing_wire.specs.Reader.{Event, eventOf, nextFrom, nextOf}
-use Rattle.wing_wire.specs.Repeated.{Accepted, fedState, feedEvents, NextOfFeed, Repeated, CoreGives, CoreIsNext}
+use Rattle.wing_wire.specs.Repeated.{Accepted, Repeated, CoreIsNext}
 use Rattle.wing_wire.specs.declared.state.State.{State}
 use Rattle.wing_wire.specs.declared.unit.Answer.{Answer}
 use Rattle.wing_wire.specs.declared.unit.Answer.the-variants.{More, Integer, Float, String, Body, End, Refused}
