@@ -12,7 +12,8 @@ use Rattle.wing_node.specs.Bool.{if}
 use Rattle.wing_node.specs.Field.{big}
 use Rattle.wing_node.specs.Result.{Result, ok, refused}
 use Rattle.wing_node.specs.Utf8.{utf8}
-use Rattle.wing_node.specs.Value.{string}
+use Rattle.wing_node.specs.Signed.{InBits}
+use Rattle.wing_node.specs.Value.{NodeValue, string}
 use Rattle.wing_wire.specs.Write.{Wrote, wrote, writeOf}
 use Rattle.wing_wire.specs.Command.{setBytes, setString}
 use Rattle.wing_wire.specs.Meter.{Asked, asked, askOf, meterRequest, requestMeter, Heard, heard, readings, packetOf}
@@ -21,9 +22,11 @@ use Rattle.wing_wire.specs.declared.write.Written.the-variants.{Bytes, Refused}
 use Rattle.wing_wire.specs.declared.meter.Meter.{Meter}
 use Rattle.wing_wire.specs.declared.meter.Requested.the-variants.{Bytes as Asks, Refused as Unrequested}
 use Rattle.wing_wire.specs.declared.meter.MetersRead.the-variants.{Readings, Refused as Unheard}
+use Rattle.wing_wire.specs.RoundTrip.{Settable}
 use Rattle.wing_wire.proofs.Reading.Branches.{branch}
+use Rattle.wing_wire.proofs.BothWays.Orders.{reads-as-set, reads-as-string}
 use Rattle.promises.specs.Lines.{Line, _gives_, Answers}
-use Rattle.promises.specs.Wire.{Writes, CommandCall, stringLines, MeterCall, PacketCall}
+use Rattle.promises.specs.Wire.{Writes, CommandCall, commandLines, stringLines, SetOrder, MeterCall, PacketCall}
 use Rattle.promises.proofs.Lines.{taken, line, unless}
 
 -- the bytes at the front, and those after them
@@ -71,6 +74,15 @@ string-writes id s out = record {
   where
     bytes : List ℕ
     bytes = setBytes id (string s)
+
+-- ---- set orders: what was written is read back
+
+pub order-call : (id : ℤ) (v : NodeValue) (out : List ℕ) → InBits 31 id → Settable v →
+    SetOrder (commandLines (setBytes id v) out) id v out (writeOf (setBytes id v) out .answer) (writeOf (setBytes id v) out .out)
+order-call id v out i h = record { writes = command-writes (setBytes id v) out; reads = reads-as-set id v i h out _ _ refl }
+
+pub string-call : (id : ℤ) (s out : List ℕ) → InBits 31 id → SetOrder (stringLines id s out) id (string s) out (setString id s out .answer) (setString id s out .out)
+string-call id s out i = record { writes = string-writes id s out; reads = reads-as-string id s out _ _ i refl }
 
 -- ---- meters
 

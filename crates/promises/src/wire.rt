@@ -1,0 +1,71 @@
+// The calls of the wire, each with what is promised of it as its contract. There is nothing here but the call.
+ghost use mathlib.Core.Path.{_≡_};
+ghost use Rattle.wing_node.specs.Value.{integer as integerOf, float as floatOf, string as stringOf};
+ghost use Rattle.wing_wire.specs.Command.{setBytes, idBytes, suffixBytes, requestBytes};
+ghost use Rattle.wing_wire.specs.Meter.{keepAlives};
+ghost use Rattle.promises.specs.Wire.{commandLines, stringLines, CommandCall, SetOrder, MeterCall, PacketCall};
+use wing_wire::meter::Meter;
+use wing_wire::meter::MetersRead;
+use wing_wire::meter::Requested;
+use wing_wire::set::Suffix;
+use wing_wire::write::Written;
+
+pub fn set_int(out: &mut [u8], id: i32, value: i32) -> Written
+    ensures { λ r. ⌜ SetOrder (commandLines (setBytes id (integerOf value)) (now (out .entry))) id (integerOf value) (now (out .entry)) r (now (out .exit)) ⌝ }
+{
+    wing_wire::set::set_int(out, id, value)
+}
+
+pub fn set_float(out: &mut [u8], id: i32, bits: u32) -> Written
+    ensures { λ r. ⌜ SetOrder (commandLines (setBytes id (floatOf bits)) (now (out .entry))) id (floatOf bits) (now (out .entry)) r (now (out .exit)) ⌝ }
+{
+    wing_wire::set::set_float(out, id, bits)
+}
+
+pub fn set_string(out: &mut [u8], id: i32, value: &[u8]) -> Written
+    ensures { λ r. ⌜ SetOrder (stringLines id (now (value .entry)) (now (out .entry))) id (stringOf (now (value .entry))) (now (out .entry)) r (now (out .exit)) ⌝ }
+{
+    wing_wire::set::set_string(out, id, value)
+}
+
+pub fn format_id(out: &mut [u8], id: i32, prefix: u8, suffix: Suffix) -> Written
+    ensures { λ r. ⌜ CommandCall (idBytes prefix id (suffixBytes suffix)) (now (out .entry)) r (now (out .exit)) ⌝ }
+{
+    wing_wire::set::format_id(out, id, prefix, suffix)
+}
+
+pub fn request_node_definition(out: &mut [u8], id: i32) -> Written
+    ensures { λ r. ⌜ CommandCall (requestBytes 0xdd id) (now (out .entry)) r (now (out .exit)) ⌝ }
+{
+    wing_wire::request::request_node_definition(out, id)
+}
+
+pub fn request_node_data(out: &mut [u8], id: i32) -> Written
+    ensures { λ r. ⌜ CommandCall (requestBytes 0xdc id) (now (out .entry)) r (now (out .exit)) ⌝ }
+{
+    wing_wire::request::request_node_data(out, id)
+}
+
+pub fn request_meter(
+    out: &mut [u8],
+    meters: [Meter; 64],
+    count: usize,
+    port: u16,
+    last_id: u16,
+) -> Requested
+    ensures { λ r. ⌜ MeterCall port «last_id» meters count (now (out .entry)) r (now (out .exit)) ⌝ }
+{
+    wing_wire::meter::request_meter(out, meters, count, port, last_id)
+}
+
+pub fn keep_alive_meters(out: &mut [u8], last_id: u16, port: u16) -> Written
+    ensures { λ r. ⌜ CommandCall (keepAlives port «last_id») (now (out .entry)) r (now (out .exit)) ⌝ }
+{
+    wing_wire::meter::keep_alive_meters(out, last_id, port)
+}
+
+pub fn read_meters(packet: &[u8], out: &mut [i16]) -> MetersRead
+    ensures { λ r. ⌜ PacketCall (now (packet .entry)) (now (out .entry)) r (now (out .exit)) ⌝ }
+{
+    wing_wire::meter::read_meters(packet, out)
+}
