@@ -4,6 +4,8 @@ pub mod Fields
 pub mod Standing
 pub mod InBody
 pub mod Parsing
+pub mod Steps
+pub mod Walks
 pub mod Round
 pub mod Whole
 pub mod Flags

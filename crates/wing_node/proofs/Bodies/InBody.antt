@@ -74,7 +74,7 @@ pick-bytes : (body : List ℕ) (b : Bool) (r r' : FieldRead) (s s' : List ℕ) �
 pick-bytes body true r r' s s' e e' = e refl
 pick-bytes body false r r' s s' e e' = e'
 
-string-bytes : (f : Field) (body : List ℕ) (at : ℕ) (c : Cursor) → f ≡ string →
+pub string-bytes : (f : Field) (body : List ℕ) (at : ℕ) (c : Cursor) → f ≡ string →
     bytesAt body (spanOf (fieldRead (valueOf f (drop at body)) (begins f at) c)) ≡ content f (drop at body)
 unfolding valueOf begins content
 string-bytes f body at c e = rw (e, drop-drop)

@@ -56,23 +56,26 @@ same-details FloatEnum f v first h = rw (h Count refl)
 same-details String f v first h = rw (h MaxLen refl)
 
 module _ (body : List ℕ) where
-  abbrev fields : FieldName → FieldRead
+  abbrev pub fields : FieldName → FieldRead
   fields = named header body start
 
   abbrev end : ℕ
   end = after (allFields body) body start .refused
 
-  abbrev found : Definition
+  abbrev pub found : Definition
   found = definitionFrom fields (detailsAt (kindFrom fields) body (past header body start) .details)
 
   pub parsed : definitionOf body ≡ parsedFrom end found
   unfolding definitionOf
   parsed = ap (λ (c : Cursor). parsedFrom (c .refused) found) (sym (end-of body) ∙ same-end body)
 
+  pub parsed-good : Stand (allFields body) body → definitionOf body ≡ Good found
+  parsed-good h = parsed ∙ ap (λ n. parsedFrom n found) (stands (allFields body) body 0 .1 h)
+
   pub taken : Takes body ↔ Stand (allFields body) body
   taken = (
     λ h. stands (allFields body) body 0 .0 (good-with end found (h .definition) (sym parsed ∙ h .says)),
-    λ h. record { definition = found; says = parsed ∙ ap (λ n. parsedFrom n found) (stands (allFields body) body 0 .1 h) },
+    λ h. record { definition = found; says = parsed-good h },
   )
 
   -- the header and what the type adds stand, if all fields do
@@ -109,7 +112,7 @@ module _ (body : List ℕ) where
       rw (details-said h, n ParentId, n Id, n Index, n Flags, named-bytes header Name body 0 refl s, named-bytes header LongName body 0 refl s)
 
   pub said : Stand (allFields body) body → parsedResult body (definitionOf body) ≡ ok (definitionIn body)
-  said h = ap (parsedResult body) (parsed ∙ ap (λ n. parsedFrom n found) (stands (allFields body) body 0 .1 h)) ∙ ap ok (found-said h)
+  said h = ap (parsedResult body) (parsed-good h) ∙ ap ok (found-said h)
 
   pub parsing : Parsing body
   parsing =
