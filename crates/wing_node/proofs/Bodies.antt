@@ -7,6 +7,7 @@ pub mod Parsing
 pub mod Steps
 pub mod Walks
 pub mod Round
+pub mod Laid
 pub mod Whole
 pub mod Flags
 pub mod Anew

@@ -20,17 +20,17 @@ use Rattle.wing_node.proofs.Bodies.Fields.{after-refused}
 use Rattle.wing_node.proofs.Numerals.Numbers.{Digits, digits-take, digits-drop, digits-number}
 
 -- one field, laid before a rest
-laid-size : (f : Field) (v rest : List ℕ) → Fits f v → size f (laid f v ++ rest) ≡ length (laid f v)
+pub laid-size : (f : Field) (v rest : List ℕ) → Fits f v → size f (laid f v ++ rest) ≡ length (laid f v)
 unfolding laid size
 laid-size (number w) v rest h = sym h
 laid-size string v rest h = omega arith
 
-laid-right : (f : Field) (v rest : List ℕ) → Fits f v → right f (laid f v ++ rest) ≡ true
+pub laid-right : (f : Field) (v rest : List ℕ) → Fits f v → right f (laid f v ++ rest) ≡ true
 unfolding laid right content
 laid-right (number w) v rest h = refl
 laid-right string v rest h = ap utf8 (take-append-seam v rest) ∙ h
 
-laid-value : (f : Field) (v rest : List ℕ) → Fits f v → valueOf f (laid f v ++ rest) ≡ numberOf f v
+pub laid-value : (f : Field) (v rest : List ℕ) → Fits f v → valueOf f (laid f v ++ rest) ≡ numberOf f v
 unfolding laid valueOf numberOf
 laid-value (number w) v rest h = rw (← h, take-append-seam)
 laid-value string v rest h = refl

@@ -50,7 +50,7 @@ walk-by FloatEnum v first = refl
 walk-by String v first = refl
 
 -- 01: types without items have count 0
-no-count : (t : NodeType) (s : List ℕ) → hasItems t ≡ false → numberNamed (added t) Count s ≡ 0
+pub no-count : (t : NodeType) (s : List ℕ) → hasItems t ≡ false → numberNamed (added t) Count s ≡ 0
 unfolding numberNamed
 no-count Node s h = refl
 no-count LinearFloat s h = refl
