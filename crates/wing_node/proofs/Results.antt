@@ -1,5 +1,5 @@
 -- What the answer enums come to in 01's words: the walker's opening and the string getter.
-use Prim.Native.Nat.{ℕ, _-_}
+use Prim.Native.Nat.{_-_}
 use mathlib.Core.Path.{_≡_, refl, ap}
 use lib.ListN.{length, replicate}
 use lib.Seq.{take-append-seam}

@@ -1,6 +1,6 @@
 -- For each answer enum, 01's number and values. A string is its bytes in the body, not its place.
 use Prim.Native.Nat.{ℕ, _/_, _%_}
-use mathlib.Core.Bool.{Bool, true, false}
+use mathlib.Core.Bool.{Bool}
 use mathlib.Core.Path.{_≡_}
 use mathlib.Core.List.{List}
 use lib.Dec.{eqb}
@@ -31,7 +31,6 @@ use Rattle.wing_node.specs.declared.items.Begun.{Begun}
 use Rattle.wing_node.specs.declared.items.Begun.the-variants.{Good as Begun·Good, Refused as Begun·Refused}
 use Rattle.wing_node.specs.declared.walker.Opening.{Opening}
 use Rattle.wing_node.specs.declared.walker.Opening.the-variants.{Good as Opening·Good, Refused as Opening·Refused}
-use Rattle.wing_node.specs.declared.walker.Start.{Start}
 
 -- the bytes of a span
 abbrev pub bytesAt : List ℕ → Span → List ℕ

@@ -1,6 +1,5 @@
 -- A definition written field by field, and that it is read back with its items: for all eight types at once.
 use Prim.Native.Nat.{ℕ, _/_, _%_, _<_}
-use mathlib.Core.Bool.{Bool, true, false}
 use mathlib.Core.Path.{_≡_}
 use mathlib.Core.List.{List, [], _∷_, _++_, map}
 use lib.ListN.{length, getD}
@@ -8,10 +7,10 @@ use Rattle.wing_node.specs.Bool.{if}
 use Rattle.wing_node.specs.Result.{ok}
 use Rattle.wing_node.specs.Field.{big}
 use Rattle.wing_node.specs.Types.{typeOf, hasItems}
-use Rattle.wing_node.specs.Definition.{FieldName, Flags, Count, form, header, added, itemsOf, definitionOf}
+use Rattle.wing_node.specs.Definition.{FieldName, Flags, Count, form, header, added, itemsOf}
 use Rattle.wing_node.specs.Laid.{laidAll, FitsAll, numberOf}
-use Rattle.wing_node.specs.Items.{itemNumbered}
-use Rattle.wing_node.specs.Answers.{ItemValues, none, strings, float, valuesBy, parsedResult, itemResult}
+use Rattle.wing_node.specs.Answers.{ItemValues, none, strings, float, valuesBy}
+use Rattle.wing_node.specs.Parsing.{parserSays, numberSays}
 use Rattle.wing_node.specs.declared.node_type.NodeType.{NodeType}
 use Rattle.wing_node.specs.declared.node_type.NodeType.the-variants.{Node, LinearFloat, LogarithmicFloat, FaderLevel, Integer, StringEnum, FloatEnum, String}
 
@@ -72,7 +71,7 @@ pub record Fit (held : FieldName → List ℕ) (pairs : List Pair) : Type 0 wher
 pub record ReadsBack : Type 0 where
   -- the parser takes it and says what each field holds
   pub definition : (held : FieldName → List ℕ) (pairs : List Pair) (rest : List ℕ) → Fit held pairs →
-      parsedResult (bodyOf held pairs rest) (definitionOf (bodyOf held pairs rest)) ≡ ok (valuesBy (numbersOf held) held (length (frontOf held)))
+      parserSays (bodyOf held pairs rest) ≡ ok (valuesBy (numbersOf held) held (length (frontOf held)))
   -- and the item of each number says what the pair of that number holds
   pub items : (held : FieldName → List ℕ) (pairs : List Pair) (rest : List ℕ) → Fit held pairs → (n : ℕ) → n < countOf held →
-      itemResult (bodyOf held pairs rest) (itemNumbered (bodyOf held pairs rest) n) ≡ ok (itemHeld (kindOf held) (getD pairs n ([], [])))
+      numberSays (bodyOf held pairs rest) n ≡ ok (itemHeld (kindOf held) (getD pairs n ([], [])))

@@ -2,33 +2,48 @@
 use mathlib.Core.Path.{_≡_, refl, _∙_, ap, sym, subst}
 use mathlib.Core.Bool.{Bool, true, false}
 use mathlib.Core.List.{List, [], _∷_, _++_, map, append-assoc}
-use Prim.Native.Nat.{ℕ, zero, suc, _+_, _-_, _/_, _%_, _≤_, _<_}
+use Prim.Native.Nat.{ℕ, zero, suc, _+_, _/_, _%_, _<_}
 use native.Mathlib.Omega.{arith}
 use lib.Dec.{eqb}
-use lib.ListN.{length, take, drop, getD, length-append}
+use lib.ListN.{length, drop, getD, length-append}
 use lib.Seq.{drop-append-seam, take-append-seam}
 use borrow.Author.Tests.{eqb-true}
 use Rattle.wing_node.specs.Bool.{if}
 use Rattle.wing_node.specs.Result.{ok}
-use Rattle.wing_node.specs.Field.{big}
+use Rattle.wing_node.specs.Utf8.{utf8}
 use Rattle.wing_node.specs.Types.{typeOf, hasItems}
 use Rattle.wing_node.specs.Cursor.{Field, number, string, size, content, right, valueOf}
-use Rattle.wing_node.specs.Definition.{FieldName, ParentId, Id, Index, Name, LongName, Flags, Min, Max, Steps, Count, MaxLen, order, form, header, added, times, itemsOf, definitionOf}
+use Rattle.wing_node.specs.Definition.{FieldName, ParentId, Id, Index, Name, LongName, Flags, Min, Max, Steps, Count, MaxLen, order, form, header, added, times, itemsOf}
 use Rattle.wing_node.specs.Laid.{laid, laidAll, Fits, FitsAll, none, more, numberOf}
-use Rattle.wing_node.specs.Items.{itemNumbered}
 use Rattle.wing_node.specs.Standing.{Whole, extent, beyond, Stand, none as noneStand, more as moreStand}
-use Rattle.wing_node.specs.Answers.{ItemValues, DefinitionValues, valuesBy, detailsBy, parsedResult, itemResult}
-use Rattle.wing_node.specs.InBody.{numberNamed, bytesNamed, typeIn, namesIn, countIn, allFields, firstIn, definitionIn, itemIn, itemInBody}
-use Rattle.wing_node.specs.Written.{Pair, inRow, itemHeld, numbersOf, kindOf, namesOf, frontOf, countOf, listOf, bodyOf, Fit, ReadsBack}
+use Rattle.wing_node.specs.Answers.{valuesBy, detailsBy}
+use Rattle.wing_node.specs.InBody.{numberNamed, bytesNamed, typeIn, countIn, allFields, firstIn, itemIn}
+use Rattle.wing_node.specs.Parsing.{parserSays, numberSays}
+use Rattle.wing_node.specs.Written.{Pair, inRow, itemHeld, numbersOf, kindOf, namesOf, frontOf, countOf, listOf, bodyOf, Fit}
 use Rattle.wing_node.specs.declared.node_type.NodeType.{NodeType}
 use Rattle.wing_node.specs.declared.node_type.NodeType.the-variants.{Node, LinearFloat, LogarithmicFloat, FaderLevel, Integer, StringEnum, FloatEnum, String}
 use Rattle.wing_node.proofs.Bodies.Standing.{stand-join, beyond-parts}
 use Rattle.wing_node.proofs.Bodies.InBody.{has, one-name, number-later}
 use Rattle.wing_node.proofs.Bodies.Parsing.{taken, said}
 use Rattle.wing_node.proofs.Bodies.Walks.{by-number, no-count}
-use Rattle.wing_node.proofs.Bodies.Round.{laid-size, laid-right, laid-value}
 
--- a field that is laid: the bytes after it, and those that it holds
+-- one field, laid before a rest
+laid-size : (f : Field) (v rest : List ℕ) → Fits f v → size f (laid f v ++ rest) ≡ length (laid f v)
+unfolding laid size
+laid-size (number w) v rest h = sym h
+laid-size string v rest h = omega arith
+
+laid-right : (f : Field) (v rest : List ℕ) → Fits f v → right f (laid f v ++ rest) ≡ true
+unfolding laid right content
+laid-right (number w) v rest h = refl
+laid-right string v rest h = ap utf8 (take-append-seam v rest) ∙ h
+
+laid-value : (f : Field) (v rest : List ℕ) → Fits f v → valueOf f (laid f v ++ rest) ≡ numberOf f v
+unfolding laid valueOf numberOf
+laid-value (number w) v rest h = rw (← h, take-append-seam)
+laid-value string v rest h = refl
+
+-- the bytes after it, and those that it holds
 laid-drop : (f : Field) (v rest : List ℕ) → Fits f v → drop (size f (laid f v ++ rest)) (laid f v ++ rest) ≡ rest
 laid-drop f v rest h = rw (laid-size f v rest h) (drop-append-seam (laid f v) rest)
 
@@ -138,7 +153,7 @@ module _ (held : FieldName → List ℕ) (pairs : List Pair) (rest : List ℕ) (
   values-alike v bytes first h g =
       rw (h ParentId refl, h Id refl, h Index refl, h Flags refl, g Name refl, g LongName refl, details-alike (kindOf held) v (numbersOf held) first h)
 
-  pub definition-back : parsedResult body (definitionOf body) ≡ ok (valuesBy (numbersOf held) held (length (frontOf held)))
+  pub definition-back : parserSays body ≡ ok (valuesBy (numbersOf held) held (length (frontOf held)))
   definition-back =
       said body all-stand ∙ ap ok
       (ap (λ t. valuesBy (λ k. numberNamed (header ++ added t) k body) (λ k. bytesNamed (header ++ added t) k body) (firstIn body)) same-kind ∙
@@ -199,7 +214,7 @@ item-laid FloatEnum count n pairs rest l h =
 item-laid String count n pairs rest l h = refl
 
 module _ (held : FieldName → List ℕ) (pairs : List Pair) (rest : List ℕ) (fit : Fit held pairs) where
-  pub items-back : (n : ℕ) → n < countOf held → itemResult (bodyOf held pairs rest) (itemNumbered (bodyOf held pairs rest) n) ≡ ok (itemHeld (kindOf held) (getD pairs n ([], [])))
+  pub items-back : (n : ℕ) → n < countOf held → numberSays (bodyOf held pairs rest) n ≡ ok (itemHeld (kindOf held) (getD pairs n ([], [])))
   items-back n l =
       let body = bodyOf held pairs rest in
       let c : n < countIn body = rw (same-count held pairs rest fit) l in

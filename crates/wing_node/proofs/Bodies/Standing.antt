@@ -1,20 +1,19 @@
 -- Fields that stand at the front of bytes, and what a cursor that reads them comes to.
-use mathlib.Core.Path.{_≡_, refl, _∙_, ap, sym}
+use mathlib.Core.Path.{_≡_, refl, ap, sym}
 use mathlib.Core.Bool.{Bool, true, false}
 use mathlib.Core.Logic.{_↔_, _⊎_, inl, inr}
 use mathlib.Core.List.{List, [], _∷_, _++_}
 use Prim.Native.Nat.{ℕ, zero, suc, _+_, _-_, _≤_, _<_}
 use native.Mathlib.Omega.{arith}
-use lib.Dec.{ltb, eqb}
-use lib.ListN.{length, take, drop, length-drop}
+use lib.Dec.{ltb}
+use lib.ListN.{length, drop, length-drop}
 use lib.Seq.{drop-drop}
-use borrow.Author.Tests.{eq-eqb, ne-eqb, lt-ltb, le-ltb, ltb-true, ltb-false}
+use borrow.Author.Tests.{eq-eqb, ne-eqb, le-ltb, ltb-true, ltb-false}
 use Rattle.wing_node.specs.Bool.{if}
-use Rattle.wing_node.specs.Cursor.{Field, number, string, size, right, fault, valueOf, begins, cursor, from, stopped, fieldRead, nothing, readAt, reads, after}
+use Rattle.wing_node.specs.Cursor.{Field, number, size, right, fault, valueOf, begins, cursor, from, fieldRead, readAt, reads, after}
 use Rattle.wing_node.specs.Definition.{times}
 use Rattle.wing_node.specs.Standing.{Whole, PastEnd, NotUtf8, extent, beyond, Stand, none, more, StopsAt}
 use Rattle.wing_node.specs.declared.cursor.Cursor.{Cursor}
-use Rattle.wing_node.specs.declared.cursor.FieldRead.{FieldRead}
 use Rattle.wing_node.proofs.Bodies.Cases.{read-there}
 use Rattle.wing_node.proofs.Bodies.Fields.{after-append, after-refused}
 

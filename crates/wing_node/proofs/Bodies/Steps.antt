@@ -1,7 +1,7 @@
 -- A step of a walk, from any place, by the fields of the item that stand there.
-use mathlib.Core.Path.{_≡_, refl, _∙_, ap, sym, subst}
+use mathlib.Core.Path.{_≡_, refl, _∙_, ap}
 use mathlib.Core.Bool.{Bool, true, false}
-use mathlib.Core.Logic.{_↔_, _⊎_, inl, inr}
+use mathlib.Core.Logic.{_⊎_, inl, inr}
 use mathlib.Core.List.{List, [], _∷_}
 use Prim.Native.Nat.{ℕ, zero, suc, _+_, _-_}
 use native.Mathlib.Omega.{arith}
@@ -10,20 +10,19 @@ use lib.ListN.{drop}
 use lib.Seq.{drop-drop}
 use borrow.Author.Tests.{eq-eqb, ne-eqb}
 use Rattle.wing_node.specs.Bool.{if}
-use Rattle.wing_node.specs.Result.{Result, ok}
+use Rattle.wing_node.specs.Result.{Result, ok, refused}
 use Rattle.wing_node.specs.Types.{hasItems}
-use Rattle.wing_node.specs.Cursor.{Field, number, string, size, content, right, valueOf, cursor, readAt, reads, after}
+use Rattle.wing_node.specs.Cursor.{Field, number, string, size, content, right, cursor, reads, after}
 use Rattle.wing_node.specs.Definition.{spanOf, nth, itemOf, itemFrom, itemAt}
 use Rattle.wing_node.specs.Items.{walk, stayed, stepAt}
 use Rattle.wing_node.specs.Standing.{Whole, PastEnd, NotUtf8, extent, beyond, Stand, none, more, StopsAt}
-use Rattle.wing_node.specs.Answers.{bytesAt, ItemValues, itemResult}
+use Rattle.wing_node.specs.Answers.{bytesAt, ItemValues, none as noItem, strings, float, itemResult}
 use Rattle.wing_node.specs.InBody.{itemIn}
-use Rattle.wing_node.specs.Parsing.{stepOf, Left, IsItem, Stepping}
-use Rattle.wing_node.specs.declared.cursor.Cursor.{Cursor}
+use Rattle.wing_node.specs.Parsing.{stepOf, stepSays, Left, IsItem, Stepping}
 use Rattle.wing_node.specs.declared.node_type.NodeType.{NodeType}
 use Rattle.wing_node.specs.declared.node_type.NodeType.the-variants.{Node, LinearFloat, LogarithmicFloat, FaderLevel, Integer, StringEnum, FloatEnum, String}
 use Rattle.wing_node.specs.declared.definition.Item.{Item}
-use Rattle.wing_node.specs.declared.definition.Item.the-variants.{None, Strings, Float, Refused}
+use Rattle.wing_node.specs.declared.definition.Item.the-variants.{None, Refused}
 use Rattle.wing_node.specs.declared.items.Walk.{Walk}
 use Rattle.wing_node.specs.declared.items.Step.{Step}
 use Rattle.wing_node.proofs.Bodies.Standing.{one-read, onward, passes, stands, ends-past, ends-wrong, ends-so}
@@ -60,7 +59,7 @@ item-said FloatEnum body at (more w r h) =
 item-said String body at h = refl
 
 -- a type with items gives one
-is-item : (t : NodeType) (body : List ℕ) (at : ℕ) → hasItems t ≡ true → IsItem (itemFrom t (reads (itemOf t) body (cursor at 0)))
+is-item : (t : NodeType) (body : List ℕ) (at : ℕ) → hasItems t ≡ true → IsItem (itemResult body (itemFrom t (reads (itemOf t) body (cursor at 0))))
 is-item Node body at h = absurd (let z : _≡_ {A = ℕ} 0 1 = cc in omega arith)
 is-item LinearFloat body at h = absurd (let z : _≡_ {A = ℕ} 0 1 = cc in omega arith)
 is-item LogarithmicFloat body at h = absurd (let z : _≡_ {A = ℕ} 0 1 = cc in omega arith)
@@ -71,17 +70,17 @@ is-item FloatEnum body at h = tt
 is-item String body at h = absurd (let z : _≡_ {A = ℕ} 0 1 = cc in omega arith)
 
 -- answers apart: none, an item, a refusal
-abbrev pub mark : Item → ℕ
-mark None = 0
-mark (Strings a b) = 1
-mark (Float bits b) = 1
-mark (Refused n) = 2 + n
+abbrev pub mark : Result ItemValues → ℕ
+mark (ok noItem) = 0
+mark (ok (strings a b)) = 1
+mark (ok (float bits b)) = 1
+mark (refused n) = 2 + n
 
-pub item-mark : (x : Item) → IsItem x → mark x ≡ 1
-item-mark None h = absurd h
-item-mark (Strings a b) h = refl
-item-mark (Float bits b) h = refl
-item-mark (Refused n) h = absurd h
+pub item-mark : (x : Result ItemValues) → IsItem x → mark x ≡ 1
+item-mark (ok noItem) h = absurd h
+item-mark (ok (strings a b)) h = refl
+item-mark (ok (float bits b)) h = refl
+item-mark (refused n) h = absurd h
 
 module _ (body : List ℕ) (w : Walk) where
   abbrev there : List ℕ
@@ -122,11 +121,11 @@ module _ (body : List ℕ) (w : Walk) where
   -- what a step comes to
   data Outcome : Type 0 where
     nothing : Ended → stepOf body w ≡ stayed None (w .at) (w .left) (w .kind) → Outcome
-    item : Left w → Stand (itemOf (w .kind)) there → IsItem (stepOf body w .item) → stepOf body w ≡ stayed read (w .at + extent (itemOf (w .kind)) there) (w .left - 1) (w .kind) → Outcome
+    item : Left w → Stand (itemOf (w .kind)) there → IsItem (stepSays body w) → stepOf body w ≡ stayed read (w .at + extent (itemOf (w .kind)) there) (w .left - 1) (w .kind) → Outcome
     past : Left w → StopsAt PastEnd (itemOf (w .kind)) there → stepOf body w ≡ stayed (Refused 4) (w .at) (w .left) (w .kind) → Outcome
     wrong : Left w → StopsAt NotUtf8 (itemOf (w .kind)) there → stepOf body w ≡ stayed (Refused 5) (w .at) (w .left) (w .kind) → Outcome
 
-  gives : Left w → Stand (itemOf (w .kind)) there → IsItem (stepOf body w .item)
+  gives : Left w → Stand (itemOf (w .kind)) there → IsItem (stepSays body w)
   gives l h = rw (moves l h) (is-item (w .kind) body (w .at) (l .1))
 
   outcome : Outcome
@@ -139,14 +138,14 @@ module _ (body : List ℕ) (w : Walk) where
       go (inr l) (inr (inr c)) = wrong l (ends-wrong (itemOf (w .kind)) body (w .at) .0 c) (stopped 4 l c)
 
   abbrev marked : ℕ
-  marked = mark (stepOf body w .item)
+  marked = mark (stepSays body w)
 
-  mark-by : (x : Item) (at left : ℕ) (kind : NodeType) → stepOf body w ≡ stayed x at left kind → marked ≡ mark x
-  mark-by x at left kind e = ap (λ (s : Step). mark (s .item)) e
+  mark-by : (x : Item) (at left : ℕ) (kind : NodeType) → stepOf body w ≡ stayed x at left kind → marked ≡ mark (itemResult body x)
+  mark-by x at left kind e = ap (λ (s : Step). mark (itemResult body (s .item))) e
 
   only-none : marked ≡ 0 → Outcome → Ended
   only-none e (nothing h q) = h
-  only-none e (item l h i q) = absurd (omega (arith, item-mark (stepOf body w .item) i))
+  only-none e (item l h i q) = absurd (omega (arith, item-mark (stepSays body w) i))
   only-none e (past l h q) = absurd (omega (arith, mark-by _ _ _ _ q))
   only-none e (wrong l h q) = absurd (omega (arith, mark-by _ _ _ _ q))
 
@@ -158,23 +157,23 @@ module _ (body : List ℕ) (w : Walk) where
 
   only-past : marked ≡ 6 → Outcome → Left w × StopsAt PastEnd (itemOf (w .kind)) there
   only-past e (nothing h q) = absurd (omega (arith, mark-by _ _ _ _ q))
-  only-past e (item l h i q) = absurd (omega (arith, item-mark (stepOf body w .item) i))
+  only-past e (item l h i q) = absurd (omega (arith, item-mark (stepSays body w) i))
   only-past e (past l h q) = (l, h)
   only-past e (wrong l h q) = absurd (omega (arith, mark-by _ _ _ _ q))
 
   only-wrong : marked ≡ 7 → Outcome → Left w × StopsAt NotUtf8 (itemOf (w .kind)) there
   only-wrong e (nothing h q) = absurd (omega (arith, mark-by _ _ _ _ q))
-  only-wrong e (item l h i q) = absurd (omega (arith, item-mark (stepOf body w .item) i))
+  only-wrong e (item l h i q) = absurd (omega (arith, item-mark (stepSays body w) i))
   only-wrong e (past l h q) = absurd (omega (arith, mark-by _ _ _ _ q))
   only-wrong e (wrong l h q) = (l, h)
 
   four-or-five : (n : ℕ) → marked ≡ 2 + n → Outcome → (n ≡ 4) ⊎ (n ≡ 5)
   four-or-five n e (nothing h q) = absurd (omega (arith, mark-by _ _ _ _ q))
-  four-or-five n e (item l h i q) = absurd (omega (arith, item-mark (stepOf body w .item) i))
+  four-or-five n e (item l h i q) = absurd (omega (arith, item-mark (stepSays body w) i))
   four-or-five n e (past l h q) = inl (omega (arith, mark-by _ _ _ _ q))
   four-or-five n e (wrong l h q) = inr (omega (arith, mark-by _ _ _ _ q))
 
-  stays : (IsItem (stepOf body w .item) → ⊥) → Outcome → stepOf body w .next ≡ w
+  stays : (IsItem (stepSays body w) → ⊥) → Outcome → stepOf body w .next ≡ w
   stays not (nothing h q) = ap (λ (s : Step). s .next) q
   stays not (item l h i q) = absurd (not i)
   stays not (past l h q) = ap (λ (s : Step). s .next) q
@@ -183,14 +182,14 @@ module _ (body : List ℕ) (w : Walk) where
   pub stepping : Stepping body w
   stepping =
       let K = itemOf (w .kind) in
-      let item : Step → Item = λ s. s .item in
+      let item : Step → Result ItemValues = λ s. itemResult body (s .item) in
       record {
-        none = (λ e. only-none (ap mark e) outcome, λ h. ap item (ended h));
+        nothing = (λ e. only-none (ap mark e) outcome, λ h. ap item (ended h));
         pastEnd = (λ e. only-past (ap mark e) outcome, λ h. ap item (stopped 3 (h .0) (ends-past K body (w .at) .1 (h .1))));
         notUtf8 = (λ e. only-wrong (ap mark e) outcome, λ h. ap item (stopped 4 (h .0) (ends-wrong K body (w .at) .1 (h .1))));
         numbers = λ n e. four-or-five n (ap mark e) outcome;
-        given = (λ i. only-item (item-mark (stepOf body w .item) i) outcome, λ h. gives (h .0) (h .1));
-        said = λ i. let h = only-item (item-mark (stepOf body w .item) i) outcome in ap (λ s. itemResult body (item s)) (moves (h .0) (h .1)) ∙ item-said (w .kind) body (w .at) (h .1);
-        moved = λ i. let h = only-item (item-mark (stepOf body w .item) i) outcome in ap (λ (s : Step). s .next) (moves (h .0) (h .1));
+        given = (λ i. only-item (item-mark (stepSays body w) i) outcome, λ h. gives (h .0) (h .1));
+        said = λ i. let h = only-item (item-mark (stepSays body w) i) outcome in ap item (moves (h .0) (h .1)) ∙ item-said (w .kind) body (w .at) (h .1);
+        moved = λ i. let h = only-item (item-mark (stepSays body w) i) outcome in ap (λ (s : Step). s .next) (moves (h .0) (h .1));
         stays = λ not. stays not outcome;
       }

@@ -2,7 +2,7 @@
 use mathlib.Core.Path.{_≡_, refl, _∙_, ap, sym}
 use mathlib.Core.Bool.{Bool, true, false}
 use mathlib.Core.Logic.{_↔_, _⊎_, inl, inr}
-use mathlib.Core.List.{List, [], _∷_, _++_, map}
+use mathlib.Core.List.{List, _++_, map}
 use Prim.Native.Nat.{ℕ, zero, suc, _+_, _-_, _≤_, _<_}
 use native.Mathlib.Omega.{arith}
 use lib.Dec.{leb}
@@ -10,33 +10,31 @@ use lib.ListN.{drop}
 use lib.Seq.{drop-drop}
 use borrow.Author.Tests.{le-leb, lt-leb, leb-true, leb-false}
 use Rattle.wing_node.specs.Bool.{if}
-use Rattle.wing_node.specs.Result.{Result, ok}
+use Rattle.wing_node.specs.Result.{Result, ok, refused}
 use Rattle.wing_node.specs.Types.{hasItems}
-use Rattle.wing_node.specs.Cursor.{Field, cursor, start, after}
-use Rattle.wing_node.specs.Definition.{FieldName, Count, form, header, added, times, itemOf, itemsOf, named, past, kindFrom, detailsAt, definitionOf}
-use Rattle.wing_node.specs.Items.{walk, stayed, walkFrom, beginFrom, beginOf, stepAt, numberedFrom, numberedIn, itemNumbered}
+use Rattle.wing_node.specs.Cursor.{after}
+use Rattle.wing_node.specs.Definition.{FieldName, Count, form, header, added, times, itemOf, itemsOf, definitionOf}
+use Rattle.wing_node.specs.Items.{walk, walkFrom, beginFrom, beginOf, numberedFrom, numberedIn, itemNumbered}
 use Rattle.wing_node.specs.Standing.{extent, beyond, Stand}
-use Rattle.wing_node.specs.Answers.{detailsBy, itemResult}
+use Rattle.wing_node.specs.Answers.{DefinitionValues, none, detailsBy, parsedResult, begunResult, itemResult}
 use Rattle.wing_node.specs.InBody.{numberNamed, typeIn, namesIn, countIn, allFields, firstIn, walkIn, itemIn, itemInBody}
-use Rattle.wing_node.specs.Parsing.{Takes, Beginning, stepOf, Left, IsItem, Stepping, ByNumber, walked, Walking, Definitions}
+use Rattle.wing_node.specs.Parsing.{parserSays, Takes, Beginning, stepOf, stepSays, numberSays, Left, IsItem, ByNumber, walked, Walking, Definitions}
 use Rattle.wing_node.specs.declared.node_type.NodeType.{NodeType}
 use Rattle.wing_node.specs.declared.node_type.NodeType.the-variants.{Node, LinearFloat, LogarithmicFloat, FaderLevel, Integer, StringEnum, FloatEnum, String}
-use Rattle.wing_node.specs.declared.definition.Item.{Item}
-use Rattle.wing_node.specs.declared.definition.Item.the-variants.{None, Strings, Float, Refused}
+use Rattle.wing_node.specs.declared.definition.Item.the-variants.{Refused}
 use Rattle.wing_node.specs.declared.definition.Parsed.{Parsed}
 use Rattle.wing_node.specs.declared.definition.Parsed.the-variants.{Good as Parsed·Good, Refused as Parsed·Refused}
 use Rattle.wing_node.specs.declared.items.Walk.{Walk}
 use Rattle.wing_node.specs.declared.items.Step.{Step}
-use Rattle.wing_node.specs.declared.items.Begun.{Begun}
-use Rattle.wing_node.specs.declared.items.Begun.the-variants.{Good as Begun·Good, Refused as Begun·Refused}
+use Rattle.wing_node.specs.declared.items.Begun.the-variants.{Good as Begun·Good}
 use Rattle.wing_node.proofs.Bodies.Standing.{passes, stand-parts, extent-parts, times-stand}
 use Rattle.wing_node.proofs.Bodies.InBody.{has, number-later, same-type}
-use Rattle.wing_node.proofs.Bodies.Parsing.{taken, parsing, header-stands, details-said, found, parsed-good}
+use Rattle.wing_node.proofs.Bodies.Parsing.{taken, parsing, header-stands, details-said, parsed-good}
 use Rattle.wing_node.proofs.Bodies.Steps.{moves, stepping, mark, item-mark}
 
-begun-refused : (p : Parsed) (n : ℕ) → (beginFrom p ≡ Begun·Refused n) ↔ (p ≡ Parsed·Refused n)
-begun-refused (Parsed·Good d) n = (λ e. absurd (let z : _≡_ {A = ℕ} 0 1 = cc in omega arith), λ e. absurd (let z : _≡_ {A = ℕ} 0 1 = cc in omega arith))
-begun-refused (Parsed·Refused k) n = (λ e. cc, λ e. cc)
+begun-refused : (body : List ℕ) (p : Parsed) (n : ℕ) → (begunResult (beginFrom p) ≡ refused n) ↔ (parsedResult body p ≡ refused n)
+begun-refused body (Parsed·Good d) n = (λ e. absurd (let z : _≡_ {A = ℕ} 0 1 = cc in omega arith), λ e. absurd (let z : _≡_ {A = ℕ} 0 1 = cc in omega arith))
+begun-refused body (Parsed·Refused k) n = (λ e. cc, λ e. cc)
 
 -- a walk by what the type adds
 walk-by : (t : NodeType) (v : FieldName → ℕ) (first : ℕ) → walkFrom t (detailsBy t v first) ≡ if (hasItems t) (walk first (v Count) t) (walk 0 0 t)
@@ -65,15 +63,15 @@ module _ (body : List ℕ) where
   count-none : hasItems (typeIn body) ≡ false → countIn body ≡ 0
   count-none h = number-later header (added (typeIn body)) Count body refl ∙ no-count (typeIn body) (beyond (map form header) body) h
 
+  begun-at : Takes body → beginOf body ≡ Begun·Good (walkIn body)
+  unfolding beginOf
+  begun-at k =
+      let h = taken body .0 k in
+      rw (parsed-good body h, details-said body h, same-type body (header-stands body h)) (ap Begun·Good (walk-by (typeIn body) (λ n. numberNamed (namesIn body) n body) (firstIn body)))
+
   pub beginning : Beginning body
   unfolding beginOf
-  beginning =
-      record {
-        turned = λ n. begun-refused (definitionOf body) n;
-        begun = λ k.
-            let h = taken body .0 k in
-            rw (parsed-good body h, details-said body h, same-type body (header-stands body h)) (ap Begun·Good (walk-by (typeIn body) (λ n. numberNamed (namesIn body) n body) (firstIn body)));
-      }
+  beginning = record { turned = λ n. begun-refused body (definitionOf body) n; begun = λ k. ap begunResult (begun-at k) }
 
   -- a body without a count has nothing to walk
   with-items : (n : ℕ) → n < countIn body → hasItems (typeIn body) ≡ true
@@ -139,16 +137,16 @@ module _ (body : List ℕ) (h : Stand (allFields body) body) (n : ℕ) (l : n < 
   numbered-at : itemNumbered body n ≡ stepOf body there .item
   unfolding itemNumbered numberedFrom
   numbered-at =
-      rw (beginning body .begun (taken body .1 h), first-walk, lt-leb (countIn body) n l, passes (itemsOf (typeIn body) n) body (firstIn body) (parts .0))
+      rw (begun-at body (taken body .1 h), first-walk, lt-leb (countIn body) n l, passes (itemsOf (typeIn body) n) body (firstIn body) (parts .0))
 
-  walked-at : stepOf body (walked n body (walkIn body)) .item ≡ itemNumbered body n
+  walked-at : stepSays body (walked n body (walkIn body)) ≡ numberSays body n
   walked-at =
-      ap (λ w. stepOf body w .item) (ap (walked n body) first-walk ∙ walked-to (typeIn body) body n (countIn body) (firstIn body) (with-items body n l) (omega arith) items) ∙ sym numbered-at
+      ap (stepSays body) (ap (walked n body) first-walk ∙ walked-to (typeIn body) body n (countIn body) (firstIn body) (with-items body n l) (omega arith) items) ∙ sym (ap (itemResult body) numbered-at)
 
-  gives : IsItem (stepOf body there .item)
+  gives : IsItem (stepSays body there)
   gives = stepping body there .given .1 (left-there, rw same-place at (parts .1))
 
-  numbered-item : IsItem (itemNumbered body n)
+  numbered-item : IsItem (numberSays body n)
   numbered-item = rw numbered-at gives
 
   numbered-said : itemResult body (itemNumbered body n) ≡ ok (itemInBody body n)
@@ -157,28 +155,36 @@ module _ (body : List ℕ) (h : Stand (allFields body) body) (n : ℕ) (l : n < 
 module _ (body : List ℕ) where
   numbered-past : (n : ℕ) → Takes body → countIn body ≤ n → itemNumbered body n ≡ Refused 14
   unfolding itemNumbered numberedFrom
-  numbered-past n k l = rw (beginning body .begun k, le-leb (walkIn body .left) n (omega (arith, begins-with body)))
+  numbered-past n k l = rw (begun-at body k, le-leb (walkIn body .left) n (omega (arith, begins-with body)))
 
-  numbered-refused : (n k : ℕ) → definitionOf body ≡ Parsed·Refused k → itemNumbered body n ≡ Refused k
-  unfolding itemNumbered
-  numbered-refused n k e = ap (numberedIn body n) (beginning body .turned k .1 e)
+  refused-first : (n k : ℕ) (p : Parsed) → parsedResult body p ≡ refused k → itemResult body (numberedIn body n (beginFrom p)) ≡ refused k
+  refused-first n k (Parsed·Good d) e = absurd (let z : _≡_ {A = ℕ} 0 1 = cc in omega arith)
+  refused-first n k (Parsed·Refused j) e = cc
 
-  numbered-turned : (n k : ℕ) → itemNumbered body n ≡ Refused k → (definitionOf body ≡ Parsed·Refused k) ⊎ (Takes body × (countIn body ≤ n) × (k ≡ 14))
-  numbered-turned n k e = go (definitionOf body) refl
+  numbered-refused : (n k : ℕ) → parserSays body ≡ refused k → numberSays body n ≡ refused k
+  unfolding itemNumbered beginOf
+  numbered-refused n k e = refused-first n k (definitionOf body) e
+
+  -- why a number is refused
+  abbrev Why : ℕ → ℕ → Type 0
+  Why n k = (parserSays body ≡ refused k) ⊎ (Takes body × (countIn body ≤ n) × (k ≡ 14))
+
+  numbered-turned : (n k : ℕ) → numberSays body n ≡ refused k → Why n k
+  numbered-turned n k e = go (parserSays body) refl
     where
-      taken-so : Takes body → (b : Bool) → leb (countIn body) n ≡ b → (definitionOf body ≡ Parsed·Refused k) ⊎ (Takes body × (countIn body ≤ n) × (k ≡ 14))
-      taken-so g true q =
+      over : Takes body → (b : Bool) → leb (countIn body) n ≡ b → Why n k
+      over g true q =
           let l : countIn body ≤ n = leb-true _ _ q in
-          inr (g, l, omega (arith, ap mark (sym e ∙ numbered-past n g l)))
-      taken-so g false q = absurd (omega (arith, ap mark e, item-mark (itemNumbered body n) (numbered-item body (taken body .0 g) n (leb-false _ _ q))))
+          inr (g, l, omega (arith, ap mark (sym e ∙ ap (itemResult body) (numbered-past n g l))))
+      over g false q = absurd (omega (arith, ap mark e, item-mark (numberSays body n) (numbered-item body (taken body .0 g) n (leb-false _ _ q))))
 
-      go : (p : Parsed) → definitionOf body ≡ p → (definitionOf body ≡ Parsed·Refused k) ⊎ (Takes body × (countIn body ≤ n) × (k ≡ 14))
-      go (Parsed·Good d) q = taken-so (record { definition = d; says = q }) (leb (countIn body) n) refl
-      go (Parsed·Refused j) q = let z : j ≡ k = omega (arith, ap mark (sym (numbered-refused n j q) ∙ e)) in inl (q ∙ ap Parsed·Refused z)
+      go : (r : Result DefinitionValues) → parserSays body ≡ r → Why n k
+      go (ok d) q = over (record { definition = d; says = q }) (leb (countIn body) n) refl
+      go (refused j) q = let z : j ≡ k = omega (arith, ap mark (sym (numbered-refused n j q) ∙ e)) in inl (q ∙ ap refused z)
 
-  numbered-told : (n k : ℕ) → (definitionOf body ≡ Parsed·Refused k) ⊎ (Takes body × (countIn body ≤ n) × (k ≡ 14)) → itemNumbered body n ≡ Refused k
+  numbered-told : (n k : ℕ) → Why n k → numberSays body n ≡ refused k
   numbered-told n k (inl e) = numbered-refused n k e
-  numbered-told n k (inr (g, l, z)) = numbered-past n g l ∙ ap Refused (sym z)
+  numbered-told n k (inr (g, l, z)) = ap (itemResult body) (numbered-past n g l) ∙ ap refused (sym z)
 
   pub by-number : (n : ℕ) → ByNumber body n
   by-number n =
@@ -189,15 +195,15 @@ module _ (body : List ℕ) where
       }
 
   -- after the last item none is left
-  all-walked : Stand (allFields body) body → (b : Bool) → hasItems (typeIn body) ≡ b → stepOf body (walked (countIn body) body (walkIn body)) .item ≡ None
+  all-walked : Stand (allFields body) body → (b : Bool) → hasItems (typeIn body) ≡ b → stepSays body (walked (countIn body) body (walkIn body)) ≡ ok none
   unfolding walked
   all-walked h true i =
       let e : countIn body - countIn body ≡ 0 = omega arith in
       let items = stand-parts (map form (namesIn body)) (itemsOf (typeIn body) (countIn body)) body h .1 in
       let to = firstIn body + extent (itemsOf (typeIn body) (countIn body)) (drop (firstIn body) body) in
       rw (i, walked-to (typeIn body) body (countIn body) (countIn body) (firstIn body) i (omega arith) items, e)
-      (stepping body (walk to 0 (typeIn body)) .none .1 (inl refl))
-  all-walked h false i = rw (count-none body i, i) (stepping body (walk 0 0 (typeIn body)) .none .1 (inl refl))
+      (stepping body (walk to 0 (typeIn body)) .nothing .1 (inl refl))
+  all-walked h false i = rw (count-none body i, i) (stepping body (walk 0 0 (typeIn body)) .nothing .1 (inl refl))
 
   pub walking : Takes body → Walking body
   walking g =

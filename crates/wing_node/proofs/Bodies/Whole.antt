@@ -1,29 +1,25 @@
 -- A whole definition, of any type: what is laid reads back, and what was read is laid anew as it was.
 -- Neither goes by the types: both are the laws for lists of fields.
-use mathlib.Core.Path.{_≡_, refl, _∙_, ap, sym, subst}
+use mathlib.Core.Path.{_≡_, refl, _∙_, ap}
 use mathlib.Core.Bool.{Bool, true, false}
-use mathlib.Core.List.{List, [], _∷_, _++_, map, append-assoc}
-use Prim.Native.Nat.{ℕ, _+_}
+use mathlib.Core.List.{List, [], _∷_, _++_, map}
+use Prim.Native.Nat.{ℕ}
 use native.Mathlib.Omega.{arith}
 use lib.Dec.{eqb}
-use lib.ListN.{length, take, drop, getD, length-append}
-use lib.Seq.{drop-append-seam, drop-append-add, take-append-seam}
+use lib.ListN.{getD}
 use borrow.Author.Tests.{eqb-true}
 use Rattle.wing_node.specs.Bool.{if}
-use Rattle.wing_node.specs.Field.{big, bytesOf}
-use Rattle.wing_node.specs.Cursor.{Field, number, string, content, valueOf, begins, start, cursor, from, readAt, reads, after}
-use Rattle.wing_node.specs.Definition.{FieldName, ParentId, Id, Index, Name, LongName, Flags, Min, Max, Steps, Count, MaxLen, order, form, look, named, past, header, added, itemsOf, kindFrom, detailsFrom, detailsAt, definitionFrom, definitionOf, fieldsIn}
-use Rattle.wing_node.specs.Laid.{laid, laidAll, Fits, FitsAll, none, more, numberOf, readings, contents, heldAll}
+use Rattle.wing_node.specs.Field.{big}
+use Rattle.wing_node.specs.Cursor.{number, content, valueOf, start, from, readAt, reads, after}
+use Rattle.wing_node.specs.Definition.{ParentId, Id, Index, Name, LongName, Flags, Count, form, named, past, header, added, itemsOf, kindFrom, detailsAt, definitionOf, fieldsIn}
+use Rattle.wing_node.specs.Laid.{laid, laidAll, contents, heldAll}
 use Rattle.wing_node.specs.Written.{ReadsBack}
 use Rattle.wing_node.specs.declared.cursor.Cursor.{Cursor}
-use Rattle.wing_node.specs.declared.cursor.FieldRead.{FieldRead}
-use Rattle.wing_node.specs.declared.node_type.NodeType.{NodeType}
-use Rattle.wing_node.specs.declared.definition.Parsed.{Parsed}
 use Rattle.wing_node.specs.declared.definition.Parsed.the-variants.{Good, Refused}
 use Rattle.wing_node.specs.declared.definition.Definition.{Definition}
 use Rattle.wing_node.proofs.Bodies.InBody.{end-of}
 use Rattle.wing_node.proofs.Bodies.Laid.{definition-back, items-back}
-use Rattle.wing_node.proofs.Bodies.Round.{reads-laid, laid-reads, contents-held, value-read}
+use Rattle.wing_node.proofs.Bodies.Round.{laid-reads, contents-held, value-read}
 use Rattle.wing_node.proofs.Numerals.Numbers.{Digits}
 
 taken : (b : Bool) (d e : Definition) (n : ℕ) → if b (Good d) (Refused n) ≡ Good e → b ≡ true
