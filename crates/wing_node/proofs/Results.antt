@@ -3,16 +3,17 @@ use Prim.Native.Nat.{_-_}
 use mathlib.Core.Path.{_≡_, refl, ap}
 use lib.ListN.{length, replicate}
 use lib.Seq.{take-append-seam}
+use denote.Ref.{now}
 use Rattle.wing_node.specs.Value.{MaybeString, none, some, stringIn, answerOf}
-use Rattle.wing_node.specs.Items.{walk}
+use Rattle.wing_node.specs.Items.{beginOf}
 use Rattle.wing_node.specs.Walker.{startOf}
-use Rattle.wing_node.specs.Answers.{begunResult, openingResult, stringTold, AnswersAgree}
+use Rattle.wing_node.specs.Answers.{begunResult, startResult, stringTold, AnswersAgree}
 use Rattle.wing_node.specs.declared.items.Begun.{Begun}
 use Rattle.wing_node.specs.declared.items.Begun.the-variants.{Good, Refused}
 
-opened : (b : Begun) → openingResult (startOf b .opening) (walk (startOf b .at) (startOf b .left) (startOf b .kind)) ≡ begunResult b
-opened (Good w) = refl
-opened (Refused n) = refl
+begun-as : (b : Begun) → startResult (startOf b) ≡ begunResult b
+begun-as (Good w) = refl
+begun-as (Refused n) = refl
 
 told : (m : MaybeString) → stringTold (answerOf m .answer) (answerOf m .bytes) ≡ m
 unfolding answerOf
@@ -20,4 +21,9 @@ told none = refl
 told (some s) = ap some (take-append-seam s (replicate (256 - length s) 0))
 
 pub answers-agree : AnswersAgree
-answers-agree = record { opening = opened; string = λ v. told (stringIn v) }
+answers-agree =
+    record {
+      opened = λ body. begun-as (beginOf (now body));
+      started = λ body. begun-as (beginOf body);
+      string = λ v. told (stringIn v);
+    }

@@ -21,6 +21,7 @@ parserSays body = parsedResult body (definitionOf body)
 
 -- the parser takes the body
 pub record Takes (body : List ℕ) : Type 0 where
+  -- it answers some definition
   pub definition : DefinitionValues
   pub says : parserSays body ≡ ok definition
 
@@ -115,8 +116,13 @@ pub record Walking (body : List ℕ) : Type 0 where
 
 -- the parser and the item calls, on every body
 pub record Definitions : Type 0 where
+  -- the parser
   pub parsing : (body : List ℕ) → Parsing body
+  -- the walk's beginning
   pub beginning : (body : List ℕ) → Beginning body
+  -- a step from any place, with any number of items left, of any type
   pub stepping : (body : List ℕ) (w : Walk) → Stepping body w
+  -- an item by its number, whatever the number
   pub byNumber : (body : List ℕ) (n : ℕ) → ByNumber body n
+  -- all steps of a walk
   pub walking : (body : List ℕ) → Takes body → Walking body

@@ -34,9 +34,13 @@ pub data Stand : List Field → List ℕ → Type 0 where
 
 -- 01: the first failing field counts. Some fields stand, and the next one fails where they end
 pub record StopsAt (Fails : Field → List ℕ → Type 0) (fs : List Field) (s : List ℕ) : Type 0 where
+  -- the fields before it, it, and the fields after it
   pub stood : List Field
   pub next : Field
   pub others : List Field
+  -- they are the row
   pub row : fs ≡ stood ++ (next ∷ others)
+  -- those before it stand
   pub stand : Stand stood s
+  -- it fails in the bytes after them
   pub fails : Fails next (beyond stood s)

@@ -118,24 +118,22 @@ module _ (body : List ℕ) (w : Walk) where
   unfolding stepAt itemAt
   moves l h = simp (ne-eqb _ _ (l .0), l .1, passes (itemOf (w .kind)) body (w .at) h)
 
-  -- what a step comes to
-  data Outcome : Type 0 where
-    nothing : Ended → stepOf body w ≡ stayed None (w .at) (w .left) (w .kind) → Outcome
-    item : Left w → Stand (itemOf (w .kind)) there → IsItem (stepSays body w) → stepOf body w ≡ stayed read (w .at + extent (itemOf (w .kind)) there) (w .left - 1) (w .kind) → Outcome
-    past : Left w → StopsAt PastEnd (itemOf (w .kind)) there → stepOf body w ≡ stayed (Refused 4) (w .at) (w .left) (w .kind) → Outcome
-    wrong : Left w → StopsAt NotUtf8 (itemOf (w .kind)) there → stepOf body w ≡ stayed (Refused 5) (w .at) (w .left) (w .kind) → Outcome
-
   gives : Left w → Stand (itemOf (w .kind)) there → IsItem (stepSays body w)
   gives l h = rw (moves l h) (is-item (w .kind) body (w .at) (l .1))
 
+  -- what a step comes to
+  data Outcome : Type 0 where
+    nothing : Ended → stepOf body w ≡ stayed None (w .at) (w .left) (w .kind) → Outcome
+    item : Left w → Stand (itemOf (w .kind)) there → IsItem (stepSays body w) → Outcome
+    stop : (n : ℕ) → Left w → came ≡ suc n → stepOf body w ≡ stayed (Refused (suc n)) (w .at) (w .left) (w .kind) → Outcome
+
   outcome : Outcome
-  outcome = go (none-left (w .left) (hasItems (w .kind)) refl refl) (ends-so (itemOf (w .kind)) body (w .at))
+  outcome = go (none-left (w .left) (hasItems (w .kind)) refl refl) came refl
     where
-      go : Ended ⊎ Left w → (came ≡ 0) ⊎ ((came ≡ 4) ⊎ (came ≡ 5)) → Outcome
-      go (inl e) c = nothing e (ended e)
-      go (inr l) (inl c) = let h = stands (itemOf (w .kind)) body (w .at) .0 c in item l h (gives l h) (moves l h)
-      go (inr l) (inr (inl c)) = past l (ends-past (itemOf (w .kind)) body (w .at) .0 c) (stopped 3 l c)
-      go (inr l) (inr (inr c)) = wrong l (ends-wrong (itemOf (w .kind)) body (w .at) .0 c) (stopped 4 l c)
+      go : Ended ⊎ Left w → (n : ℕ) → came ≡ n → Outcome
+      go (inl e) n c = nothing e (ended e)
+      go (inr l) zero c = let h = stands (itemOf (w .kind)) body (w .at) .0 c in item l h (gives l h)
+      go (inr l) (suc n) c = stop n l c (stopped n l c)
 
   abbrev marked : ℕ
   marked = mark (stepSays body w)
@@ -145,51 +143,42 @@ module _ (body : List ℕ) (w : Walk) where
 
   only-none : marked ≡ 0 → Outcome → Ended
   only-none e (nothing h q) = h
-  only-none e (item l h i q) = absurd (omega (arith, item-mark (stepSays body w) i))
-  only-none e (past l h q) = absurd (omega (arith, mark-by _ _ _ _ q))
-  only-none e (wrong l h q) = absurd (omega (arith, mark-by _ _ _ _ q))
+  only-none e (item l h i) = absurd (omega (arith, item-mark (stepSays body w) i))
+  only-none e (stop n l c q) = absurd (omega (arith, mark-by _ _ _ _ q))
 
-  only-item : marked ≡ 1 → Outcome → Left w × Stand (itemOf (w .kind)) there
-  only-item e (nothing h q) = absurd (omega (arith, mark-by _ _ _ _ q))
-  only-item e (item l h i q) = (l, h)
-  only-item e (past l h q) = absurd (omega (arith, mark-by _ _ _ _ q))
-  only-item e (wrong l h q) = absurd (omega (arith, mark-by _ _ _ _ q))
+  only-item : IsItem (stepSays body w) → Outcome → Left w × Stand (itemOf (w .kind)) there
+  only-item i (nothing h q) = absurd (omega (arith, item-mark (stepSays body w) i, mark-by _ _ _ _ q))
+  only-item i (item l h j) = (l, h)
+  only-item i (stop n l c q) = absurd (omega (arith, item-mark (stepSays body w) i, mark-by _ _ _ _ q))
 
-  only-past : marked ≡ 6 → Outcome → Left w × StopsAt PastEnd (itemOf (w .kind)) there
-  only-past e (nothing h q) = absurd (omega (arith, mark-by _ _ _ _ q))
-  only-past e (item l h i q) = absurd (omega (arith, item-mark (stepSays body w) i))
-  only-past e (past l h q) = (l, h)
-  only-past e (wrong l h q) = absurd (omega (arith, mark-by _ _ _ _ q))
-
-  only-wrong : marked ≡ 7 → Outcome → Left w × StopsAt NotUtf8 (itemOf (w .kind)) there
-  only-wrong e (nothing h q) = absurd (omega (arith, mark-by _ _ _ _ q))
-  only-wrong e (item l h i q) = absurd (omega (arith, item-mark (stepSays body w) i))
-  only-wrong e (past l h q) = absurd (omega (arith, mark-by _ _ _ _ q))
-  only-wrong e (wrong l h q) = (l, h)
-
-  four-or-five : (n : ℕ) → marked ≡ 2 + n → Outcome → (n ≡ 4) ⊎ (n ≡ 5)
-  four-or-five n e (nothing h q) = absurd (omega (arith, mark-by _ _ _ _ q))
-  four-or-five n e (item l h i q) = absurd (omega (arith, item-mark (stepSays body w) i))
-  four-or-five n e (past l h q) = inl (omega (arith, mark-by _ _ _ _ q))
-  four-or-five n e (wrong l h q) = inr (omega (arith, mark-by _ _ _ _ q))
+  only-stop : (n : ℕ) → marked ≡ 2 + n → Outcome → Left w × (came ≡ n)
+  only-stop n e (nothing h q) = absurd (omega (arith, mark-by _ _ _ _ q))
+  only-stop n e (item l h i) = absurd (omega (arith, item-mark (stepSays body w) i))
+  only-stop n e (stop m l c q) = (l, omega (arith, mark-by _ _ _ _ q))
 
   stays : (IsItem (stepSays body w) → ⊥) → Outcome → stepOf body w .next ≡ w
   stays not (nothing h q) = ap (λ (s : Step). s .next) q
-  stays not (item l h i q) = absurd (not i)
-  stays not (past l h q) = ap (λ (s : Step). s .next) q
-  stays not (wrong l h q) = ap (λ (s : Step). s .next) q
+  stays not (item l h i) = absurd (not i)
+  stays not (stop n l c q) = ap (λ (s : Step). s .next) q
+
+  four-or-five : (n : ℕ) → marked ≡ 2 + n → (came ≡ 0) ⊎ ((came ≡ 4) ⊎ (came ≡ 5)) → (n ≡ 4) ⊎ (n ≡ 5)
+  four-or-five n e (inl z) = absurd (omega (arith, item-mark (stepSays body w) (gives (only-stop n e outcome .0) (stands (itemOf (w .kind)) body (w .at) .0 z))))
+  four-or-five n e (inr (inl z)) = inl (omega (arith, only-stop n e outcome .1))
+  four-or-five n e (inr (inr z)) = inr (omega (arith, only-stop n e outcome .1))
 
   pub stepping : Stepping body w
   stepping =
       let K = itemOf (w .kind) in
-      let item : Step → Result ItemValues = λ s. itemResult body (s .item) in
+      let says : Step → Result ItemValues = λ s. itemResult body (s .item) in
+      let part : (n : ℕ) → stepSays body w ≡ refused n → Left w × (came ≡ n) = λ n e. only-stop n (ap mark e) outcome in
+      let both : IsItem (stepSays body w) → Left w × Stand K there = λ i. only-item i outcome in
       record {
-        nothing = (λ e. only-none (ap mark e) outcome, λ h. ap item (ended h));
-        pastEnd = (λ e. only-past (ap mark e) outcome, λ h. ap item (stopped 3 (h .0) (ends-past K body (w .at) .1 (h .1))));
-        notUtf8 = (λ e. only-wrong (ap mark e) outcome, λ h. ap item (stopped 4 (h .0) (ends-wrong K body (w .at) .1 (h .1))));
-        numbers = λ n e. four-or-five n (ap mark e) outcome;
-        given = (λ i. only-item (item-mark (stepSays body w) i) outcome, λ h. gives (h .0) (h .1));
-        said = λ i. let h = only-item (item-mark (stepSays body w) i) outcome in ap item (moves (h .0) (h .1)) ∙ item-said (w .kind) body (w .at) (h .1);
-        moved = λ i. let h = only-item (item-mark (stepSays body w) i) outcome in ap (λ (s : Step). s .next) (moves (h .0) (h .1));
+        nothing = (λ e. only-none (ap mark e) outcome, λ h. ap says (ended h));
+        pastEnd = (λ e. (part 4 e .0, ends-past K body (w .at) .0 (part 4 e .1)), λ h. ap says (stopped 3 (h .0) (ends-past K body (w .at) .1 (h .1))));
+        notUtf8 = (λ e. (part 5 e .0, ends-wrong K body (w .at) .0 (part 5 e .1)), λ h. ap says (stopped 4 (h .0) (ends-wrong K body (w .at) .1 (h .1))));
+        numbers = λ n e. four-or-five n (ap mark e) (ends-so K body (w .at));
+        given = (both, λ h. gives (h .0) (h .1));
+        said = λ i. ap says (moves (both i .0) (both i .1)) ∙ item-said (w .kind) body (w .at) (both i .1);
+        moved = λ i. ap (λ (s : Step). s .next) (moves (both i .0) (both i .1));
         stays = λ not. stays not outcome;
       }
