@@ -4,3 +4,4 @@ pub mod Eight
 pub mod Numerals
 pub mod Characters
 pub mod Bodies
+pub mod Results

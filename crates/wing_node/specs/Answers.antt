@@ -1,15 +1,19 @@
 -- For each answer enum, 01's number and values. A string is its bytes in the body, not its place.
 use Prim.Native.Nat.{ℕ, _/_, _%_}
-use mathlib.Core.Bool.{Bool, true, false}
+use mathlib.Core.Bool.{Bool}
+use mathlib.Core.Path.{_≡_}
 use mathlib.Core.List.{List}
 use lib.Dec.{eqb}
 use lib.IntN.{ℤ}
 use lib.ListN.{take, drop}
+use denote.Ref.{RefT, now}
 use Rattle.wing_node.specs.Result.{Result, ok, refused}
 use Rattle.wing_node.specs.Signed.{signed}
 use Rattle.wing_node.specs.Types.{typeOf, unitOf}
-use Rattle.wing_node.specs.Value.{MaybeString, none as noString, some}
+use Rattle.wing_node.specs.Value.{NodeValue, MaybeString, none as noString, some, stringIn, answerOf}
 use Rattle.wing_node.specs.Definition.{FieldName, ParentId, Id, Index, Name, LongName, Flags, Min, Max, Steps, Count, MaxLen}
+use Rattle.wing_node.specs.Items.{walk, beginOf}
+use Rattle.wing_node.specs.Walker.{startOf, openedOf}
 use Rattle.wing_node.specs.declared.node_type.NodeType.{NodeType}
 use Rattle.wing_node.specs.declared.node_type.NodeType.the-variants.{Node, LinearFloat, LogarithmicFloat, FaderLevel, Integer, StringEnum, FloatEnum, String}
 use Rattle.wing_node.specs.declared.node_type.NodeUnit.{NodeUnit}
@@ -28,6 +32,8 @@ use Rattle.wing_node.specs.declared.items.Begun.{Begun}
 use Rattle.wing_node.specs.declared.items.Begun.the-variants.{Good as Begun·Good, Refused as Begun·Refused}
 use Rattle.wing_node.specs.declared.walker.Opening.{Opening}
 use Rattle.wing_node.specs.declared.walker.Opening.the-variants.{Good as Opening·Good, Refused as Opening·Refused}
+use Rattle.wing_node.specs.declared.walker.Start.{Start}
+use Rattle.wing_node.specs.declared.walker.Opened.{Opened}
 
 -- the bytes of a span
 abbrev pub bytesAt : List ℕ → Span → List ℕ
@@ -115,7 +121,24 @@ abbrev pub openingResult : Opening → Walk → Result Walk
 openingResult Opening·Good w = ok w
 openingResult (Opening·Refused n) w = refused n
 
+-- of a walker that was begun
+abbrev pub openedResult : Opened → Result Walk
+openedResult o = openingResult (o .opening) (walk (o .walker .at) (o .walker .left) (o .walker .kind))
+
+-- of a walk that was begun on plain numbers
+abbrev pub startResult : Start → Result Walk
+startResult p = openingResult (p .opening) (walk (p .at) (p .left) (p .kind))
+
 -- 01: the string, or none; its bytes are at the front of the array beside the answer
 abbrev pub stringTold : StringAnswer → List ℕ → MaybeString
 stringTold StringAnswer·None bytes = noString
 stringTold (StringAnswer·String n) bytes = some (take n bytes)
+
+-- the walker begins with the walk of the plain call, and the string getter gives 01's string
+pub record AnswersAgree : Type 0 where
+  -- 01: beginning gives a walk at the first item, or 4 or 5
+  pub opened : (body : RefT (List ℕ)) → openedResult (openedOf body) ≡ begunResult (beginOf (now body))
+  -- the same on plain numbers
+  pub started : (body : List ℕ) → startResult (startOf (beginOf body)) ≡ begunResult (beginOf body)
+  -- 01: the string getter gives the string, an integer's decimal, and none for a float
+  pub string : (v : NodeValue) → stringTold (answerOf (stringIn v) .answer) (answerOf (stringIn v) .bytes) ≡ stringIn v

@@ -1,6 +1,5 @@
 -- What a body says, told from its bytes alone: the fields that it has, and what each holds where those before it end.
 use Prim.Native.Nat.{ℕ, _/_, _%_}
-use mathlib.Core.Bool.{Bool, true, false}
 use mathlib.Core.List.{List, [], _∷_, _++_, map}
 use lib.Dec.{eqb}
 use lib.ListN.{drop}

@@ -1,12 +1,12 @@
--- Fields laid in bytes, and the two facts that tie this to reading: what is laid reads back, and what was read is laid anew as it was.
-use Prim.Native.Nat.{ℕ, zero, suc, _+_, _/_, _%_, _<_}
+-- Fields laid in bytes with what they hold, and what fields that were read held.
+use Prim.Native.Nat.{ℕ}
 use mathlib.Core.Path.{_≡_}
-use mathlib.Core.Bool.{Bool, true}
+use mathlib.Core.Bool.{true}
 use mathlib.Core.List.{List, [], _∷_, _++_}
 use lib.ListN.{length, take, drop}
 use Rattle.wing_node.specs.Utf8.{utf8}
 use Rattle.wing_node.specs.Field.{big, bytesOf}
-use Rattle.wing_node.specs.Cursor.{Field, number, string, content, begins, from, cursor, fieldRead, readAt}
+use Rattle.wing_node.specs.Cursor.{Field, number, string, content, from, readAt}
 use Rattle.wing_node.specs.declared.cursor.Cursor.{Cursor}
 use Rattle.wing_node.specs.declared.cursor.FieldRead.{FieldRead}
 
@@ -35,13 +35,6 @@ pub data FitsAll : List Field → List (List ℕ) → Type 0 where
 unfoldable pub numberOf : Field → List ℕ → ℕ
 numberOf (number w) v = big v
 numberOf string v = length v
-
--- what fields that hold vs read as, from a place on
-unfoldable pub readings : List Field → List (List ℕ) → ℕ → List FieldRead
-readings [] vs at = []
-readings (f ∷ fs) [] at = []
-readings (f ∷ fs) (v ∷ vs) at =
-    fieldRead (numberOf f v) (begins f at) (cursor (at + length (laid f v)) 0) ∷ readings fs vs (at + length (laid f v))
 
 -- what fields hold in a body
 unfoldable pub contents : List Field → List ℕ → Cursor → List (List ℕ)

@@ -1,6 +1,6 @@
 -- Fields at the front of bytes, one after the other: which of them stand there whole and good, and where the first fails.
 use Prim.Native.Nat.{ℕ, _+_, _≤_}
-use mathlib.Core.Bool.{Bool, true, false}
+use mathlib.Core.Bool.{true, false}
 use mathlib.Core.Path.{_≡_}
 use mathlib.Core.List.{List, [], _∷_, _++_}
 use lib.ListN.{length, drop}
@@ -34,9 +34,13 @@ pub data Stand : List Field → List ℕ → Type 0 where
 
 -- 01: the first failing field counts. Some fields stand, and the next one fails where they end
 pub record StopsAt (Fails : Field → List ℕ → Type 0) (fs : List Field) (s : List ℕ) : Type 0 where
+  -- the fields before it, it, and the fields after it
   pub stood : List Field
   pub next : Field
   pub others : List Field
+  -- they are the row
   pub row : fs ≡ stood ++ (next ∷ others)
+  -- those before it stand
   pub stand : Stand stood s
+  -- it fails in the bytes after them
   pub fails : Fails next (beyond stood s)

@@ -1,5 +1,5 @@
 -- UTF-8 as RFC 3629 defines it, by the ABNF of its section 4.
-use Prim.Native.Nat.{ℕ, zero, suc, _-_, _≤_}
+use Prim.Native.Nat.{ℕ, zero, suc, _+_, _-_, _/_, _%_, _^_, _≤_, _<_}
 use mathlib.Core.Path.{_≡_}
 use mathlib.Core.Bool.{Bool, true, false}
 use mathlib.Core.List.{List, [], _∷_, _++_, List·Memᴰ}
@@ -74,6 +74,23 @@ rowOf lead = firstThat (λ row. begins (take 1 row) (lead ∷ [])) chars
 -- the length of the sequence that a lead byte begins, 0 where it begins none
 unfoldable pub leadLength : ℕ → ℕ
 leadLength lead = length (rowOf lead)
+
+-- the leading one bits among the last k bits of b
+unfoldable pub onesIn : ℕ → ℕ → ℕ
+onesIn zero b = 0
+onesIn (suc k) b = if (eqb (b / 2 ^ k % 2) 1) (1 + onesIn k b) 0
+
+-- 01: a lead byte's class is its count of leading one bits
+unfoldable pub class : ℕ → ℕ
+class lead = onesIn 8 lead
+
+-- how many bytes a sequence of a class has: class 0 is one byte alone, 2 to 4 are as many, the others begin none
+abbrev pub classLength : ℕ → ℕ
+classLength n = getD (1 ∷ 0 ∷ 2 ∷ 3 ∷ 4 ∷ []) n 0
+
+-- of a byte that begins a character, the class says how many bytes the character has
+abbrev pub ClassesHold : Type 0
+ClassesHold = (lead : ℕ) → lead < 256 → (leadLength lead ≡ 0 → ⊥) → leadLength lead ≡ classLength (class lead)
 
 -- the limits of the byte after a lead byte, those of a tail where its row has no second byte
 unfoldable pub second : ℕ → Range

@@ -1,58 +1,77 @@
--- A definition written field by field, and that it is read back: for all eight types at once.
-use Prim.Native.Nat.{ℕ, _+_}
-use mathlib.Core.Bool.{Bool, true, false}
+-- A definition written field by field, and that it is read back with its items: for all eight types at once.
+use Prim.Native.Nat.{ℕ, _/_, _%_, _<_}
 use mathlib.Core.Path.{_≡_}
 use mathlib.Core.List.{List, [], _∷_, _++_, map}
-use lib.Dec.{eqb}
-use lib.ListN.{length, take, drop}
+use lib.ListN.{length, getD}
 use Rattle.wing_node.specs.Bool.{if}
-use Rattle.wing_node.specs.Cursor.{Field}
-use Rattle.wing_node.specs.Definition.{FieldName, Count, order, form, look, header, added, itemsOf, kindFrom, detailsFrom, definitionFrom, definitionOf}
-use Rattle.wing_node.specs.Laid.{laidAll, FitsAll, numberOf, readings}
-use Rattle.wing_node.specs.declared.cursor.FieldRead.{FieldRead}
+use Rattle.wing_node.specs.Result.{ok}
+use Rattle.wing_node.specs.Field.{big}
+use Rattle.wing_node.specs.Types.{typeOf, hasItems}
+use Rattle.wing_node.specs.Definition.{FieldName, Flags, Count, form, header, added, itemsOf}
+use Rattle.wing_node.specs.Laid.{laidAll, FitsAll, numberOf}
+use Rattle.wing_node.specs.Answers.{ItemValues, none, strings, float, valuesBy}
+use Rattle.wing_node.specs.Parsing.{parserSays, numberSays}
 use Rattle.wing_node.specs.declared.node_type.NodeType.{NodeType}
-use Rattle.wing_node.specs.declared.definition.Parsed.the-variants.{Good}
+use Rattle.wing_node.specs.declared.node_type.NodeType.the-variants.{Node, LinearFloat, LogarithmicFloat, FaderLevel, Integer, StringEnum, FloatEnum, String}
 
--- a definition written field by field: `held` gives the bytes that each name holds, `each` those of its items, and `rest` may follow
-module _ (held : FieldName → List ℕ) (each : List (List ℕ)) (rest : List ℕ) where
-  -- the fields of these names, one after the other
-  abbrev pub laidOf : List FieldName → List ℕ
-  laidOf names = laidAll (map form names) (map held names)
+-- what an item holds: the bytes of its first field and those of its second
+abbrev pub Pair : Type 0
+Pair = List ℕ × List ℕ
 
-  -- what fields laid from a place on say: numbers, and the places and lengths of strings
-  abbrev pub saidBy : List FieldName → ℕ → FieldName → FieldRead
-  saidBy names at = look names (readings (map form names) (map held names) at)
+-- items one after the other, as what their fields hold
+abbrev pub inRow : List Pair → List (List ℕ)
+inRow [] = []
+inRow (p ∷ ps) = p .0 ∷ p .1 ∷ inRow ps
 
-  -- 01: the type, by the flags
-  abbrev pub kind : NodeType
-  kind = kindFrom (saidBy header 0)
+-- 01: short and long string, or 4 bytes of float bits and a string
+abbrev pub itemHeld : NodeType → Pair → ItemValues
+itemHeld Node p = none
+itemHeld LinearFloat p = none
+itemHeld LogarithmicFloat p = none
+itemHeld FaderLevel p = none
+itemHeld Integer p = none
+itemHeld StringEnum p = strings (p .0) (p .1)
+itemHeld FloatEnum p = float (big (p .0)) (p .1)
+itemHeld String p = none
 
-  -- where the fields that the type adds begin
-  abbrev pub second : ℕ
-  second = length (laidOf header)
+-- `held` gives the bytes that the field of each name holds: the number that they make
+abbrev pub numbersOf : (FieldName → List ℕ) → FieldName → ℕ
+numbersOf held k = numberOf (form k) (held k)
 
-  -- 01: items for types 5 and 6, count of them
-  abbrev pub items : List Field
-  items = itemsOf kind (saidBy (added kind) second Count .value)
+-- 01: type = flags div 16 mod 16
+abbrev pub kindOf : (FieldName → List ℕ) → NodeType
+kindOf held = typeOf (numbersOf held Flags / 16 % 16)
 
-  -- the whole
-  abbrev pub body : List ℕ
-  body = laidOf header ++ (laidOf (added kind) ++ (laidAll items each ++ rest))
+-- the fields before the items
+abbrev pub namesOf : (FieldName → List ℕ) → List FieldName
+namesOf held = header ++ added (kindOf held)
 
-  -- where each field fits its form, the parser takes the body and says these fields
-  abbrev pub ReadBack : Type 0
-  ReadBack = FitsAll (map form header) (map held header) → FitsAll (map form (added kind)) (map held (added kind)) → FitsAll items each →
-      definitionOf body ≡ Good (definitionFrom (saidBy header 0) (detailsFrom kind (saidBy (added kind) second) (second + length (laidOf (added kind)))))
+-- they, one after the other
+abbrev pub frontOf : (FieldName → List ℕ) → List ℕ
+frontOf held = laidAll (map form (namesOf held)) (map held (namesOf held))
 
--- whether a name is among these
-abbrev pub has : List FieldName → FieldName → Bool
-has [] k = false
-has (j ∷ js) k = if (eqb (order j) (order k)) true (has js k)
+-- 01: types without items have count 0
+abbrev pub countOf : (FieldName → List ℕ) → ℕ
+countOf held = if (hasItems (kindOf held)) (numbersOf held Count) 0
 
--- for all eight types; and what is said of a field is what it holds: its number or its length, and the bytes at the place told
+-- the items, as many as the count says
+abbrev pub listOf : (FieldName → List ℕ) → List Pair → List ℕ
+listOf held pairs = laidAll (itemsOf (kindOf held) (countOf held)) (inRow pairs)
+
+-- the whole; bytes may follow
+abbrev pub bodyOf : (FieldName → List ℕ) → List Pair → List ℕ → List ℕ
+bodyOf held pairs rest = frontOf held ++ (listOf held pairs ++ rest)
+
+-- each field fits its form
+pub record Fit (held : FieldName → List ℕ) (pairs : List Pair) : Type 0 where
+  pub fields : FitsAll (map form (namesOf held)) (map held (namesOf held))
+  pub items : FitsAll (itemsOf (kindOf held) (countOf held)) (inRow pairs)
+
+-- what is written reads back as the same fields, those that the type lacks left out
 pub record ReadsBack : Type 0 where
-  pub taken : (held : FieldName → List ℕ) (each : List (List ℕ)) (rest : List ℕ) → ReadBack held each rest
-  pub numbers : (held : FieldName → List ℕ) (names : List FieldName) (k : FieldName) (at : ℕ) → has names k ≡ true →
-      look names (readings (map form names) (map held names) at) k .value ≡ numberOf (form k) (held k)
-  pub bytes : (held : FieldName → List ℕ) (names : List FieldName) (k : FieldName) (front rest : List ℕ) → has names k ≡ true →
-      take (length (held k)) (drop (look names (readings (map form names) (map held names) (length front)) k .start) (front ++ (laidAll (map form names) (map held names) ++ rest))) ≡ held k
+  -- the parser takes it and says what each field holds
+  pub definition : (held : FieldName → List ℕ) (pairs : List Pair) (rest : List ℕ) → Fit held pairs →
+      parserSays (bodyOf held pairs rest) ≡ ok (valuesBy (numbersOf held) held (length (frontOf held)))
+  -- and the item of each number says what the pair of that number holds
+  pub items : (held : FieldName → List ℕ) (pairs : List Pair) (rest : List ℕ) → Fit held pairs → (n : ℕ) → n < countOf held →
+      numberSays (bodyOf held pairs rest) n ≡ ok (itemHeld (kindOf held) (getD pairs n ([], [])))

@@ -3,17 +3,24 @@
 ghost use mathlib.Core.Path.{_≡_};
 ghost use mathlib.Core.List.{_∷_, []};
 ghost use lib.ListN.{drop, replicate};
-ghost use Rattle.wing_node.specs.Utf8.{_to_, utf8Tail, begins, leadLength, second, charLength, utf8, Octets, Decides};
+ghost use Rattle.wing_node.specs.Utf8.{_to_, utf8Tail, begins, class, leadLength, second, charLength, utf8, Octets, Decides};
 use crate::field::left;
 use crate::field::u32_at;
 
+// Its leading one bits are the leading zeros of 255 minus it.
+fn class_of(lead: u8) -> u32
+    ensures { λ r. ⌜ r ≡ class lead ⌝ }
+{
+    u8::leading_zeros(255 - lead)
+}
+
 // The length of the sequence that a lead byte begins, 0 where it begins none.
-// Its leading one bits are the leading zeros of 255 minus it. C0 and C1 would begin a character that one byte holds, F5 to F7 one past U+10FFFF.
+// Its class chooses. C0 and C1 would begin a character that one byte holds, F5 to F7 one past U+10FFFF.
 fn lead_length(lead: u8) -> usize
     ensures { λ r. ⌜ r ≡ leadLength lead ⌝ }
 {
-    let ones = u8::leading_zeros(255 - lead);
-    match ones {
+    let class = class_of(lead);
+    match class {
         0 => 1,
         2 => if lead < 0xc2 { 0 } else { 2 },
         3 => 3,

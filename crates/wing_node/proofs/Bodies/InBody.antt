@@ -1,33 +1,25 @@
 -- The parser's cursor, tied to what a body says by its bytes alone.
-use mathlib.Core.Path.{_≡_, refl, _∙_, ap, sym, subst}
+use mathlib.Core.Path.{_≡_, refl, _∙_, ap, sym}
 use mathlib.Core.Bool.{Bool, true, false}
-use mathlib.Core.Logic.{_↔_, _⊎_, inl, inr}
-use mathlib.Core.List.{List, [], _∷_, _++_, map, append-assoc}
-use Prim.Native.Nat.{ℕ, zero, suc, _+_, _-_, _/_, _%_, _≤_, _<_}
+use mathlib.Core.List.{List, [], _∷_, _++_, map}
+use Prim.Native.Nat.{ℕ, zero, suc, _+_, _/_, _%_}
 use native.Mathlib.Omega.{arith}
 use lib.Dec.{eqb}
-use lib.ListN.{length, take, drop, getD}
+use lib.ListN.{drop, getD}
 use lib.Seq.{drop-drop}
-use borrow.Author.Tests.{eqb-true, eq-eqb, ne-eqb}
+use borrow.Author.Tests.{eqb-true}
 use Rattle.wing_node.specs.Bool.{if}
-use Rattle.wing_node.specs.Result.{ok}
-use Rattle.wing_node.specs.Signed.{signed}
-use Rattle.wing_node.specs.Types.{typeOf, unitOf}
-use Rattle.wing_node.specs.Cursor.{Field, number, string, size, content, right, valueOf, begins, cursor, start, nothing, fieldRead, readAt, reads, after}
-use Rattle.wing_node.specs.Definition.{FieldName, ParentId, Id, Index, Name, LongName, Flags, Min, Max, Steps, Count, MaxLen, order, form, look, named, past, header, added, itemsOf, spanOf, kindFrom, detailsFrom, detailsAt, definitionFrom, parsedFrom, definitionOf, fieldsIn}
-use Rattle.wing_node.specs.Standing.{Whole, extent, beyond, Stand, none, more}
-use Rattle.wing_node.specs.Answers.{bytesAt, DefinitionValues, valuesOf, parsedResult, detailsBy, valuesBy}
-use Rattle.wing_node.specs.InBody.{numberNamed, bytesNamed, typeIn, namesIn, countIn, allFields, firstIn, definitionIn}
+use Rattle.wing_node.specs.Types.{typeOf}
+use Rattle.wing_node.specs.Cursor.{Field, number, string, size, content, valueOf, begins, cursor, start, fieldRead, reads, after}
+use Rattle.wing_node.specs.Definition.{FieldName, ParentId, Id, Index, Name, LongName, Flags, Min, Max, Steps, Count, MaxLen, order, form, named, past, header, added, itemsOf, spanOf, kindFrom, detailsAt, fieldsIn}
+use Rattle.wing_node.specs.Standing.{extent, beyond, Stand, more}
+use Rattle.wing_node.specs.Answers.{bytesAt}
+use Rattle.wing_node.specs.InBody.{numberNamed, bytesNamed, typeIn, countIn, allFields}
 use Rattle.wing_node.specs.declared.cursor.Cursor.{Cursor}
 use Rattle.wing_node.specs.declared.cursor.FieldRead.{FieldRead}
 use Rattle.wing_node.specs.declared.node_type.NodeType.{NodeType}
-use Rattle.wing_node.specs.declared.node_type.NodeType.the-variants.{Node, LinearFloat, LogarithmicFloat, FaderLevel, Integer, StringEnum, FloatEnum, String}
-use Rattle.wing_node.specs.declared.definition.Details.{Details}
-use Rattle.wing_node.specs.declared.definition.Definition.{Definition}
-use Rattle.wing_node.specs.declared.definition.Parsed.{Parsed}
-use Rattle.wing_node.specs.declared.definition.Parsed.the-variants.{Good, Refused}
 use Rattle.wing_node.proofs.Bodies.Fields.{after-append, after-refused}
-use Rattle.wing_node.proofs.Bodies.Standing.{one-read, onward, passes, stands, stand-parts, extent-parts}
+use Rattle.wing_node.proofs.Bodies.Standing.{one-read, onward, passes, stands}
 
 -- a name by its number
 known : ℕ → FieldName
@@ -74,7 +66,7 @@ pick-bytes : (body : List ℕ) (b : Bool) (r r' : FieldRead) (s s' : List ℕ) �
 pick-bytes body true r r' s s' e e' = e refl
 pick-bytes body false r r' s s' e e' = e'
 
-string-bytes : (f : Field) (body : List ℕ) (at : ℕ) (c : Cursor) → f ≡ string →
+pub string-bytes : (f : Field) (body : List ℕ) (at : ℕ) (c : Cursor) → f ≡ string →
     bytesAt body (spanOf (fieldRead (valueOf f (drop at body)) (begins f at) c)) ≡ content f (drop at body)
 unfolding valueOf begins content
 string-bytes f body at c e = rw (e, drop-drop)

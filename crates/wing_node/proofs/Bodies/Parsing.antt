@@ -1,22 +1,19 @@
 -- The parser, by the fields that stand in the body: for all types at once.
 use mathlib.Core.Path.{_≡_, refl, _∙_, ap, sym}
-use mathlib.Core.Bool.{Bool, true, false}
+use mathlib.Core.Bool.{false}
 use mathlib.Core.Logic.{_↔_, _⊎_, inl, inr}
-use mathlib.Core.List.{List, [], _∷_, _++_, map}
-use Prim.Native.Nat.{ℕ, zero, suc, _+_, _/_, _%_}
+use mathlib.Core.List.{List, _++_, map}
+use Prim.Native.Nat.{ℕ, zero, suc}
 use native.Mathlib.Omega.{arith}
-use lib.ListN.{drop}
 use borrow.Author.Tests.{ne-eqb}
 use Rattle.wing_node.specs.Bool.{if}
-use Rattle.wing_node.specs.Result.{Result, ok}
-use Rattle.wing_node.specs.Signed.{signed}
-use Rattle.wing_node.specs.Types.{typeOf, unitOf}
-use Rattle.wing_node.specs.Cursor.{Field, string, cursor, start, after}
+use Rattle.wing_node.specs.Result.{ok, refused}
+use Rattle.wing_node.specs.Cursor.{cursor, start, after}
 use Rattle.wing_node.specs.Definition.{FieldName, ParentId, Id, Index, Name, LongName, Flags, Min, Max, Steps, Count, MaxLen, form, named, past, header, added, itemsOf, kindFrom, detailsFrom, detailsAt, definitionFrom, parsedFrom, definitionOf}
-use Rattle.wing_node.specs.Standing.{PastEnd, NotUtf8, extent, beyond, Stand, StopsAt}
-use Rattle.wing_node.specs.Answers.{DefinitionValues, valuesOf, parsedResult, detailsBy, valuesBy}
+use Rattle.wing_node.specs.Standing.{extent, beyond, Stand}
+use Rattle.wing_node.specs.Answers.{DefinitionValues, valuesOf, parsedResult, detailsBy}
 use Rattle.wing_node.specs.InBody.{numberNamed, bytesNamed, typeIn, namesIn, countIn, allFields, firstIn, definitionIn}
-use Rattle.wing_node.specs.Parsing.{Takes, Parsing}
+use Rattle.wing_node.specs.Parsing.{parserSays, Takes, Parsing}
 use Rattle.wing_node.specs.declared.cursor.Cursor.{Cursor}
 use Rattle.wing_node.specs.declared.cursor.FieldRead.{FieldRead}
 use Rattle.wing_node.specs.declared.node_type.NodeType.{NodeType}
@@ -27,21 +24,22 @@ use Rattle.wing_node.proofs.Bodies.Standing.{passes, stands, ends-past,
 use Rattle.wing_node.proofs.Bodies.InBody.{has, named-number, named-bytes, number-later, past-header, same-type, end-of, same-end}
 
 -- a number other than 0 is the refusal's
-not-good : (n : ℕ) (d : Definition) → parsedFrom (suc n) d ≡ Refused (suc n)
-not-good n d = rw (ne-eqb (suc n) 0 (λ z. omega arith))
+module _ (body : List ℕ) (d : Definition) where
+  not-good : (n : ℕ) → parsedFrom (suc n) d ≡ Refused (suc n)
+  not-good n = rw (ne-eqb (suc n) 0 (λ z. omega arith))
 
-refused-with : (n k : ℕ) (d : Definition) → (parsedFrom n d ≡ Refused (suc k)) ↔ (n ≡ suc k)
-refused-with zero k d = (λ e. absurd (let z : _≡_ {A = ℕ} 0 1 = cc in omega arith), λ e. absurd (omega arith))
-refused-with (suc n) k d = (λ e. cc (not-good n d), λ e. not-good n d ∙ ap Refused e)
+  refused-with : (n k : ℕ) → (parsedResult body (parsedFrom n d) ≡ refused (suc k)) ↔ (n ≡ suc k)
+  refused-with zero k = (λ e. absurd (let z : _≡_ {A = ℕ} 0 1 = cc in omega arith), λ e. absurd (omega arith))
+  refused-with (suc n) k = (λ e. let h : refused (suc n) ≡ refused (suc k) = ap (parsedResult body) (sym (not-good n)) ∙ e in cc, λ e. ap (parsedResult body) (not-good n) ∙ ap refused e)
 
-good-with : (n : ℕ) (d e : Definition) → parsedFrom n d ≡ Good e → n ≡ 0
-good-with zero d e h = refl
-good-with (suc n) d e h = absurd (let z : _≡_ {A = ℕ} 0 1 = cc (not-good n d) in omega arith)
+  good-with : (n : ℕ) (v : DefinitionValues) → parsedResult body (parsedFrom n d) ≡ ok v → n ≡ 0
+  good-with zero v h = refl
+  good-with (suc n) v h = absurd (let e : refused (suc n) ≡ ok v = ap (parsedResult body) (sym (not-good n)) ∙ h in let z : _≡_ {A = ℕ} 0 1 = cc in omega arith)
 
-number-of : (n k : ℕ) (d : Definition) → parsedFrom n d ≡ Refused k → (n ≡ 0) ⊎ ((n ≡ 4) ⊎ (n ≡ 5)) → (k ≡ 4) ⊎ (k ≡ 5)
-number-of n k d h (inl e) = absurd (let y : Good d ≡ Refused k = rw e at h in let z : _≡_ {A = ℕ} 0 1 = cc in omega arith)
-number-of n k d h (inr (inl e)) = let y : Refused 4 ≡ Refused k = rw e at h in inl (cc)
-number-of n k d h (inr (inr e)) = let y : Refused 5 ≡ Refused k = rw e at h in inr (cc)
+  number-of : (n k : ℕ) → parsedResult body (parsedFrom n d) ≡ refused k → (n ≡ 0) ⊎ ((n ≡ 4) ⊎ (n ≡ 5)) → (k ≡ 4) ⊎ (k ≡ 5)
+  number-of n k h (inl e) = absurd (let y : ok (valuesOf body d) ≡ refused k = rw e at h in let z : _≡_ {A = ℕ} 0 1 = cc in omega arith)
+  number-of n k h (inr (inl e)) = let y : refused 4 ≡ refused k = rw e at h in inl (cc)
+  number-of n k h (inr (inr e)) = let y : refused 5 ≡ refused k = rw e at h in inr (cc)
 
 -- what a type adds, by the numbers of its fields
 same-details : (t : NodeType) (f : FieldName → FieldRead) (v : FieldName → ℕ) (first : ℕ) → ((k : FieldName) → has header k ≡ false → f k .value ≡ v k) →
@@ -56,24 +54,21 @@ same-details FloatEnum f v first h = rw (h Count refl)
 same-details String f v first h = rw (h MaxLen refl)
 
 module _ (body : List ℕ) where
-  abbrev fields : FieldName → FieldRead
+  abbrev pub fields : FieldName → FieldRead
   fields = named header body start
 
   abbrev end : ℕ
   end = after (allFields body) body start .refused
 
-  abbrev found : Definition
+  abbrev pub found : Definition
   found = definitionFrom fields (detailsAt (kindFrom fields) body (past header body start) .details)
 
   pub parsed : definitionOf body ≡ parsedFrom end found
   unfolding definitionOf
   parsed = ap (λ (c : Cursor). parsedFrom (c .refused) found) (sym (end-of body) ∙ same-end body)
 
-  pub taken : Takes body ↔ Stand (allFields body) body
-  taken = (
-    λ h. stands (allFields body) body 0 .0 (good-with end found (h .definition) (sym parsed ∙ h .says)),
-    λ h. record { definition = found; says = parsed ∙ ap (λ n. parsedFrom n found) (stands (allFields body) body 0 .1 h) },
-  )
+  pub parsed-good : Stand (allFields body) body → definitionOf body ≡ Good found
+  parsed-good h = parsed ∙ ap (λ n. parsedFrom n found) (stands (allFields body) body 0 .1 h)
 
   -- the header and what the type adds stand, if all fields do
   pub header-stands : Stand (allFields body) body → Stand (map form header) body
@@ -108,15 +103,26 @@ module _ (body : List ℕ) where
       let n : (k : FieldName) → fields k .value ≡ numberNamed header k body = λ k. named-number header k body 0 s in
       rw (details-said h, n ParentId, n Id, n Index, n Flags, named-bytes header Name body 0 refl s, named-bytes header LongName body 0 refl s)
 
-  pub said : Stand (allFields body) body → parsedResult body (definitionOf body) ≡ ok (definitionIn body)
-  said h = ap (parsedResult body) (parsed ∙ ap (λ n. parsedFrom n found) (stands (allFields body) body 0 .1 h)) ∙ ap ok (found-said h)
+  pub said : Stand (allFields body) body → parserSays body ≡ ok (definitionIn body)
+  said h = ap (parsedResult body) (parsed-good h) ∙ ap ok (found-said h)
+
+  says : parserSays body ≡ parsedResult body (parsedFrom end found)
+  says = ap (parsedResult body) parsed
+
+  pub taken : Takes body ↔ Stand (allFields body) body
+  taken = (
+    λ h. stands (allFields body) body 0 .0 (good-with body found end (h .definition) (sym says ∙ h .says)),
+    λ h. record { definition = definitionIn body; says = said h },
+  )
 
   pub parsing : Parsing body
   parsing =
+      let from : (k : ℕ) → parserSays body ≡ refused (suc k) → end ≡ suc k = λ k e. refused-with body found end k .0 (sym says ∙ e) in
+      let to : (k : ℕ) → end ≡ suc k → parserSays body ≡ refused (suc k) = λ k e. says ∙ refused-with body found end k .1 e in
       record {
-        pastEnd = (λ e. ends-past (allFields body) body 0 .0 (refused-with end 3 found .0 (sym parsed ∙ e)), λ h. parsed ∙ refused-with end 3 found .1 (ends-past (allFields body) body 0 .1 h));
-        notUtf8 = (λ e. ends-wrong (allFields body) body 0 .0 (refused-with end 4 found .0 (sym parsed ∙ e)), λ h. parsed ∙ refused-with end 4 found .1 (ends-wrong (allFields body) body 0 .1 h));
-        numbers = λ n e. number-of end n found (sym parsed ∙ e) (ends-so (allFields body) body 0);
+        pastEnd = (λ e. ends-past (allFields body) body 0 .0 (from 3 e), λ h. to 3 (ends-past (allFields body) body 0 .1 h));
+        notUtf8 = (λ e. ends-wrong (allFields body) body 0 .0 (from 4 e), λ h. to 4 (ends-wrong (allFields body) body 0 .1 h));
+        numbers = λ n e. number-of body found end n (sym says ∙ e) (ends-so (allFields body) body 0);
         taken = taken;
-        said = said;
+        said = λ h. said (taken .0 h);
       }

@@ -1,68 +1,21 @@
--- The round trips, for any list of fields: one induction each.
+-- What was read of any list of fields is laid anew as it was: one induction.
 use mathlib.Core.Path.{_≡_, refl, _∙_, ap, sym}
 use mathlib.Core.Bool.{Bool, true, false}
 use mathlib.Core.List.{List, [], _∷_, _++_, append-assoc}
-use Prim.Native.Nat.{ℕ, zero, suc, _+_, _-_, _≤_, _<_}
+use Prim.Native.Nat.{ℕ, zero, suc, _+_, _≤_}
 use native.Mathlib.Omega.{arith}
-use lib.ListN.{length, take, drop, getD, length-append, length-drop, take-append-drop}
-use lib.Seq.{take-append-seam, drop-append-seam, drop-drop, getD-drop, length-take-le}
-use lib.Dec.{ltb, eqb}
-use borrow.Author.Tests.{eq-eqb, ne-eqb, lt-ltb, le-ltb, ltb-false}
+use lib.ListN.{length, take, drop, getD, take-append-drop}
+use lib.Seq.{drop-drop, length-take-le}
+use lib.Dec.{ltb}
+use borrow.Author.Tests.{eq-eqb, ne-eqb, ltb-false}
 use Rattle.wing_node.specs.Bool.{if}
-use Rattle.wing_node.specs.Utf8.{utf8}
-use Rattle.wing_node.specs.Field.{big, bytesOf}
+use Rattle.wing_node.specs.Field.{bytesOf}
 use Rattle.wing_node.specs.Cursor.{Field, number, string, size, content, right, fault, valueOf, begins, from, cursor, fieldRead, readAt, reads, after}
-use Rattle.wing_node.specs.Laid.{held, heldAll, laid, laidAll, Fits, FitsAll, none, more, numberOf, readings, contents}
+use Rattle.wing_node.specs.Laid.{held, heldAll, laid, laidAll, contents}
 use Rattle.wing_node.specs.declared.cursor.Cursor.{Cursor}
 use Rattle.wing_node.specs.declared.cursor.FieldRead.{FieldRead}
-use Rattle.wing_node.proofs.Bodies.Cases.{read-refused, read-there}
-use Rattle.wing_node.proofs.Bodies.Fields.{after-refused}
+use Rattle.wing_node.proofs.Bodies.Cases.{read-refused}
 use Rattle.wing_node.proofs.Numerals.Numbers.{Digits, digits-take, digits-drop, digits-number}
-
--- one field, laid before a rest
-laid-size : (f : Field) (v rest : List ℕ) → Fits f v → size f (laid f v ++ rest) ≡ length (laid f v)
-unfolding laid size
-laid-size (number w) v rest h = sym h
-laid-size string v rest h = omega arith
-
-laid-right : (f : Field) (v rest : List ℕ) → Fits f v → right f (laid f v ++ rest) ≡ true
-unfolding laid right content
-laid-right (number w) v rest h = refl
-laid-right string v rest h = ap utf8 (take-append-seam v rest) ∙ h
-
-laid-value : (f : Field) (v rest : List ℕ) → Fits f v → valueOf f (laid f v ++ rest) ≡ numberOf f v
-unfolding laid valueOf numberOf
-laid-value (number w) v rest h = rw (← h, take-append-seam)
-laid-value string v rest h = refl
-
-laid-read : (f : Field) (v front rest : List ℕ) → Fits f v →
-    readAt f (front ++ (laid f v ++ rest)) (cursor (length front) 0) ≡
-    fieldRead (numberOf f v) (begins f (length front)) (cursor (length front + length (laid f v)) 0)
-laid-read f v front rest h =
-    let body = front ++ (laid f v ++ rest) in
-    let seam : drop (length front) body ≡ laid f v ++ rest = drop-append-seam front (laid f v ++ rest) in
-    let fits : size f (drop (length front) body) ≤ length body - length front =
-    rw (seam, laid-size f v rest h) (simp length-append (omega arith)) in
-    let good : right f (drop (length front) body) ≡ true = rw seam (laid-right f v rest h) in
-    read-there f body (cursor (length front) 0) refl fits good ∙ rw (seam, laid-size f v rest h, laid-value f v rest h)
-
--- what is laid reads back, whatever stands before and after it
-pub reads-laid : {fs : List Field} {vs : List (List ℕ)} (front rest : List ℕ) → FitsAll fs vs →
-    (reads fs (front ++ (laidAll fs vs ++ rest)) (cursor (length front) 0) ≡ readings fs vs (length front)) ×
-    (after fs (front ++ (laidAll fs vs ++ rest)) (cursor (length front) 0) ≡ cursor (length front + length (laidAll fs vs)) 0)
-unfolding reads laidAll readings after
-reads-laid front rest none = let e : length front + 0 ≡ length front = omega arith in (refl, rw e)
-reads-laid front rest (more {f} {v} {fs} {vs} h hs) =
-    let tail = laidAll fs vs in
-    let next = length front + length (laid f v) in
-    let read = fieldRead (numberOf f v) (begins f (length front)) (cursor next 0) in
-    let apart : front ++ ((laid f v ++ tail) ++ rest) ≡ (front ++ laid f v) ++ (tail ++ rest) = simp append-assoc in
-    let first : readAt f (front ++ ((laid f v ++ tail) ++ rest)) (cursor (length front) 0) ≡ read =
-    rw append-assoc (laid-read f v front (tail ++ rest) h) in
-    let others = rw length-append at (reads-laid (front ++ laid f v) rest hs) in (
-      rw first (rw apart (ap (λ l. read ∷ l) (others .0))),
-      rw first (rw apart (others .1 ∙ ap (λ n. cursor n 0) (simp length-append (omega arith)))),
-    )
 
 -- a field that is not refused is there, and is laid anew as it was
 not-short : (b g : Bool) → _≡_ {A = ℕ} (if b 4 (if g 0 5)) 0 → b ≡ false

@@ -1,19 +1,19 @@
 -- Fields that stand at the front of bytes, and what a cursor that reads them comes to.
-use mathlib.Core.Path.{_≡_, refl, _∙_, ap, sym}
+use mathlib.Core.Path.{_≡_, refl, ap, sym}
 use mathlib.Core.Bool.{Bool, true, false}
 use mathlib.Core.Logic.{_↔_, _⊎_, inl, inr}
 use mathlib.Core.List.{List, [], _∷_, _++_}
 use Prim.Native.Nat.{ℕ, zero, suc, _+_, _-_, _≤_, _<_}
 use native.Mathlib.Omega.{arith}
-use lib.Dec.{ltb, eqb}
-use lib.ListN.{length, take, drop, length-drop}
+use lib.Dec.{ltb}
+use lib.ListN.{length, drop, length-drop}
 use lib.Seq.{drop-drop}
-use borrow.Author.Tests.{eq-eqb, ne-eqb, lt-ltb, le-ltb, ltb-true, ltb-false}
+use borrow.Author.Tests.{eq-eqb, ne-eqb, le-ltb, ltb-true, ltb-false}
 use Rattle.wing_node.specs.Bool.{if}
-use Rattle.wing_node.specs.Cursor.{Field, number, string, size, right, fault, valueOf, begins, cursor, from, stopped, fieldRead, nothing, readAt, reads, after}
+use Rattle.wing_node.specs.Cursor.{Field, number, size, right, fault, valueOf, begins, cursor, from, fieldRead, readAt, reads, after}
+use Rattle.wing_node.specs.Definition.{times}
 use Rattle.wing_node.specs.Standing.{Whole, PastEnd, NotUtf8, extent, beyond, Stand, none, more, StopsAt}
 use Rattle.wing_node.specs.declared.cursor.Cursor.{Cursor}
-use Rattle.wing_node.specs.declared.cursor.FieldRead.{FieldRead}
 use Rattle.wing_node.proofs.Bodies.Cases.{read-there}
 use Rattle.wing_node.proofs.Bodies.Fields.{after-append, after-refused}
 
@@ -163,3 +163,21 @@ extent-parts (f ∷ fs) gs s =
     let t = drop (size f s) s in
     let e : size f s + (extent fs t + extent gs (beyond fs t)) ≡ size f s + extent fs t + extent gs (beyond fs t) = omega arith in
     rw (extent-parts fs gs t, e, drop-drop)
+
+pub stand-join : (fs gs : List Field) (s : List ℕ) → Stand fs s → Stand gs (beyond fs s) → Stand (fs ++ gs) s
+unfolding extent
+stand-join [] gs s none k = k
+stand-join (f ∷ fs) gs s (more w r h) k = more w r (stand-join fs gs (drop (size f s) s) h (rw drop-drop k))
+
+pub beyond-parts : (fs gs : List Field) (s : List ℕ) → beyond (fs ++ gs) s ≡ beyond gs (beyond fs s)
+beyond-parts fs gs s = rw (extent-parts fs gs s) (sym (drop-drop (extent gs (beyond fs s)) (extent fs s) s))
+
+-- of fields that stand count times, so do the first n, and the next
+pub times-stand : (fs : List Field) (count n : ℕ) (s : List ℕ) → n < count → Stand (times count fs) s → Stand (times n fs) s × Stand fs (beyond (times n fs) s)
+unfolding times extent
+times-stand fs zero n s l h = absurd (omega arith)
+times-stand fs (suc count) zero s l h = (none, stand-parts fs (times count fs) s h .0)
+times-stand fs (suc count) (suc n) s l h =
+    let p = stand-parts fs (times count fs) s h in
+    let q = times-stand fs count n (beyond fs s) (omega arith) (p .1) in
+    (stand-join fs (times n fs) s (p .0) (q .0), rw beyond-parts (q .1))

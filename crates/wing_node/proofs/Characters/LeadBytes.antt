@@ -1,13 +1,14 @@
 -- The rows that a byte begins, and what the code decides of a lead byte: one test, computed at each of 256 bytes.
 use Prim.Native.Nat.{ℕ, _-_, _<_}
-use mathlib.Core.Bool.{Bool}
-use mathlib.Core.Path.{_≡_}
+use mathlib.Core.Bool.{Bool, true}
+use mathlib.Core.Path.{_≡_, ap, subst}
 use mathlib.Core.List.{List, [], _∷_}
 use lib.Count.{leadingZeros}
 use lib.Dec.{T, eqb, ltb, eqb→eq}
 use lib.ListN.{take, drop, replicate}
+use borrow.Author.Tests.{ne-eqb}
 use Rattle.wing_node.specs.Bool.{if}
-use Rattle.wing_node.specs.Utf8.{Range, utf8Tail, chars, holds, begins, firstThat, rowOf, leadLength, second}
+use Rattle.wing_node.specs.Utf8.{Range, utf8Tail, chars, holds, begins, firstThat, rowOf, leadLength, onesIn, class, classLength, ClassesHold, second}
 use Rattle.wing_node.proofs.Below.{both, both-left, both-right, below}
 use Rattle.wing_node.proofs.Characters.Rows.{alone, same, same-eq}
 
@@ -17,6 +18,10 @@ leads b row = begins (take 1 row) (b ∷ [])
 -- what the grammar has after a lead byte
 abbrev pub rest : ℕ → List Range
 rest b = if (ltb (leadLength b) 2) [] (second b ∷ replicate (leadLength b - 2) utf8Tail)
+
+-- the class gives the length, of a byte that begins a character
+abbrev classed : ℕ → Bool
+classed b = if (eqb (leadLength b) 0) true (eqb (leadLength b) (classLength (class b)))
 
 -- what the code decides
 abbrev pub byOnes : ℕ → ℕ → ℕ
@@ -32,17 +37,20 @@ highOf b = if (eqb b 0xed) 0x9f (if (eqb b 0xf4) 0x8f 0xbf)
 pub record Lead (b : ℕ) : Type 0 where
   pub one : T (alone (leads b) chars)
   pub follows : drop 1 (rowOf b) ≡ rest b
-  pub long : byOnes (leadingZeros 8 (255 - b)) b ≡ leadLength b
+  pub ones : leadingZeros 8 (255 - b) ≡ class b
+  pub right : T (classed b)
+  pub long : byOnes (class b) b ≡ leadLength b
   pub lowest : lowOf b ≡ second b .low
   pub highest : highOf b ≡ second b .high
 
 agrees : ℕ → Bool
 agrees b =
     both (alone (leads b) chars) (both (same (drop 1 (rowOf b)) (rest b))
-    (both (eqb (byOnes (leadingZeros 8 (255 - b)) b) (leadLength b)) (both (eqb (lowOf b) (second b .low)) (eqb (highOf b) (second b .high)))))
+    (both (eqb (leadingZeros 8 (255 - b)) (class b)) (both (classed b)
+    (both (eqb (byOnes (class b) b) (leadLength b)) (both (eqb (lowOf b) (second b .low)) (eqb (highOf b) (second b .high)))))))
 
 computed : (b : ℕ) → b < 256 → T (agrees b)
-unfolding agrees leadingZeros holds begins firstThat rowOf leadLength second
+unfolding agrees leadingZeros holds begins firstThat rowOf leadLength onesIn class second
 computed = below agrees 256 tt
 
 pub lead : (b : ℕ) → b < 256 → Lead b
@@ -51,11 +59,18 @@ lead b h =
     let t = computed b h in
     let u = both-right (alone (leads b) chars) _ t in
     let v = both-right (same (drop 1 (rowOf b)) (rest b)) _ u in
-    let w = both-right (eqb (byOnes (leadingZeros 8 (255 - b)) b) (leadLength b)) _ v in
+    let w = both-right (eqb (leadingZeros 8 (255 - b)) (class b)) _ v in
+    let x = both-right (classed b) _ w in
+    let y = both-right (eqb (byOnes (class b) b) (leadLength b)) _ x in
     record {
       one = both-left (alone (leads b) chars) _ t;
       follows = same-eq (drop 1 (rowOf b)) (rest b) (both-left (same (drop 1 (rowOf b)) (rest b)) _ u);
-      long = eqb→eq _ _ (both-left (eqb (byOnes (leadingZeros 8 (255 - b)) b) (leadLength b)) _ v);
-      lowest = eqb→eq _ _ (both-left (eqb (lowOf b) (second b .low)) _ w);
-      highest = eqb→eq _ _ (both-right (eqb (lowOf b) (second b .low)) _ w);
+      ones = eqb→eq _ _ (both-left (eqb (leadingZeros 8 (255 - b)) (class b)) _ v);
+      right = both-left (classed b) _ w;
+      long = eqb→eq _ _ (both-left (eqb (byOnes (class b) b) (leadLength b)) _ x);
+      lowest = eqb→eq _ _ (both-left (eqb (lowOf b) (second b .low)) _ y);
+      highest = eqb→eq _ _ (both-right (eqb (lowOf b) (second b .low)) _ y);
     }
+
+pub classes-hold : ClassesHold
+classes-hold b h n = eqb→eq _ _ (subst T (ap (λ q. if q true (eqb (leadLength b) (classLength (class b)))) (ne-eqb (leadLength b) 0 n)) (lead b h .right))
