@@ -5,3 +5,4 @@ pub mod Sizes
 pub mod Totals
 pub mod Asks
 pub mod Packets
+pub mod Results

@@ -8,6 +8,7 @@ use lib.ListN.{length, drop}
 use Rattle.wing_wire.specs.State.{soundState}
 use Rattle.wing_wire.specs.Stream.{Run, advanceOf, released, Fed, feedOf}
 use Rattle.wing_wire.specs.Reader.{Event, eventOf, nextOf, eventIn}
+use Rattle.wing_wire.specs.Range.{AreBytes, PendingByte}
 use Rattle.wing_wire.specs.declared.state.State.{State}
 use Rattle.wing_wire.specs.declared.unit.Answer.the-variants.{More}
 
@@ -39,6 +40,18 @@ module _ {M : Type 0} (h : ℤ → Event → M → M) where
   -- so it is with every next call that is not sent back
   abbrev pub Repeated : Type 0
   Repeated = (s : State) (bytes : List ℕ) (m : M) → Accepted s bytes → NextOfFeed s bytes m
+
+  -- next calls one after the other, each on the state that the one before left and the bytes that it did not take, until one answers
+  -- more; every other answer is handed on. x is what is left
+  pub data Nexts : State → List ℕ → M → Fed M → Type 0 where
+    ends : (s : State) (bytes : List ℕ) (m : M) → nextOf s bytes .answer ≡ More → Nexts s bytes m (fedState (nextOf s bytes .state) m)
+    goes-on : (s : State) (bytes : List ℕ) (m : M) (x : Fed M) → (nextOf s bytes .answer ≡ More → ⊥) →
+        Nexts (nextOf s bytes .state) (drop (nextOf s bytes .taken) bytes) (h (nextOf s bytes .state .control .node) (eventIn (nextOf s bytes)) m) x → Nexts s bytes m x
+
+  -- 01: feed runs next until 'more': there is such a row of next calls, and it leaves what the feed leaves. A pending byte is a byte
+  abbrev pub UntilMore : Type 0
+  UntilMore = (s : State) (bytes : List ℕ) (m : M) → Accepted s bytes → PendingByte (s .control .escape .pending) → AreBytes bytes →
+      Nexts s bytes m (feedEvents (fedState s m) bytes)
 
 -- the core's answer, bytes taken and control are those of the next call; its store holds the string or body at its front, and is
 -- next's store once these are given out

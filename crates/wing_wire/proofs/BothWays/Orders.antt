@@ -5,13 +5,13 @@ use mathlib.Core.Path.{_≡_, refl, sym, _∙_, ap, subst}
 use mathlib.Core.List.{List}
 use lib.Dec.{ltb, leb}
 use lib.IntN.{ℤ}
-use lib.ListN.{length, take, drop}
+use lib.ListN.{length, drop}
 use lib.Seq.{take-append-seam}
 use borrow.Author.Tests.{leb-true}
 use Rattle.wing_node.specs.Signed.{InBits}
 use Rattle.wing_node.specs.Utf8.{utf8}
 use Rattle.wing_node.specs.Value.{NodeValue, string}
-use Rattle.wing_wire.specs.State.{soundState}
+use Rattle.wing_wire.specs.State.{freshState, soundState}
 use Rattle.wing_wire.specs.Write.{Wrote, wrote, writeOf}
 use Rattle.wing_wire.specs.Command.{setBytes, setString}
 use Rattle.wing_wire.specs.Reader.{nextOf}
@@ -21,7 +21,13 @@ use Rattle.wing_wire.specs.SetOrders.{AtRest, ReadBack, ReadsAsSet}
 use Rattle.wing_wire.specs.declared.state.State.{State}
 use Rattle.wing_wire.specs.declared.write.Written.{Written}
 use Rattle.wing_wire.proofs.Reading.Branches.{branch}
+use Rattle.wing_wire.proofs.Reading.Sound.{fresh-sound}
 use Rattle.wing_wire.proofs.BothWays.RoundTrip.{round-trip}
+
+-- the fresh state is at rest
+pub fresh-at-rest : AtRest freshState
+unfolding freshState
+fresh-at-rest = record { sound = fresh-sound; store = refl; unescaped = refl; pending = refl; between = refl }
 
 -- a state at rest by its parts
 by-parts : (s : State) → AtRest s → s ≡ calmState (s .control .escape .channel) (s .control .node) (s .store)
