@@ -21,6 +21,10 @@ unfoldable pub by : {A : Type 0} → List Line → A → Result A
 by [] a = ok a
 by (l ∷ ls) a = if (l .applies) (refused (l .number)) (by ls a)
 
+-- whether the lines send a call back, and with which number
+abbrev pub sends : List Line → Result (Unit {0})
+sends lines = by lines tt
+
 -- a call, by what it came to: that is what its lines have, and sent back it leaves all as it was
 pub record Answers {A : Type 0} (lines : List Line) (given : A) (came : Result A) (AsItWas : Type 0) : Type 0 where
   pub result : came ≡ by lines given

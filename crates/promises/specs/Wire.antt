@@ -2,7 +2,7 @@
 use Prim.Native.Nat.{ℕ, _+_}
 use mathlib.Core.Bool.{Bool, not}
 use mathlib.Core.Path.{_≡_}
-use mathlib.Core.List.{List, [], _∷_}
+use mathlib.Core.List.{List, [], _∷_, _++_}
 use lib.Dec.{ltb, leb, eqb}
 use lib.IntN.{ℤ}
 use lib.ListN.{length, take, drop}
@@ -13,18 +13,25 @@ use Rattle.wing_node.specs.Value.{NodeValue, string}
 use Rattle.wing_wire.specs.State.{soundState}
 use Rattle.wing_wire.specs.Command.{setBytes}
 use Rattle.wing_wire.specs.Meter.{meterRequest, readings}
-use Rattle.wing_wire.specs.Reader.{refusedNext}
+use Rattle.wing_wire.specs.Reader.{Event, eventIn, refusedNext}
+use Rattle.wing_wire.specs.Repeated.{fedState, feedEvents}
 use Rattle.wing_wire.specs.Answers.{writtenResult, MeterRequest, requestedResult, MeterPacket, metersResult}
 use Rattle.wing_wire.specs.SetOrders.{ReadsAsSet}
 use Rattle.wing_wire.specs.declared.state.State.{State}
+use Rattle.wing_wire.specs.declared.state.Pending.the-variants.{None}
+use Rattle.wing_wire.specs.declared.state.Token.the-variants.{Between}
+use Rattle.wing_wire.specs.declared.unit.Answer.the-variants.{More, Refused as Unread}
+use Rattle.wing_wire.specs.declared.reader.Reply.{Reply}
 use Rattle.wing_wire.specs.declared.write.Written.{Written}
-use Rattle.wing_wire.specs.declared.write.Written.the-variants.{Bytes, Refused}
+use Rattle.wing_wire.specs.declared.write.Written.the-variants.{Bytes}
 use Rattle.wing_wire.specs.declared.meter.Meter.{Meter}
 use Rattle.wing_wire.specs.declared.meter.Requested.{Requested}
 use Rattle.wing_wire.specs.declared.meter.Requested.the-variants.{Bytes as Asks}
 use Rattle.wing_wire.specs.declared.meter.MetersRead.{MetersRead}
 use Rattle.wing_wire.specs.declared.meter.MetersRead.the-variants.{Readings}
-use Rattle.promises.specs.Lines.{Line, _gives_, by, Answers}
+use Rattle.wing_mirror.specs.Rows.{In}
+use Rattle.wing_mirror.specs.Machine.{Reading, reading}
+use Rattle.promises.specs.Lines.{Line, _gives_, sends, Answers}
 
 -- ---- 01's lines, call by call, in the order in which they apply
 
@@ -51,6 +58,26 @@ packetLines p out =
     (ltb (length p) 4 gives 13) ∷ (ltb 8192 (length p) gives 13) ∷ (ltb (length out) (length (readings (drop 4 p))) gives 9) ∷ []
 
 -- ---- what is promised
+
+-- readings so far, and one more
+abbrev pub noted : ℤ → Event → List Reading → List Reading
+noted node e rs = rs ++ (reading node e ∷ [])
+
+-- a next call
+pub record NextCall (s : State) (bytes : List ℕ) (reply : Reply) : Type 0 where
+  -- demand 1: 8, 14, and then nothing is taken and the state is as it was
+  pub sent-back : (n : ℕ) → sends (nextLines s bytes) ≡ refused n → reply ≡ refusedNext n s
+  -- else the decoder's own refusals are 1, 2 and 3, each with its token taken; when they come, specs/Tokens of the wire says
+  pub refusals : sends (nextLines s bytes) ≡ ok tt → (n : ℕ) → reply .answer ≡ Unread n → In n (1 ∷ 2 ∷ 3 ∷ []) × (reply .state .control .token ≡ Between)
+  -- demand 2: 'more' only when all bytes are taken and nothing is pending
+  pub more : reply .answer ≡ More → (reply .taken ≡ length bytes) × (reply .state .control .escape .pending ≡ None)
+  -- 01: feed runs next until 'more': where the reply says so, the feed of these bytes leaves its state and gives nothing more
+  pub ends : sends (nextLines s bytes) ≡ ok tt → reply .answer ≡ More → (rs : List Reading) →
+      feedEvents noted (fedState noted s rs) bytes ≡ fedState noted (reply .state) rs
+  -- any other event comes next in the feed, at the node that is current; then come those of the bytes that were not taken
+  pub again : sends (nextLines s bytes) ≡ ok tt → (reply .answer ≡ More → ⊥) → (rs : List Reading) →
+      feedEvents noted (fedState noted s rs) bytes ≡
+      feedEvents noted (fedState noted (reply .state) (noted (reply .state .control .node) (eventIn reply) rs)) (drop (reply .taken) bytes)
 
 -- a command: sent back as its lines have it, with the output as it was and what else must stay; else these bytes at the front of the output,
 -- whose bytes past them are not altered

@@ -9,6 +9,7 @@ ghost use Rattle.wing_mirror.specs.Machine.{Reading, reading};
 ghost use Rattle.wing_mirror.specs.History.{Agreement, Equality, Rebuilding, Histories};
 
 pub mod mirror;
+pub mod node;
 pub mod wire;
 
 // Demand 2. The bytes of every accepted set order, read while unescaped, between tokens and with no byte pending, give

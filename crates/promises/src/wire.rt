@@ -3,12 +3,20 @@ ghost use mathlib.Core.Path.{_≡_};
 ghost use Rattle.wing_node.specs.Value.{integer as integerOf, float as floatOf, string as stringOf};
 ghost use Rattle.wing_wire.specs.Command.{setBytes, idBytes, suffixBytes, requestBytes};
 ghost use Rattle.wing_wire.specs.Meter.{keepAlives};
-ghost use Rattle.promises.specs.Wire.{commandLines, stringLines, CommandCall, SetOrder, MeterCall, PacketCall};
+ghost use Rattle.promises.specs.Wire.{NextCall, commandLines, stringLines, CommandCall, SetOrder, MeterCall, PacketCall};
 use wing_wire::meter::Meter;
 use wing_wire::meter::MetersRead;
 use wing_wire::meter::Requested;
+use wing_wire::reader::Reply;
 use wing_wire::set::Suffix;
+use wing_wire::state::State;
 use wing_wire::write::Written;
+
+pub fn next(s: State, bytes: &[u8]) -> Reply
+    ensures { λ r. ⌜ NextCall s (now (bytes .entry)) r ⌝ }
+{
+    wing_wire::reader::next(s, bytes)
+}
 
 pub fn set_int(out: &mut [u8], id: i32, value: i32) -> Written
     ensures { λ r. ⌜ SetOrder (commandLines (setBytes id (integerOf value)) (now (out .entry))) id (integerOf value) (now (out .entry)) r (now (out .exit)) ⌝ }

@@ -1,0 +1,67 @@
+-- What is promised of a next call, as specs/Wire states it.
+use Prim.Native.Nat.{ℕ, _≤_}
+use mathlib.Core.Bool.{Bool, true, false, not}
+use mathlib.Core.Path.{_≡_, refl, sym, ap}
+use mathlib.Core.List.{List, [], _∷_}
+use native.Mathlib.Omega.{arith}
+use borrow.Author.Tests.{leb-true}
+use lib.Dec.{leb}
+use lib.ListN.{length}
+use Rattle.wing_node.specs.Bool.{if}
+use Rattle.wing_node.specs.Result.{Result, ok, refused}
+use Rattle.wing_wire.specs.State.{soundState}
+use Rattle.wing_wire.specs.Stream.{isMore, advanceOf}
+use Rattle.wing_wire.specs.Reader.{nextOf, nextFrom, refusedNext}
+use Rattle.wing_wire.specs.Repeated.{Accepted}
+use Rattle.wing_wire.specs.declared.state.State.{State}
+use Rattle.wing_wire.specs.declared.state.Pending.the-variants.{None}
+use Rattle.wing_wire.specs.declared.state.Token.the-variants.{Between}
+use Rattle.wing_wire.specs.declared.reader.Reply.{Reply}
+use Rattle.wing_wire.specs.declared.unit.Answer.{Answer}
+use Rattle.wing_wire.specs.declared.unit.Answer.the-variants.{More, Refused as Unread}
+use Rattle.wing_wire.proofs.Reading.Branches.{branch}
+use Rattle.wing_wire.proofs.Reading.Steps.{next-more}
+use Rattle.wing_wire.proofs.Reading.Repeats.{accepted, repeated}
+use Rattle.wing_mirror.specs.Rows.{In}
+use Rattle.promises.specs.Lines.{_gives_, by, sends}
+use Rattle.promises.specs.Wire.{nextLines, noted, NextCall}
+use Rattle.promises.proofs.Reading.{advance-says}
+
+sent-back : (s : State) (bytes : List ℕ) (n : ℕ) → sends (nextLines s bytes) ≡ refused n → nextOf s bytes ≡ refusedNext n s
+unfolding nextOf by
+sent-back s bytes n = go (soundState s) (leb (length bytes) 65536)
+  where
+    go : (a b : Bool) → sends ((not a gives 8) ∷ (not b gives 14) ∷ []) ≡ refused n →
+        if a (if b (nextFrom (advanceOf (s .control) (s .store) bytes)) (refusedNext 14 s)) (refusedNext 8 s) ≡ refusedNext n s
+    go true true e = absurd (let z : _≡_ {A = ℕ} 0 1 = cc in omega arith)
+    go true false e = let z : 14 ≡ n = cc in ap (λ k. refusedNext k s) z
+    go false b e = let z : 8 ≡ n = cc in ap (λ k. refusedNext k s) z
+
+-- where no line applies, the state is sound and the bytes are few enough
+passed : (s : State) (bytes : List ℕ) → length (s .store) ≡ 4096 → sends (nextLines s bytes) ≡ ok tt → Accepted s bytes
+unfolding by
+passed s bytes full = go (soundState s) refl (leb (length bytes) 65536) refl
+  where
+    go : (a : Bool) → soundState s ≡ a → (b : Bool) → leb (length bytes) 65536 ≡ b → sends ((not a gives 8) ∷ (not b gives 14) ∷ []) ≡ ok tt → Accepted s bytes
+    go true p true q e = record { sound = p; store = full; most = leb-true (length bytes) 65536 q }
+    go true p false q e = absurd (let z : _≡_ {A = ℕ} 0 1 = cc in omega arith)
+    go false p b q e = absurd (let z : _≡_ {A = ℕ} 0 1 = cc in omega arith)
+
+more-takes-all : (s : State) (bytes : List ℕ) → nextOf s bytes .answer ≡ More → (nextOf s bytes .taken ≡ length bytes) × (nextOf s bytes .state .control .escape .pending ≡ None)
+unfolding nextOf
+more-takes-all s bytes =
+    branch P (soundState s) _ _
+    (λ _. branch P (leb (length bytes) 65536) _ _ (λ _ e. next-more (s .control) (s .store) bytes (ap isMore e)) (λ _ e. absurd (let z : _≡_ {A = ℕ} 0 1 = cc in omega arith)))
+    (λ _ e. absurd (let z : _≡_ {A = ℕ} 0 1 = cc in omega arith))
+  where
+    P : Reply → Type 0
+    P r = r .answer ≡ More → (r .taken ≡ length bytes) × (r .state .control .escape .pending ≡ None)
+
+pub next-call : (s : State) (bytes : List ℕ) → length (s .store) ≡ 4096 → NextCall s bytes (nextOf s bytes)
+next-call s bytes full = record {
+  sent-back = sent-back s bytes;
+  refusals = λ e. rw (accepted s bytes (passed s bytes full e)) (λ n. advance-says (s .control) (s .store) bytes n);
+  more = more-takes-all s bytes;
+  ends = λ e m rs. repeated noted s bytes rs (passed s bytes full e) .more m;
+  again = λ e m rs. repeated noted s bytes rs (passed s bytes full e) .again m;
+}

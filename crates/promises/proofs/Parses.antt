@@ -1,0 +1,110 @@
+-- What is promised of the parser and of the item calls, as specs/Node states it: wing_node's laws, said of the answers.
+use Prim.Native.Nat.{ℕ, _≤_, _<_}
+use mathlib.Core.Path.{_≡_, refl, sym, _∙_}
+use mathlib.Core.Logic.{_↔_, _⊎_, inl, inr}
+use mathlib.Core.List.{List, [], _∷_}
+use native.Mathlib.Omega.{arith}
+use Rattle.wing_node.specs.Result.{Result, ok, refused}
+use Rattle.wing_node.specs.Definition.{definitionOf}
+use Rattle.wing_node.specs.Items.{beginOf, stepAt, itemNumbered}
+use Rattle.wing_node.specs.Answers.{DefinitionValues, ItemValues, begunResult, itemResult}
+use Rattle.wing_node.specs.InBody.{countIn, definitionIn, walkIn}
+use Rattle.wing_node.specs.Parsing.{parserSays, Takes, beginSays, stepOf, numberSays, Parsing, Beginning, Stepping, ByNumber, Definitions}
+use Rattle.wing_node.specs.declared.items.Walk.{Walk}
+use Rattle.wing_node.proofs.Bodies.Walks.{definitions}
+use Rattle.wing_mirror.specs.Rows.{In}
+use Rattle.promises.specs.Node.{Short, Unreadable, Whole, AsParsed, ParserCall, BeginCall, StepCall, ItemCall}
+use Rattle.promises.proofs.Lines.{given}
+
+-- 4 or 5 as a member of the list
+listed : (n : ℕ) (others : List ℕ) → (n ≡ 4) ⊎ (n ≡ 5) → In n (4 ∷ 5 ∷ others)
+listed n others (inl e) = inl e
+listed n others (inr e) = inr (inl e)
+
+module _ (body : List ℕ) where
+  p : Parsing body
+  p = definitions .parsing body
+
+  -- what is taken stands, and what stands is taken
+  pub whole-taken : Whole body → Takes body
+  whole-taken s = p .taken .1 s
+
+  pub parser-call : ParserCall body (definitionOf body)
+  parser-call = record {
+    refusals = record { past-end = p .pastEnd; not-utf8 = p .notUtf8; numbers = λ n e. listed n [] (p .numbers n e) };
+    taken = (λ e. p .taken .0 (record { definition = definitionIn body; says = e }), λ s. p .said (whole-taken s));
+  }
+
+  b : Beginning body
+  b = definitions .beginning body
+
+  pub begin-call : BeginCall body (beginOf body)
+  begin-call = record {
+    refusals = record {
+      past-end = (λ e. p .pastEnd .0 (b .turned 4 .0 e), λ s. b .turned 4 .1 (p .pastEnd .1 s));
+      not-utf8 = (λ e. p .notUtf8 .0 (b .turned 5 .0 e), λ s. b .turned 5 .1 (p .notUtf8 .1 s));
+      numbers = λ n e. listed n [] (p .numbers n (b .turned n .0 e));
+    };
+    taken = (λ e. begun-whole e, λ s. b .begun (whole-taken s));
+  }
+    where
+      begun-whole : beginSays body ≡ ok (walkIn body) → Whole body
+      begun-whole e = go (parserSays body) refl
+        where
+          go : (r : Result DefinitionValues) → parserSays body ≡ r → Whole body
+          go (ok d) q = p .taken .0 (record { definition = d; says = q })
+          go (refused n) q = absurd (given (walkIn body) n (sym e ∙ b .turned n .1 q))
+
+  pub step-call : (w : Walk) → StepCall body w (stepAt body (w .at) (w .left) (w .kind))
+  step-call w = let s = definitions .stepping body w in record {
+    nothing = s .nothing;
+    past-end = s .pastEnd;
+    not-utf8 = s .notUtf8;
+    numbers = λ n e. listed n [] (s .numbers n e);
+    given = s .given;
+    said = s .said;
+    moved = s .moved;
+    stays = s .stays;
+  }
+
+  module _ (number : ℕ) where
+    i : ByNumber body number
+    i = definitions .byNumber body number
+
+    -- a refusal that is not 14 is the parser's
+    from-parser : (k : ℕ) → (k ≡ 14 → ⊥) → (numberSays body number ≡ refused k) ↔ (parserSays body ≡ refused k)
+    from-parser k n = (λ e. go (i .turned k .0 e), λ e. i .turned k .1 (inl e))
+      where
+        go : (parserSays body ≡ refused k) ⊎ (Takes body × (countIn body ≤ number) × (k ≡ 14)) → parserSays body ≡ refused k
+        go (inl e) = e
+        go (inr t) = absurd (n (t .2))
+
+    item-numbers : (k : ℕ) → numberSays body number ≡ refused k → In k (4 ∷ 5 ∷ 14 ∷ [])
+    item-numbers k e = go (i .turned k .0 e)
+      where
+        go : (parserSays body ≡ refused k) ⊎ (Takes body × (countIn body ≤ number) × (k ≡ 14)) → In k (4 ∷ 5 ∷ 14 ∷ [])
+        go (inl e) = listed k (14 ∷ []) (p .numbers k e)
+        go (inr t) = inr (inr (inl (t .2)))
+
+    item-over : (numberSays body number ≡ refused 14) ↔ (Whole body × (countIn body ≤ number))
+    item-over = (λ e. go (i .turned 14 .0 e), λ s. i .turned 14 .1 (inr (whole-taken (s .0), s .1, refl)))
+      where
+        other : _≡_ {A = ℕ} 14 4 ⊎ _≡_ {A = ℕ} 14 5 → ⊥
+        other (inl e) = omega arith
+        other (inr e) = omega arith
+
+        go : (parserSays body ≡ refused 14) ⊎ (Takes body × (countIn body ≤ number) × _≡_ {A = ℕ} 14 14) → Whole body × (countIn body ≤ number)
+        go (inl e) = absurd (other (p .numbers 14 e))
+        go (inr t) = (p .taken .0 (t .0), t .1)
+
+    pub item-call : ItemCall body number (itemNumbered body number)
+    item-call = record {
+      refusals = record {
+        past-end = (λ e. p .pastEnd .0 (from-parser 4 (λ z. omega arith) .0 e), λ s. from-parser 4 (λ z. omega arith) .1 (p .pastEnd .1 s));
+        not-utf8 = (λ e. p .notUtf8 .0 (from-parser 5 (λ z. omega arith) .0 e), λ s. from-parser 5 (λ z. omega arith) .1 (p .notUtf8 .1 s));
+        numbers = item-numbers;
+      };
+      over = item-over;
+      given = λ s l. i .given (whole-taken s) l;
+      said = λ s l. i .said (whole-taken s) l;
+    }

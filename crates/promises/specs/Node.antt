@@ -1,0 +1,72 @@
+-- What is promised of the parser and of the item calls, by the body and the answer. The fields of a body and what each holds are told from
+-- its bytes (wing_node's specs/InBody); which of them stand in it, specs/Standing says.
+use Prim.Native.Nat.{ℕ, _+_, _-_, _≤_, _<_}
+use mathlib.Core.Path.{_≡_}
+use mathlib.Core.Bool.{false}
+use mathlib.Core.Logic.{_↔_, _⊎_}
+use mathlib.Core.List.{List, [], _∷_}
+use lib.ListN.{drop}
+use Rattle.wing_node.specs.Result.{Result, ok, refused}
+use Rattle.wing_node.specs.Types.{hasItems}
+use Rattle.wing_node.specs.Definition.{itemOf}
+use Rattle.wing_node.specs.Items.{walk}
+use Rattle.wing_node.specs.Standing.{PastEnd, NotUtf8, Stand, StopsAt, extent}
+use Rattle.wing_node.specs.Answers.{none, parsedResult, begunResult, itemResult}
+use Rattle.wing_node.specs.InBody.{countIn, allFields, definitionIn, walkIn, itemIn, itemInBody}
+use Rattle.wing_node.specs.Parsing.{Left, IsItem}
+use Rattle.wing_node.specs.declared.definition.Parsed.{Parsed}
+use Rattle.wing_node.specs.declared.definition.Item.{Item}
+use Rattle.wing_node.specs.declared.items.Walk.{Walk}
+use Rattle.wing_node.specs.declared.items.Step.{Step}
+use Rattle.wing_node.specs.declared.items.Begun.{Begun}
+use Rattle.wing_mirror.specs.Rows.{In}
+
+-- 01: definition field past the end, 4: some number of fields stand whole and good at the front, and the next one is not whole
+abbrev pub Short : List ℕ → Type 0
+Short body = StopsAt PastEnd (allFields body) body
+
+-- 01: definition string not UTF-8, 5: some stand, and the next one is whole and its string is not UTF-8
+abbrev pub Unreadable : List ℕ → Type 0
+Unreadable body = StopsAt NotUtf8 (allFields body) body
+
+-- all fields stand whole and good
+abbrev pub Whole : List ℕ → Type 0
+Whole body = Stand (allFields body) body
+
+-- a call that the parser's refusals decide: 4 and 5, exactly then, and no other number but these
+pub record AsParsed {A : Type 0} (body : List ℕ) (others : List ℕ) (came : Result A) : Type 0 where
+  pub past-end : (came ≡ refused 4) ↔ Short body
+  pub not-utf8 : (came ≡ refused 5) ↔ Unreadable body
+  pub numbers : (n : ℕ) → came ≡ refused n → In n (4 ∷ 5 ∷ others)
+
+-- from_bytes: 4 or 5, or the definition that the fields say, exactly where all stand
+pub record ParserCall (body : List ℕ) (answer : Parsed) : Type 0 where
+  pub refusals : AsParsed body [] (parsedResult body answer)
+  pub taken : (parsedResult body answer ≡ ok (definitionIn body)) ↔ Whole body
+
+-- items_begin: the parser's 4 or 5, or the walk at the first item with their count; types without items have count 0
+pub record BeginCall (body : List ℕ) (answer : Begun) : Type 0 where
+  pub refusals : AsParsed body [] (begunResult answer)
+  pub taken : (begunResult answer ≡ ok (walkIn body)) ↔ Whole body
+
+-- item_step, from any place
+pub record StepCall (body : List ℕ) (w : Walk) (answer : Step) : Type 0 where
+  -- 01: none when no items are left or the type has none
+  pub nothing : (itemResult body (answer .item) ≡ ok none) ↔ ((w .left ≡ 0) ⊎ (hasItems (w .kind) ≡ false))
+  -- else 4 or 5 as the fields of the item there stand
+  pub past-end : (itemResult body (answer .item) ≡ refused 4) ↔ (Left w × StopsAt PastEnd (itemOf (w .kind)) (drop (w .at) body))
+  pub not-utf8 : (itemResult body (answer .item) ≡ refused 5) ↔ (Left w × StopsAt NotUtf8 (itemOf (w .kind)) (drop (w .at) body))
+  pub numbers : (n : ℕ) → itemResult body (answer .item) ≡ refused n → In n (4 ∷ 5 ∷ [])
+  -- else the item there, and the walk goes past it
+  pub given : IsItem (itemResult body (answer .item)) ↔ (Left w × Stand (itemOf (w .kind)) (drop (w .at) body))
+  pub said : IsItem (itemResult body (answer .item)) → itemResult body (answer .item) ≡ ok (itemIn (w .kind) (drop (w .at) body))
+  pub moved : IsItem (itemResult body (answer .item)) → answer .next ≡ walk (w .at + extent (itemOf (w .kind)) (drop (w .at) body)) (w .left - 1) (w .kind)
+  -- a step that gives none, 4 or 5 leaves the walk as it was
+  pub stays : (IsItem (itemResult body (answer .item)) → ⊥) → answer .next ≡ w
+
+-- item_by_number: the body's 4 or 5, then 14 exactly for a number that is not below the count, else what the item of that number holds
+pub record ItemCall (body : List ℕ) (number : ℕ) (answer : Item) : Type 0 where
+  pub refusals : AsParsed body (14 ∷ []) (itemResult body answer)
+  pub over : (itemResult body answer ≡ refused 14) ↔ (Whole body × (countIn body ≤ number))
+  pub given : Whole body → number < countIn body → IsItem (itemResult body answer)
+  pub said : Whole body → number < countIn body → itemResult body answer ≡ ok (itemInBody body number)
