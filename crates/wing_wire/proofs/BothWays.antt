@@ -1,3 +1,3 @@
 -- What was written is read back: demand 2.
-pub mod Trips
+mod Trips
 pub mod RoundTrip

@@ -5,7 +5,7 @@ pub mod Zeros
 pub mod Powers
 pub mod Underway
 pub mod Clears
-pub mod Turns
+mod Turns
 pub mod Overs
 pub mod Pieces
 pub mod Inners
@@ -19,3 +19,6 @@ pub mod Handled
 pub mod Beside
 pub mod Few
 pub mod ByUnits
+pub mod Along
+pub mod Channels
+pub mod NextUnits

@@ -13,3 +13,5 @@ pub mod Command
 pub mod Meter
 pub mod Cases
 pub mod RoundTrip
+pub mod DecoderLaws
+pub mod WriterLaws
