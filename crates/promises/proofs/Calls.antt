@@ -23,7 +23,7 @@ use Rattle.wing_wire.specs.SetOrders.{ReadsAsSet}
 use Rattle.wing_wire.specs.Answers.{writtenResult}
 use Rattle.wing_wire.specs.declared.state.State.{State}
 use Rattle.wing_wire.specs.declared.write.Written.the-variants.{Bytes, Refused}
-use Rattle.wing_wire.proofs.Reading.Branches.{branch}
+use Rattle.wing_node.proofs.Branches.{branch}
 use Rattle.wing_wire.proofs.BothWays.Orders.{reads-as-set}
 use Rattle.wing_mirror.specs.Rows.{Table, Found, found, nothing}
 use Rattle.wing_mirror.specs.Record.{Entry, entry, entryIn, Typed}

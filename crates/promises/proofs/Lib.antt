@@ -1,7 +1,8 @@
-pub mod Typed
-pub mod Lines
+mod Typed
+mod Lines
 mod Reading
-pub mod Parses
-pub mod Nexts
-pub mod Writers
-pub mod Calls
+mod Parses
+mod Nexts
+mod Decodes
+mod Writers
+mod Calls

@@ -19,7 +19,7 @@ use Rattle.wing_wire.specs.declared.state.Token.the-variants.{Between}
 use Rattle.wing_wire.specs.declared.reader.Reply.{Reply}
 use Rattle.wing_wire.specs.declared.unit.Answer.{Answer}
 use Rattle.wing_wire.specs.declared.unit.Answer.the-variants.{More, Refused as Unread}
-use Rattle.wing_wire.proofs.Reading.Branches.{branch}
+use Rattle.wing_node.proofs.Branches.{branch}
 use Rattle.wing_wire.proofs.Reading.Steps.{next-more}
 use Rattle.wing_wire.proofs.Reading.Repeats.{accepted, repeated}
 use Rattle.wing_mirror.specs.Rows.{In}

@@ -27,7 +27,7 @@ use Rattle.wing_wire.specs.declared.escape.Unit.the-variants.{Nothing, Bare, Ap
 use Rattle.wing_wire.specs.declared.unit.Answer.{Answer}
 use Rattle.wing_wire.specs.declared.unit.Answer.the-variants.{More, Integer as anInteger, Float as aFloat, String as aString, Body as aBody, End as anEnd, Refused}
 use Rattle.wing_wire.specs.declared.unit.Taken.{Taken}
-use Rattle.wing_wire.proofs.Reading.Branches.{branch}
+use Rattle.wing_node.proofs.Branches.{branch}
 use Rattle.wing_wire.proofs.Reading.Pieces.{at, stays, run-on}
 use Rattle.wing_mirror.specs.Rows.{In}
 

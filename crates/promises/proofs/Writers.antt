@@ -23,7 +23,7 @@ use Rattle.wing_wire.specs.declared.meter.Meter.{Meter}
 use Rattle.wing_wire.specs.declared.meter.Requested.the-variants.{Bytes as Asks, Refused as Unrequested}
 use Rattle.wing_wire.specs.declared.meter.MetersRead.the-variants.{Readings, Refused as Unheard}
 use Rattle.wing_wire.specs.RoundTrip.{Settable}
-use Rattle.wing_wire.proofs.Reading.Branches.{branch}
+use Rattle.wing_node.proofs.Branches.{branch}
 use Rattle.wing_wire.proofs.BothWays.Orders.{reads-as-set, reads-as-string}
 use Rattle.promises.specs.Lines.{Line, _gives_, Answers}
 use Rattle.promises.specs.Wire.{Writes, CommandCall, commandLines, stringLines, SetOrder, MeterCall, PacketCall}

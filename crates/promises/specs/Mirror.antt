@@ -1,6 +1,6 @@
 -- What is promised of each call of the mirror, by its arguments, its answer and the lent buffers after it.
 use Prim.Native.Nat.{ℕ}
-use mathlib.Core.Bool.{Bool, not, true}
+use mathlib.Core.Bool.{not, true, false}
 use mathlib.Core.Path.{_≡_}
 use mathlib.Core.Logic.{_↔_}
 use mathlib.Core.List.{List, [], _∷_}
@@ -11,6 +11,7 @@ use Rattle.wing_node.specs.Result.{ok, refused}
 use Rattle.wing_node.specs.Value.{NodeValue}
 use Rattle.wing_wire.specs.State.{soundState}
 use Rattle.wing_wire.specs.Command.{setBytes}
+use Rattle.wing_wire.specs.Reader.{value}
 use Rattle.wing_wire.specs.SetOrders.{ReadsAsSet}
 use Rattle.wing_wire.specs.declared.state.State.{State}
 use Rattle.wing_wire.specs.declared.write.Written.{Written}
@@ -22,7 +23,7 @@ use Rattle.wing_mirror.specs.Answers.{lookupResult, recordResult, sameResult, f
 use Rattle.wing_mirror.specs.Lookups.{RecordOf}
 use Rattle.wing_mirror.specs.Counts.{none}
 use Rattle.wing_mirror.specs.Call.{feed, set, Step, tooLong, notText}
-use Rattle.wing_mirror.specs.Mirror.{fedAll}
+use Rattle.wing_mirror.specs.Mirror.{Tallied, keepEvent, fedAll}
 use Rattle.wing_mirror.specs.Recall.{recallBytes}
 use Rattle.wing_mirror.specs.History.{Mirror, Equal, feedOutcome, setOutcome, mirrorStep, Rebuilt}
 use Rattle.wing_mirror.specs.declared.answer.Counts.{Counts}
@@ -110,3 +111,7 @@ pub record RecordCall (t : Table) (number : ℕ) (reply : RecordRead) : Type 0 w
 pub record SameCall (t u : Table) (answer : Same) : Type 0 where
   pub result : sameResult answer ≡ by (sameLines t u) (sameTables t u)
   pub equal : usable t ≡ true → usable u ≡ true → (sameResult answer ≡ ok true ↔ Equal t u)
+
+-- within a feed: a value for which there is no place leaves the table as it was
+abbrev pub UnplacedStays : Type 0
+UnplacedStays = (node : ℤ) (v : NodeValue) (k : Tallied) → fits (entry node v) (k .table) ≡ false → keepEvent node (value v) k .table ≡ k .table

@@ -13,7 +13,7 @@ use Rattle.wing_node.specs.Items.{walk}
 use Rattle.wing_node.specs.Standing.{PastEnd, NotUtf8, Stand, StopsAt, extent}
 use Rattle.wing_node.specs.Answers.{none, parsedResult, begunResult, itemResult}
 use Rattle.wing_node.specs.InBody.{countIn, allFields, definitionIn, walkIn, itemIn, itemInBody}
-use Rattle.wing_node.specs.Parsing.{Left, IsItem}
+use Rattle.wing_node.specs.Parsing.{Left, IsItem, Walking}
 use Rattle.wing_node.specs.declared.definition.Parsed.{Parsed}
 use Rattle.wing_node.specs.declared.definition.Item.{Item}
 use Rattle.wing_node.specs.declared.items.Walk.{Walk}
@@ -70,3 +70,7 @@ pub record ItemCall (body : List ℕ) (number : ℕ) (answer : Item) : Type 0 wh
   pub over : (itemResult body answer ≡ refused 14) ↔ (Whole body × (countIn body ≤ number))
   pub given : Whole body → number < countIn body → IsItem (itemResult body answer)
   pub said : Whole body → number < countIn body → itemResult body answer ≡ ok (itemInBody body number)
+
+-- over a body whose fields all stand, the walk gives the item of each number in its turn, as many as the count, and then none
+abbrev pub Walks : Type 0
+Walks = (body : List ℕ) → Whole body → Walking body

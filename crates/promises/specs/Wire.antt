@@ -1,24 +1,32 @@
 -- What is promised of each call of the wire, by its arguments, its answer and the lent buffers after it.
-use Prim.Native.Nat.{ℕ, _+_}
-use mathlib.Core.Bool.{Bool, not}
+use Prim.Native.Nat.{ℕ, _+_, _<_, _≤_}
+use mathlib.Core.Bool.{Bool, true, not}
 use mathlib.Core.Path.{_≡_}
 use mathlib.Core.List.{List, [], _∷_, _++_}
 use lib.Dec.{ltb, leb, eqb}
 use lib.IntN.{ℤ}
-use lib.ListN.{length, take, drop}
+use lib.ListN.{length, take, drop, getD}
 use Rattle.wing_node.specs.Field.{big}
 use Rattle.wing_node.specs.Result.{Result, ok, refused}
 use Rattle.wing_node.specs.Utf8.{utf8}
 use Rattle.wing_node.specs.Value.{NodeValue, string}
-use Rattle.wing_wire.specs.State.{soundState}
+use Rattle.wing_wire.specs.State.{soundEscape, soundState}
+use Rattle.wing_wire.specs.Escape.{decodeOf, nextUnit}
+use Rattle.wing_wire.specs.Stream.{run}
+use Rattle.wing_wire.specs.Units.{settled}
 use Rattle.wing_wire.specs.Command.{setBytes}
 use Rattle.wing_wire.specs.Meter.{meterRequest, readings}
 use Rattle.wing_wire.specs.Reader.{Event, eventIn, refusedNext}
-use Rattle.wing_wire.specs.Repeated.{fedState, feedEvents}
+use Rattle.wing_wire.specs.Repeated.{Accepted, fedState, feedEvents, CoreGives}
 use Rattle.wing_wire.specs.Answers.{writtenResult, MeterRequest, requestedResult, MeterPacket, metersResult}
 use Rattle.wing_wire.specs.SetOrders.{ReadsAsSet}
 use Rattle.wing_wire.specs.declared.state.State.{State}
-use Rattle.wing_wire.specs.declared.state.Pending.the-variants.{None}
+use Rattle.wing_wire.specs.declared.state.Control.{Control}
+use Rattle.wing_wire.specs.declared.state.Escape.{Escape}
+use Rattle.wing_wire.specs.declared.state.Pending.the-variants.{None, Byte}
+use Rattle.wing_wire.specs.declared.escape.Unit.the-variants.{Nothing, Appended}
+use Rattle.wing_wire.specs.declared.escape.NextUnit.{NextUnit}
+use Rattle.wing_wire.specs.declared.stream.Advanced.{Advanced}
 use Rattle.wing_wire.specs.declared.state.Token.the-variants.{Between}
 use Rattle.wing_wire.specs.declared.unit.Answer.the-variants.{More, Refused as Unread}
 use Rattle.wing_wire.specs.declared.reader.Reply.{Reply}
@@ -78,6 +86,24 @@ pub record NextCall (s : State) (bytes : List ℕ) (reply : Reply) : Type 0 wher
   pub again : sends (nextLines s bytes) ≡ ok tt → (reply .answer ≡ More → ⊥) → (rs : List Reading) →
       feedEvents noted (fedState noted s rs) bytes ≡
       feedEvents noted (fedState noted (reply .state) (noted (reply .state .control .node) (eventIn reply) rs)) (drop (reply .taken) bytes)
+
+-- a state by its parts
+abbrev pub stateOf : Control → List ℕ → State
+stateOf c store = record { control = c; store = store }
+
+-- the core, over the control and the lent store of a state: what next gives from the same state and bytes, where it is not sent back
+abbrev pub AdvanceCall : State → List ℕ → Advanced → List ℕ → Type 0
+AdvanceCall s bytes answer store = Accepted s bytes → CoreGives (run answer store) s bytes
+
+-- decode_next
+pub record DecodeCall (e : Escape) (bytes : List ℕ) (at : ℕ) (answer : NextUnit) : Type 0 where
+  -- 01: a pending byte is the next unit, before any byte is read, and is appended to the body
+  pub pending : (u : ℕ) → e .pending ≡ Byte u → answer ≡ nextUnit (settled e) (Appended u) at
+  -- else the byte at the place gives its unit or none; past the end there is none
+  pub byte : e .pending ≡ None → at < length bytes → answer ≡ nextUnit (decodeOf e (getD bytes at 0) .escape) (decodeOf e (getD bytes at 0) .unit) (at + 1)
+  pub end : e .pending ≡ None → length bytes ≤ at → answer ≡ nextUnit e Nothing at
+  -- sound escapes stay sound
+  pub sound : soundEscape e ≡ true → soundEscape (answer .escape) ≡ true
 
 -- a command: sent back as its lines have it, with the output as it was and what else must stay; else these bytes at the front of the output,
 -- whose bytes past them are not altered

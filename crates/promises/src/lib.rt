@@ -1,32 +1,61 @@
-// The three demands, each as the contract of a function with an empty body: the gate prints a 'proved' line for each.
-// The statements stand in specs/ of the crates named; this page says in plain words what each of them says.
+// The three demands. What is promised of a call is the contract of a function of the same name that does nothing but the call
+// (node.rt, wire.rt, mirror.rt), so that it hangs on the code. What is promised of whole streams and histories is the contract of a
+// function with an empty body, here. The gate prints a 'proved' line for each.
 ghost use mathlib.Core.Path.{_≡_};
-ghost use mathlib.Core.List.{List, [], _∷_, _++_, map};
+ghost use mathlib.Core.List.{map};
 ghost use Rattle.wing_node.specs.Written.{ReadsBack};
 ghost use Rattle.wing_wire.specs.RoundTrip.{RoundTrip, RoundTripPieces};
+ghost use Rattle.wing_wire.specs.Repeated.{UntilMore};
+ghost use Rattle.wing_wire.specs.Tokens.{Tokens};
 ghost use Rattle.wing_wire.specs.Cases.{Case, cases};
-ghost use Rattle.wing_mirror.specs.Machine.{Reading, reading};
 ghost use Rattle.wing_mirror.specs.History.{Agreement, Equality, Rebuilding, Histories};
+ghost use Rattle.promises.specs.Node.{Walks};
+ghost use Rattle.promises.specs.Wire.{noted};
+ghost use Rattle.promises.specs.Mirror.{UnplacedStays};
 
 pub mod mirror;
 pub mod node;
 pub mod wire;
 
-// Demand 2. The bytes of every accepted set order, read while unescaped, between tokens and with no byte pending, give
-// that value at that node.
+// Demand 1, console bytes. Whatever bytes are fed, their units are cut into tokens of 01's table, and what is handed on is what
+// these tokens give, in order and nothing else: 1 exactly for a string whose units are not UTF-8, 2 exactly for a count over
+// 4,096, 3 exactly for count 0, each when the last unit comes. Every unit of a token other than d7 leaves the node as it was.
+pub fn demand_1_tokens()
+    ensures { λ _. ⌜ Tokens noted ⌝ }
+{}
+
+// Demand 1, items. Over a body that the parser takes a walk gives exactly its count of items, that of each number in its turn,
+// and then none.
+pub fn demand_1_walks()
+    ensures { λ _. ⌜ Walks ⌝ }
+{}
+
+// Demand 1, 'As it was'. Within a feed a value for which there is no place leaves the records as they were.
+pub fn demand_1_unplaced()
+    ensures { λ _. ⌜ UnplacedStays ⌝ }
+{}
+
+// Demand 2. The bytes of a set order, read in a sound state that is unescaped, between tokens and with no byte pending, give that
+// value at that node. Of the bytes that the writers' own answers tell, the contracts of set_int, set_float and set_string say it.
 pub fn demand_2_round_trip()
     ensures { λ _. ⌜ RoundTrip ⌝ }
 {}
 
 // Demand 2, for bytes that arrive in any pieces: what is read after them is that value at that node, once.
 pub fn demand_2_in_pieces()
-    ensures { λ _. ⌜ RoundTripPieces (λ node e (rs : List Reading). rs ++ (reading node e ∷ [])) ⌝ }
+    ensures { λ _. ⌜ RoundTripPieces noted ⌝ }
 {}
 
 // Demand 2, for definitions of all eight types: fields that fit their forms, one after the other, are read as these fields, with
-// the numbers and the bytes that they hold.
+// the numbers and bytes that they hold, and their items with both parts of each, in order.
 pub fn demand_2_definitions()
     ensures { λ _. ⌜ ReadsBack ⌝ }
+{}
+
+// Demand 3. 01: feed runs next until "more". From a sound state with at most 65,536 bytes next calls, each on what the one before
+// left, come to an end, and leave and hand on what the feed does.
+pub fn demand_3_until_more()
+    ensures { λ _. ⌜ UntilMore noted ⌝ }
 {}
 
 // Demand 3. After any list of feed and set calls, refused ones included, a mirror has answered each call as the plain
@@ -35,17 +64,17 @@ pub fn demand_3_histories()
     ensures { λ _. ⌜ Agreement ⌝ }
 {}
 
-// Demand 3. Two mirrors are equal exactly when their machines are.
+// Demand 3. Two mirrors are equal exactly when their machines' maps are.
 pub fn demand_3_equality()
     ensures { λ _. ⌜ Equality ⌝ }
 {}
 
-// Demand 3. What recall writes of a mirror, in any split, rebuilds an equal mirror.
+// Demand 3. What a recall says that it wrote of a mirror, in any split, rebuilds an equal mirror.
 pub fn demand_3_recall()
     ensures { λ _. ⌜ Rebuilding ⌝ }
 {}
 
-// Demand 3 in one piece, with the signed order of the records, what comparing and recalling answer, recall of any sound table and
+// Demand 3 in one piece, with the signed order of the records, what comparing and recalling answer, recall of any table and
 // the bounds of the counts.
 pub fn demand_3_whole()
     ensures { λ _. ⌜ Histories ⌝ }

@@ -3,19 +3,35 @@ ghost use mathlib.Core.Path.{_≡_};
 ghost use Rattle.wing_node.specs.Value.{integer as integerOf, float as floatOf, string as stringOf};
 ghost use Rattle.wing_wire.specs.Command.{setBytes, idBytes, suffixBytes, requestBytes};
 ghost use Rattle.wing_wire.specs.Meter.{keepAlives};
-ghost use Rattle.promises.specs.Wire.{NextCall, commandLines, stringLines, CommandCall, SetOrder, MeterCall, PacketCall};
+ghost use Rattle.promises.specs.Wire.{stateOf, NextCall, AdvanceCall, DecodeCall, commandLines, stringLines, CommandCall, SetOrder, MeterCall, PacketCall};
+use wing_wire::escape::NextUnit;
 use wing_wire::meter::Meter;
 use wing_wire::meter::MetersRead;
 use wing_wire::meter::Requested;
 use wing_wire::reader::Reply;
 use wing_wire::set::Suffix;
+use wing_wire::state::Control;
+use wing_wire::state::Escape;
 use wing_wire::state::State;
+use wing_wire::stream::Advanced;
 use wing_wire::write::Written;
 
 pub fn next(s: State, bytes: &[u8]) -> Reply
     ensures { λ r. ⌜ NextCall s (now (bytes .entry)) r ⌝ }
 {
     wing_wire::reader::next(s, bytes)
+}
+
+pub fn advance(c: Control, store: &mut [u8], bytes: &[u8]) -> Advanced
+    ensures { λ r. ⌜ AdvanceCall (stateOf c (now (store .entry))) (now (bytes .entry)) r (now (store .exit)) ⌝ }
+{
+    wing_wire::stream::advance(c, store, bytes)
+}
+
+pub fn decode_next(e: Escape, bytes: &[u8], at: usize) -> NextUnit
+    ensures { λ r. ⌜ DecodeCall e (now (bytes .entry)) at r ⌝ }
+{
+    wing_wire::escape::decode_next(e, bytes, at)
 }
 
 pub fn set_int(out: &mut [u8], id: i32, value: i32) -> Written

@@ -1,4 +1,5 @@
 pub mod Below
+pub mod Branches
 pub mod Arrays
 pub mod Eight
 pub mod Numerals

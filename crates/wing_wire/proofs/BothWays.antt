@@ -1,4 +1,4 @@
 -- What was written is read back: demand 2.
-pub mod Trips
+mod Trips
 pub mod RoundTrip
 pub mod Orders

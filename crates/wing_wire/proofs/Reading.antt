@@ -5,7 +5,7 @@ pub mod Zeros
 pub mod Powers
 pub mod Underway
 pub mod Clears
-pub mod Turns
+mod Turns
 pub mod Overs
 pub mod Pieces
 pub mod Inners
@@ -22,3 +22,6 @@ pub mod ByUnits
 pub mod Repeats
 pub mod WholeTokens
 pub mod Cuts
+pub mod Along
+pub mod Channels
+pub mod NextUnits

@@ -1,10 +1,10 @@
 -- 01, Escapes: the decoder turns bytes into units; here the next unit, with the escapes after it.
 use Prim.Native.Nat.{ℕ, _+_, _-_}
-use mathlib.Core.Bool.{Bool, true, false}
+use mathlib.Core.Bool.{true, false}
 use mathlib.Core.Path.{_≡_}
 use mathlib.Core.List.{List}
 use lib.Dec.{ltb, eqb}
-use lib.IntN.{ℤ, pos, negsuc}
+use lib.IntN.{pos}
 use lib.Signed.{ltZ}
 use lib.ListN.{length, getD}
 use Rattle.wing_node.specs.Bool.{if}

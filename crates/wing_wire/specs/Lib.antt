@@ -17,3 +17,5 @@ pub mod Answers
 pub mod SetOrders
 pub mod Repeated
 pub mod Tokens
+pub mod DecoderLaws
+pub mod WriterLaws

@@ -6,6 +6,7 @@ use mathlib.Core.List.{List, [], _∷_}
 use lib.ListN.{length, take}
 use Rattle.wing_node.specs.Signed.{InBits}
 use Rattle.wing_node.specs.Utf8.{utf8}
+use Rattle.wing_wire.specs.Stream.{Heard}
 use Rattle.wing_wire.specs.declared.state.Pending.{Pending}
 use Rattle.wing_wire.specs.declared.state.Pending.the-variants.{None, Byte}
 use Rattle.wing_wire.specs.declared.state.Token.{Token}
@@ -33,6 +34,19 @@ Within (String n) s = (n ≤ 256) × (utf8 (take n s) ≡ true)
 Within (Body n) s = n ≤ 4096
 Within End s = Unit {0}
 Within (Refused n) s = Unit {0}
+
+-- the same of a token in progress: a string wants at most 256 units, and a body has stored at most 4,096
+abbrev pub TokenWithin : Token → Type 0
+TokenWithin Between = Unit {0}
+TokenWithin (Number class left v) = Unit {0}
+TokenWithin (InString want left) = want ≤ 256
+TokenWithin (InBody want left stored) = stored ≤ 4096
+
+-- what was heard is within these bounds, and n bytes stand in the store
+pub record HeardWithin (n : ℕ) (o : Heard) : Type 0 where
+  pub token : TokenWithin (o .told .control .token)
+  pub within : Within (o .told .answer) (o .store)
+  pub size : length (o .store) ≡ n
 
 -- a number in progress has 32 bits
 abbrev pub NumberIn : Token → Type 0

@@ -37,6 +37,10 @@ pub record Returned (ch node id : ℤ) (s : List ℕ) (v : NodeValue) : Type 0 w
 abbrev pub RoundTrip : Type 0
 RoundTrip = (ch node id : ℤ) (s : List ℕ) (v : NodeValue) → InBits 31 id → Settable v → length s ≡ 4096 → soundState (calmState ch node s) ≡ true → Returned ch node id s v
 
+-- such a state, with what a handler has made so far
+abbrev pub fedCalm : {M : Type 0} → ℤ → ℤ → List ℕ → M → Fed M
+fedCalm ch node s m = record { control = calmState ch node s .control; store = s; memo = m }
+
 -- pieces one after the other
 abbrev pub joint : List (List ℕ) → List ℕ
 joint [] = []
@@ -48,10 +52,6 @@ module _ {M : Type 0} (h : ℤ → Event → M → M) where
   abbrev pub feeds : Fed M → List (List ℕ) → Fed M
   feeds x [] = x
   feeds x (p ∷ ps) = feeds (feedOf (λ node a s m. h node (eventOf a s s) m) x p) ps
-
-  -- such a state, with what the handler has made so far
-  abbrev pub fedCalm : ℤ → ℤ → List ℕ → M → Fed M
-  fedCalm ch node s m = record { control = calmState ch node s .control; store = s; memo = m }
 
   -- the same for the bytes arriving in any pieces: the value is handed on once, at its node
   abbrev pub RoundTripPieces : Type 0

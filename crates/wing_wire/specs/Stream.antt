@@ -139,6 +139,6 @@ module _ {M : Type 0} (h : ℤ → Answer → List ℕ → M → M) where
   fedFrom x [] = x
   fedFrom x (b ∷ bs) = fedFrom (fedByte x b) bs
 
-  -- 01: next until 'more': feed-again and feed-ends (proofs/Reading/Steps.antt) say that it is that
+  -- 01: next until 'more': FeedLaws (specs/DecoderLaws.antt) says that it is that
   unfoldable pub feedOf : Fed M → List ℕ → Fed M
   feedOf x bs = fedFrom (calm x) bs

@@ -1,11 +1,13 @@
 -- 01, Escapes: the decoder turns bytes into units.
 use Prim.Native.Nat.{ℕ, _+_}
 use mathlib.Core.Bool.{Bool, true, false}
+use mathlib.Core.Path.{_≡_}
 use lib.IntN.{ℤ}
+use lib.ListN.{drop}
 use mathlib.Core.List.{List, [], _∷_, _++_}
 use Rattle.wing_node.specs.Bool.{if}
 use Rattle.wing_wire.specs.State.{escape, control}
-use Rattle.wing_wire.specs.Escape.{decodeOf}
+use Rattle.wing_wire.specs.Escape.{decodeOf, decodeNextOf}
 use Rattle.wing_wire.specs.Unit.{unitOf}
 use Rattle.wing_wire.specs.Stream.{joined, Fed, heed}
 use Rattle.wing_wire.specs.declared.state.Pending.{Pending}
@@ -55,6 +57,14 @@ unitsOf e (b ∷ bs) =
     let d = decodeOf (settled e) b in
     let rest = unitsOf (d .escape) bs in
     units (pendingUnits (e .pending) ++ (byteUnits (d .unit) ++ rest .units)) (rest .escape)
+
+-- the units of the bytes from the place n on are the one that a step of the decoder gives, if it gives one, and those of the bytes after it
+abbrev pub UnitsByStep : Type 0
+UnitsByStep = (e : Escape) (bytes : List ℕ) (n : ℕ) →
+    unitsOf e (drop n bytes) ≡
+    (let d = decodeNextOf e bytes n in
+    let rest = unitsOf (d .escape) (drop (d .at) bytes) in
+    units (byteUnits (d .unit) ++ rest .units) (rest .escape))
 
 -- 1 for a byte that waits
 abbrev pub waiting : Pending → ℕ

@@ -1,11 +1,10 @@
-use mathlib.Core.List.{List, [], _∷_, _++_}
-use Rattle.wing_mirror.specs.Machine.{Reading, reading}
 use Rattle.wing_wire.proofs.BothWays.RoundTrip.{round-trip-pieces}
+use Rattle.promises.specs.Wire.{noted}
 use Rattle.promises.proofs.demand_2_in_pieces.Statement.{statement}
 use Rattle.promises.proofs.demand_2_in_pieces.Tie as tie
 
 returns : tie.Need-returns
-returns c = round-trip-pieces (λ node e (rs : List Reading). rs ++ (reading node e ∷ []))
+returns c = round-trip-pieces noted
 
 pub demand-2-in-pieces-spec : {M : Type 1} → statement M
 demand-2-in-pieces-spec = tie.close (tie.spec returns)

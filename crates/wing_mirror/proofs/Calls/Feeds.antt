@@ -15,21 +15,21 @@ use Rattle.wing_wire.specs.Range.{AreBytes, InRange}
 use Rattle.wing_wire.specs.Reader.{Event, more, value, body, end, refused, eventOf}
 use Rattle.wing_wire.specs.Command.{setBytes}
 use Rattle.wing_wire.specs.declared.state.State.{State}
-use Rattle.wing_wire.proofs.Reading.Pieces.{feed-pieces}
+use Rattle.wing_wire.proofs.Laws.{decoder-laws}
 use Rattle.wing_mirror.specs.Rows.{Table, All}
 use Rattle.wing_mirror.specs.Record.{entry}
 use Rattle.wing_mirror.specs.Table.{usable, fits}
 use Rattle.wing_mirror.specs.Counts.{none, total, added}
 use Rattle.wing_mirror.specs.Call.{tooLong, notText}
 use Rattle.wing_mirror.specs.Mirror.{Tallied, tallied, keepEvent, keep, Feeding, fedAll, fedFully, mirrorFeed, mirrorSet}
-use Rattle.wing_mirror.specs.Machine.{Reading, readings, stateAfter}
+use Rattle.wing_mirror.specs.Machine.{Reading, readings}
 use Rattle.wing_mirror.specs.declared.answer.Counts.{Counts}
 use Rattle.wing_mirror.specs.declared.answer.FeedAnswer.the-variants.{Taken}
 use Rattle.wing_mirror.proofs.Records.Lasting.{entry-usable}
 use Rattle.wing_mirror.proofs.Calls.Turns.{value-usable}
-use Rattle.wing_mirror.proofs.Histories.Along.{handed, feed-along, few-readings}
+use Rattle.wing_mirror.proofs.Histories.Along.{handed, few-readings}
 use Rattle.wing_mirror.proofs.Calls.Tallies.{handed-total, atop, added-none, keep-adds}
-use Rattle.wing_mirror.proofs.Histories.Decodes.{ProperEvent, ProperReading, WellState, well-state, well-sound, after-well, readings-proper}
+use Rattle.wing_mirror.proofs.Histories.Decodes.{ProperEvent, ProperReading, WellState, after-well, readings-proper}
 use Rattle.wing_mirror.proofs.Calls.Outcomes.{feed-8, feed-7, feed-14, feed-taken, fed-readings, text-storable, set-10, set-1, set-6, set-9, set-sent}
 
 -- one reading leaves a usable table usable
@@ -53,13 +53,13 @@ pub feed-sound : (s : State) (t : Table) (bytes : List ℕ) → InRange (s .cont
 feed-sound s t bytes inside are g u = go (leb (length bytes) 65536) refl
   where
     w : WellState s
-    w = well-state s inside g
+    w = record { sound = g; inside = inside }
 
     go : (b : Bool) → leb (length bytes) 65536 ≡ b → (usable (mirrorFeed s t bytes .table) ≡ true) × (soundState (mirrorFeed s t bytes .state) ≡ true)
     go false q = rw (feed-14 s t bytes g u (leb-false (length bytes) 65536 q)) (u, g)
     go true q =
         rw (feed-taken s t bytes g u (leb-true (length bytes) 65536 q), fed-readings s t bytes)
-        (handed-usable (readings s bytes) (tallied t none) (readings-proper s bytes are w) u, well-sound (stateAfter s bytes) (after-well s bytes are w))
+        (handed-usable (readings s bytes) (tallied t none) (readings-proper s bytes are w) u, after-well s bytes are w .sound)
 
 -- a set leaves a usable table usable
 pub set-sound : (id : ℤ) (v : NodeValue) (t : Table) (out : List ℕ) → usable t ≡ true → usable (mirrorSet id v t out .table) ≡ true
@@ -92,7 +92,7 @@ from-counts : (x : Fed Tallied) (c : Counts) (bytes : List ℕ) →
     record { control = y .control; store = y .store; memo = atop c (y .memo) })
 from-counts x c bytes =
     ap (λ (d : Counts). feedOf keep (record { control = x .control; store = x .store; memo = tallied (x .memo .table) d }) bytes) (sym (added-none c))
-    ∙ sym (feed-along keep keep (atop c) (λ node a t k. keep-adds c node (eventOf a t t) k) (record { control = x .control; store = x .store; memo = tallied (x .memo .table) none }) bytes)
+    ∙ sym (decoder-laws .feed .along keep keep (atop c) (λ node a t k. keep-adds c node (eventOf a t t) k) (record { control = x .control; store = x .store; memo = tallied (x .memo .table) none }) bytes)
 
 -- two taken feeds, the second on what the first leaves, as one: counts add
 abbrev pub together : Feeding → Feeding → Feeding
@@ -113,6 +113,6 @@ feed-joined s t a b inside are g u few =
     let first : x ≡ fedFully (fedAll s t a) = feed-taken s t a g u (omega (arith, length-append a b)) in
     let second : onwards x b ≡ fedFully (fedAll (x .state) (x .table) b) = feed-taken (x .state) (x .table) b (k .1) (k .0) (omega (arith, length-append a b)) in
     feed-taken s t (a ++ b) g u few
-    ∙ ap fedFully (feed-pieces keep z a b ∙ from-counts (feedOf keep z a) (feedOf keep z a .memo .counts) b)
+    ∙ ap fedFully (decoder-laws .feed .pieces keep z a b ∙ from-counts (feedOf keep z a) (feedOf keep z a .memo .counts) b)
     ∙ ap (λ (f : Feeding). together f (fedFully (fedAll (f .state) (f .table) b))) (sym first)
     ∙ ap (together x) (sym second)

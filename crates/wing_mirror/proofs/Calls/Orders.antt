@@ -12,7 +12,7 @@ use Rattle.wing_node.specs.Value.{NodeValue, integer, float, string}
 use Rattle.wing_wire.specs.Write.{Wrote, wrote, writeOf}
 use Rattle.wing_wire.specs.Command.{setBytes, setString}
 use Rattle.wing_wire.specs.declared.write.Written.{Written}
-use Rattle.wing_wire.proofs.Writing.Choices.{string-good}
+use Rattle.wing_wire.proofs.Laws.{writer-laws}
 use Rattle.wing_mirror.specs.Rows.{Table, takes}
 use Rattle.wing_mirror.specs.Record.{entry, keyOf, recordOf, storable}
 use Rattle.wing_mirror.specs.Table.{usable, put, fits}
@@ -47,7 +47,7 @@ pub string-sent : (id : ℤ) (n len : ℕ) (s out : List ℕ) → len ≡ min n 
 unfolding storable
 string-sent id n len s out l h =
     ap (λ (p : List ℕ). setString id p out) (ap (λ (m : ℕ). take m s) l ∙ take-least n s)
-    ∙ sym (string-good id (take n s) out (leb-true (length (take n s)) 256 (b .0)) (b .1))
+    ∙ sym (writer-laws .accepted id (take n s) out (leb-true (length (take n s)) 256 (b .0)) (b .1))
   where
     b : (leb (length (take n s)) 256 ≡ true) × (utf8 (take n s) ≡ true)
     b = both (leb (length (take n s)) 256) (utf8 (take n s)) h

@@ -14,16 +14,14 @@ use Rattle.wing_node.specs.Field.{big, fieldAt}
 use Rattle.wing_node.specs.Signed.{signed}
 use Rattle.wing_node.specs.Utf8.{utf8}
 use Rattle.wing_node.specs.Value.{NodeValue, integer, float, string}
-use Rattle.wing_node.proofs.Characters.Grammar.{decides}
+use Rattle.wing_node.proofs.Branches.{branch}
 use Rattle.wing_node.proofs.Numerals.Placed.{field-whole}
 use Rattle.wing_wire.specs.State.{zeros}
 use Rattle.wing_wire.specs.Write.{Laid, wrote, writeOf, Wrote}
 use Rattle.wing_wire.specs.Command.{setBytes, setString}
 use Rattle.wing_wire.specs.declared.write.Written.{Written}
 use Rattle.wing_wire.specs.declared.write.Written.the-variants.{Bytes, Refused}
-use Rattle.wing_wire.proofs.Reading.Branches.{branch}
-use Rattle.wing_wire.proofs.Writing.Choices.{string-good}
-use Rattle.wing_wire.proofs.Writing.Sizes.{set-int-le, set-float-le, set-string-le}
+use Rattle.wing_wire.proofs.Laws.{writer-laws}
 use Rattle.wing_mirror.specs.Rows.{Table, records, joined}
 use Rattle.wing_mirror.specs.Record.{Entry, kindIn, lengthIn, payloadIn, idIn, valueIn, entryIn, stringKept, wellKept, wellFormed}
 use Rattle.wing_mirror.specs.Table.{rows, every, rowAt, placesAllowed, usable}
@@ -56,7 +54,7 @@ module _ (r : List ℕ) (wide : length r ≡ 264) (form : wellFormed r ≡ true)
       let t = text j k in
       let s : List ℕ = take n (drop 8 r) in
       let l : length s ≤ 256 = omega (arith, length-take-le n (drop 8 r) (omega (arith, length-drop 8 r))) in
-      sym (string-good id s out l (rw m (t .1))) ∙ ap (λ (x : Entry). writeOf (setOf x) out) (string-entry r wide id eid n j k e)
+      sym (writer-laws .accepted id s out l (rw m (t .1))) ∙ ap (λ (x : Entry). writeOf (setOf x) out) (string-entry r wide id eid n j k e)
 
   -- no order of a record is longer than 395 bytes
   pub order-le : length (orderIn r) ≤ 395
@@ -64,11 +62,11 @@ module _ (r : List ℕ) (wide : length r ≡ 264) (form : wellFormed r ≡ true)
   order-le =
       let P : NodeValue → Type 0 = λ v. length (setBytes (idIn r) v) ≤ 395 in
       let s : List ℕ = take (lengthIn r) (payloadIn r) in
-      branch P (eqb (getD r 4 0) 0) (integer (signed 31 (big (take 4 (payloadIn r))))) _ (λ _. omega (arith, set-int-le (idIn r) (signed 31 (big (take 4 (payloadIn r))))))
-      (λ j. branch P (eqb (getD r 4 0) 1) (float (big (take 4 (payloadIn r)))) (string s) (λ _. omega (arith, set-float-le (idIn r) (big (take 4 (payloadIn r)))))
+      branch P (eqb (getD r 4 0) 0) (integer (signed 31 (big (take 4 (payloadIn r))))) _ (λ _. omega (arith, writer-laws .integerSize (idIn r) (signed 31 (big (take 4 (payloadIn r))))))
+      (λ j. branch P (eqb (getD r 4 0) 1) (float (big (take 4 (payloadIn r)))) (string s) (λ _. omega (arith, writer-laws .floatSize (idIn r) (big (take 4 (payloadIn r)))))
       (λ k.
       let t = text (eqb-false (getD r 4 0) 0 j) (eqb-false (getD r 4 0) 1 k) in
-      set-string-le (idIn r) s (decides s .right (t .1)) (omega (arith, t .0, length-take-le (lengthIn r) (payloadIn r) (omega (arith, length-drop 8 r))))))
+      writer-laws .stringSize (idIn r) s (omega (arith, t .0, length-take-le (lengthIn r) (payloadIn r) (omega (arith, length-drop 8 r)))) (t .1)))
 
 -- a writer laid the whole, where there was room for it
 pub laid-whole : (w : Written) (s d e : List ℕ) → wrote w e ≡ writeOf s d → length s ≤ length d → Laid s 0 d e (sizeIn w)

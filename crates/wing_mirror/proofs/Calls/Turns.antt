@@ -1,28 +1,27 @@
 -- One turn of a feed: an answer makes what is left smaller, adds at most one to the counts, and leaves the table usable.
-use Prim.Native.Nat.{ℕ, zero, suc, _+_, _-_, _*_, _≤_}
-use mathlib.Core.Bool.{Bool, true, false}
+use Prim.Native.Nat.{ℕ, _+_, _-_, _*_, _≤_}
+use mathlib.Core.Bool.{Bool, true, false, false≢true}
+use mathlib.Core.Logic.{⊎-elim}
 use mathlib.Core.Path.{_≡_, refl, sym, _∙_, ap, subst}
-use mathlib.Core.List.{List, [], _∷_}
+use mathlib.Core.List.{List}
 use native.Mathlib.Omega.{arith}
 use lib.IntN.{ℤ}
 use lib.ListN.{length, take, drop, length-drop}
 use lib.Seq.{take-all, drop-drop}
 use Rattle.wing_node.specs.Bool.{if}
 use Rattle.wing_node.specs.Value.{NodeValue, integer, float, string}
+use Rattle.wing_node.proofs.Branches.{branch}
 use Rattle.wing_wire.specs.Units.{waiting}
-use Rattle.wing_wire.specs.Range.{Within}
-use Rattle.wing_wire.specs.Reader.{Event, more, value, body, end, refused, eventOf}
-use Rattle.wing_wire.specs.Stream.{Heard, isMore, pendingOf, settleOf, stepOf, Run, run, runOf, advanceOf, released, Fed, feedOf}
+use Rattle.wing_wire.specs.Range.{Within, TokenWithin, HeardWithin}
+use Rattle.wing_wire.specs.Reader.{value, eventOf}
+use Rattle.wing_wire.specs.Stream.{isMore, Run, run, advanceOf, released, Fed, feedOf}
 use Rattle.wing_wire.specs.declared.state.Pending.{Pending}
 use Rattle.wing_wire.specs.declared.state.Pending.the-variants.{None, Byte}
 use Rattle.wing_wire.specs.declared.state.Control.{Control}
 use Rattle.wing_wire.specs.declared.stream.Advanced.{Advanced}
 use Rattle.wing_wire.specs.declared.unit.Answer.{Answer}
 use Rattle.wing_wire.specs.declared.unit.Answer.the-variants.{More, Integer, Float, String, Body, End, Refused}
-use Rattle.wing_wire.proofs.Reading.Pieces.{at, clash, settle-calm, stays, run-on, run-up}
-use Rattle.wing_wire.proofs.Reading.Steps.{next-in, feed-ends, feed-again, fed}
-use Rattle.wing_wire.proofs.Reading.Branches.{branch}
-use Rattle.wing_wire.proofs.Reading.Bounds.{Tame, BoundedHeard, advance-bounded}
+use Rattle.wing_wire.proofs.Laws.{decoder-laws}
 use Rattle.wing_mirror.specs.Rows.{Table, takes, store}
 use Rattle.wing_mirror.specs.Record.{keyOf, recordOf, entry, storable}
 use Rattle.wing_mirror.specs.Table.{table, usable, fits, put}
@@ -42,32 +41,13 @@ waiting-one : (p : Pending) → waiting p ≤ 1
 waiting-one None = omega arith
 waiting-one (Byte u) = omega arith
 
--- a run that had no answer and has one took a byte
-took : (o : Heard) (n : ℕ) (bs : List ℕ) → isMore (o .told .answer) ≡ true → isMore (runOf (at o n) bs .heard .told .answer) ≡ false → n + 1 ≤ runOf (at o n) bs .taken
-unfolding runOf
-took o n [] e p = absurd (clash e p)
-took o n (b ∷ bs) e p = rw (run-on o n b bs e) (run-up (stepOf (o .told .control) (o .store) b) (n + 1) bs)
-
--- where settling answers, a byte was pending
-settled-one : (c : Control) (s : List ℕ) → isMore (settleOf c s .told .answer) ≡ false → waiting (c .escape .pending) ≡ 1
-unfolding settleOf
-settled-one c s = go (c .escape .pending)
-  where
-    go : (p : Pending) → isMore (pendingOf p c s .told .answer) ≡ false → waiting p ≡ 1
-    go None q = absurd (clash refl q)
-    go (Byte u) q = refl
-
+-- an answer takes a byte, or the pending byte
 pub smaller : (c : Control) (s bytes : List ℕ) → isMore (advanceOf c s bytes .heard .told .answer) ≡ false →
     waiting (advanceOf c s bytes .heard .told .control .escape .pending) + 1 ≤ 2 * advanceOf c s bytes .taken + waiting (c .escape .pending)
-unfolding advanceOf
-smaller c s bytes p = go (isMore (settleOf c s .told .answer)) refl
-  where
-    r : Run
-    r = runOf (at (settleOf c s) 0) bytes
-
-    go : (t : Bool) → isMore (settleOf c s .told .answer) ≡ t → waiting (r .heard .told .control .escape .pending) + 1 ≤ 2 * r .taken + waiting (c .escape .pending)
-    go true e = omega (arith, took (settleOf c s) 0 bytes e p, waiting-one (r .heard .told .control .escape .pending))
-    go false e = rw (stays (at (settleOf c s) 0) bytes e, settle-calm c s) (omega (arith, settled-one c s e))
+smaller c s bytes p =
+    let r = advanceOf c s bytes in
+    ⊎-elim (λ b. omega (arith, b, waiting-one (r .heard .told .control .escape .pending)))
+    (λ q. let z : waiting (r .heard .told .control .escape .pending) ≡ 0 = ap waiting (q .1) in omega (arith, q .0)) (decoder-laws .next .takes c s bytes p)
 
 -- ---- what is kept of an answer
 
@@ -87,7 +67,7 @@ module _ (node : ℤ) (v : NodeValue) (t : Table) (counts : Counts) (r : List �
       go : (b : Bool) → done p buffer ≡ Chosen b →
           tallied (table buffer (p .count)) (tick Stored counts) ≡ if b (tallied (store 264 keyOf (recordOf (entry node v)) t) (tick Stored counts)) (tallied t (tick Unplaced counts))
       go true q = ap (λ (x : Done). tallied (x .after) (tick Stored counts)) q
-      go false q = absurd (clash m (ap (λ (x : Done). x .taken) q))
+      go false q = absurd (false≢true (sym (ap (λ (x : Done). x .taken) q) ∙ m))
 
   pub unplaced-kept : p .taken ≡ false → tallied (table buffer (p .count)) (tick Unplaced counts) ≡ keepEvent node (value v) (tallied t counts)
   unfolding keepEvent put fits
@@ -95,7 +75,7 @@ module _ (node : ℤ) (v : NodeValue) (t : Table) (counts : Counts) (r : List �
     where
       go : (b : Bool) → done p buffer ≡ Chosen b →
           tallied (table buffer (p .count)) (tick Unplaced counts) ≡ if b (tallied (store 264 keyOf (recordOf (entry node v)) t) (tick Stored counts)) (tallied t (tick Unplaced counts))
-      go true q = absurd (clash (ap (λ (x : Done). x .taken) q) m)
+      go true q = absurd (false≢true (sym m ∙ ap (λ (x : Done). x .taken) q))
       go false q = ap (λ (x : Done). tallied (x .after) (tick Unplaced counts)) q
 
 -- a value that may be kept leaves the table usable
@@ -120,21 +100,25 @@ kept-usable node (Refused n) s k w u = u
 abbrev pub left : List ℕ → Control → ℕ → ℕ
 left bytes c i = 2 * (length bytes - i) + waiting (c .escape .pending)
 
+-- a decoder, and what a feed has kept so far
+abbrev pub fed : Control → List ℕ → Tallied → Fed Tallied
+fed c s k = record { control = c; store = s; memo = k }
+
 -- where a feed stands: the bytes up to i are taken
 pub record Underway (bytes : List ℕ) (start : Fed Tallied) (c : Control) (s : List ℕ) (k : Tallied) (i : ℕ) : Type 0 where
   pub within : i ≤ length bytes
-  pub same : feedOf keep (fed keep c s k) (drop i bytes) ≡ feedOf keep start bytes
-  pub tame : Tame (c .token)
+  pub same : feedOf keep (fed c s k) (drop i bytes) ≡ feedOf keep start bytes
+  pub bounded : TokenWithin (c .token)
   pub ready : usable (k .table) ≡ true
   pub few : total (k .counts) + left bytes c i ≤ 131073
 
-pub begun : (bytes : List ℕ) (c : Control) (s : List ℕ) (t : Table) (counts : Counts) → counts ≡ none → length bytes ≤ 65536 → Tame (c .token) → usable t ≡ true →
-    Underway bytes (fed keep c s (tallied t none)) c s (tallied t counts) 0
+pub begun : (bytes : List ℕ) (c : Control) (s : List ℕ) (t : Table) (counts : Counts) → counts ≡ none → length bytes ≤ 65536 → TokenWithin (c .token) → usable t ≡ true →
+    Underway bytes (fed c s (tallied t none)) c s (tallied t counts) 0
 begun bytes c s t counts e h g u =
     record {
       within = omega arith;
-      same = ap (λ (x : Counts). feedOf keep (fed keep c s (tallied t x)) bytes) e;
-      tame = g;
+      same = ap (λ (x : Counts). feedOf keep (fed c s (tallied t x)) bytes) e;
+      bounded = g;
       ready = u;
       few = omega (arith, ap (λ (x : Counts). total x) e, waiting-one (c .escape .pending));
     }
@@ -149,13 +133,13 @@ module _ {bytes : List ℕ} {start : Fed Tallied} {c : Control} {s : List ℕ} {
   inside =
       let h = ap (λ (x : Run). x .taken) said in
       let w = g .within in
-      omega (arith, next-in c s (drop i bytes), length-drop i bytes)
+      omega (arith, decoder-laws .next .within c s (drop i bytes), length-drop i bytes)
 
   -- the call that answers more is the last
-  pub ended : isMore (r .answer) ≡ true → fed keep (r .control) t k ≡ feedOf keep start bytes
+  pub ended : isMore (r .answer) ≡ true → fed (r .control) t k ≡ feedOf keep start bytes
   ended m =
       let h : isMore (advanceOf c s (drop i bytes) .heard .told .answer) ≡ true = ap (λ (x : Run). isMore (x .heard .told .answer)) (sym said) ∙ m in
-      ap (λ (x : Run). fed keep (x .heard .told .control) (x .heard .store) k) said ∙ sym (feed-ends keep c s k (drop i bytes) h) ∙ g .same
+      ap (λ (x : Run). fed (x .heard .told .control) (x .heard .store) k) said ∙ sym (decoder-laws .feed .ends keep (fed c s k) (drop i bytes) h) ∙ g .same
 
   pub turned : isMore (r .answer) ≡ false → left bytes (r .control) (i + r .taken) + 1 ≤ left bytes c i
   turned m =
@@ -165,8 +149,8 @@ module _ {bytes : List ℕ} {start : Fed Tallied} {c : Control} {s : List ℕ} {
       omega (arith, smaller c s (drop i bytes) h, inside)
 
   -- what was answered is within bounds
-  pub heard-bounded : BoundedHeard (length s) (run r t .heard)
-  heard-bounded = subst (λ (x : Run). BoundedHeard (length s) (x .heard)) (sym said) (advance-bounded c s (drop i bytes) (g .tame))
+  pub heard-bounded : HeardWithin (length s) (run r t .heard)
+  heard-bounded = subst (λ (x : Run). HeardWithin (length s) (x .heard)) (sym said) (decoder-laws .next .bounded c s (drop i bytes) (g .bounded))
 
   -- after a turn, with what was kept and released
   turn : isMore (r .answer) ≡ false →
@@ -177,11 +161,11 @@ module _ {bytes : List ℕ} {start : Fed Tallied} {c : Control} {s : List ℕ} {
       record {
         within = inside;
         same =
-            ap (λ (b : List ℕ). feedOf keep (fed keep (r .control) (released (r .answer) t) (keep (r .control .node) (r .answer) t k)) b) (sym (drop-drop (r .taken) i bytes))
-            ∙ ap (λ (x : Run). feedOf keep (fed keep (x .heard .told .control) (released (x .heard .told .answer) (x .heard .store)) (keep (x .heard .told .control .node) (x .heard .told .answer) (x .heard .store) k)) (drop (x .taken) (drop i bytes))) said
-            ∙ sym (feed-again keep c s k (drop i bytes) h)
+            ap (λ (b : List ℕ). feedOf keep (fed (r .control) (released (r .answer) t) (keep (r .control .node) (r .answer) t k)) b) (sym (drop-drop (r .taken) i bytes))
+            ∙ ap (λ (x : Run). feedOf keep (fed (x .heard .told .control) (released (x .heard .told .answer) (x .heard .store)) (keep (x .heard .told .control .node) (x .heard .told .answer) (x .heard .store) k)) (drop (x .taken) (drop i bytes))) said
+            ∙ sym (decoder-laws .feed .again keep (fed c s k) (drop i bytes) h)
             ∙ g .same;
-        tame = w .token;
+        bounded = w .token;
         ready = kept-usable (r .control .node) (r .answer) t k (w .within) (g .ready);
         few = let f = g .few in omega (arith, turned m, keep-total (r .control .node) (eventOf (r .answer) t t) k);
       }

@@ -16,9 +16,7 @@ use Rattle.wing_wire.specs.Reader.{Event, more, value, body, end, refused, even
 use Rattle.wing_wire.specs.declared.state.State.{State}
 use Rattle.wing_wire.specs.declared.unit.Answer.{Answer}
 use Rattle.wing_wire.specs.declared.unit.Answer.the-variants.{More, Integer, Float, String, Body, End, Refused}
-use Rattle.wing_wire.proofs.Reading.Sound.{Good, state-parts, state-tested, fresh-sound, feed-good}
-use Rattle.wing_wire.proofs.Reading.Ranges.{fresh-in, range-feed}
-use Rattle.wing_wire.proofs.Reading.Handled.{feed-keeps}
+use Rattle.wing_wire.proofs.Laws.{decoder-laws}
 use Rattle.wing_mirror.specs.Rows.{All}
 use Rattle.wing_mirror.specs.Record.{entry, storable}
 use Rattle.wing_mirror.specs.Machine.{Reading, reading, noted, decoded, stateAfter, readings}
@@ -55,30 +53,22 @@ answer-proper node (Refused n) s i w r = tt
 
 -- a state that passes the test, in the range of its types
 pub record WellState (s : State) : Type 0 where
-  pub good : Good (s .control) (s .store)
+  pub sound : soundState s ≡ true
   pub inside : InRange (s .control) (s .store)
-
--- from the test
-pub well-state : (s : State) → InRange (s .control) (s .store) → soundState s ≡ true → WellState s
-well-state s r e = record { good = state-parts s (r .pending) e; inside = r }
-
--- back to the test
-pub well-sound : (s : State) → WellState s → soundState s ≡ true
-well-sound s w = state-tested s (w .good)
 
 -- the fresh state is well
 pub fresh-well : WellState freshState
-fresh-well = well-state freshState fresh-in fresh-sound
+fresh-well = record { sound = decoder-laws .sound .fresh; inside = decoder-laws .sound .freshIn }
 
 module _ (s : State) (bytes : List ℕ) (are : AreBytes bytes) (w : WellState s) where
   -- the state after the bytes is well
   pub after-well : WellState (stateAfter s bytes)
   unfolding decoded
-  after-well = record { good = feed-good noted _ bytes are (w .good); inside = range-feed noted _ bytes are (w .inside) }
+  after-well = record { sound = decoder-laws .sound .sound noted _ bytes are (w .inside) (w .sound); inside = decoder-laws .sound .range noted _ bytes are (w .inside) }
 
   -- each value event that it reads may be kept
   pub readings-proper : All ProperReading (readings s bytes)
   unfolding decoded
   readings-proper =
-      feed-keeps noted (All ProperReading) (λ node a t rs i within r st p. all-last ProperReading rs (reading node (eventOf a t t)) p (answer-proper node a t i within r))
-      (record { control = s .control; store = s .store; memo = [] }) bytes are (w .good) (w .inside) tt
+      decoder-laws .sound .keeps noted (All ProperReading) (λ node a t rs i within r st p. all-last ProperReading rs (reading node (eventOf a t t)) p (answer-proper node a t i within r))
+      (record { control = s .control; store = s .store; memo = [] }) bytes are (w .inside) (w .sound) tt

@@ -1,33 +1,26 @@
 -- What recall writes, read by the decoder: each record's value at its node, in order.
-use Prim.Native.Nat.{ℕ, _^_, _<_, _≤_}
-use mathlib.Core.Bool.{Bool, true, false}
+use Prim.Native.Nat.{ℕ}
+use mathlib.Core.Bool.{true}
 use mathlib.Core.Path.{_≡_, refl, sym, _∙_, ap}
 use mathlib.Core.List.{List, [], _∷_, _++_, map, append-assoc, append-nil}
 use native.Mathlib.Omega.{arith}
 use borrow.Author.Tests.{leb-true}
-use lib.Dec.{leb, eqb, ltb}
-use lib.IntN.{ℤ, pos}
-use lib.Signed.{ltZ}
+use lib.Dec.{leb}
+use lib.IntN.{ℤ, pos, negsuc}
 use lib.ListN.{length, replicate, length-replicate}
-use Rattle.wing_node.specs.Bool.{if}
 use Rattle.wing_node.specs.Utf8.{utf8}
 use Rattle.wing_node.specs.Value.{NodeValue, integer, float, string}
-use Rattle.wing_wire.specs.State.{escape, control, zeros, freshState}
-use Rattle.wing_wire.specs.Escape.{decodeOf, escapedOf, plainOf}
-use Rattle.wing_wire.specs.Stream.{settleOf, firstOf, Fed, fedFrom, feedOf}
+use Rattle.wing_wire.specs.State.{zeros, soundPending, soundEscape, soundCounts, storedBy, soundToken, soundState, freshState}
+use Rattle.wing_wire.specs.Stream.{Fed, feedOf}
 use Rattle.wing_wire.specs.Reader.{value, eventOf}
 use Rattle.wing_wire.specs.RoundTrip.{Settable, calmState}
 use Rattle.wing_wire.specs.declared.state.State.{State}
-use Rattle.wing_wire.specs.declared.state.Pending.the-variants.{None}
-use Rattle.wing_wire.specs.declared.state.Token.the-variants.{Between}
-use Rattle.wing_wire.proofs.Reading.Pieces.{calm-same, feed-pieces}
-use Rattle.wing_wire.proofs.BothWays.RoundTrip.{value-event, fed-whole}
+use Rattle.wing_wire.proofs.Laws.{decoder-laws}
 use Rattle.wing_mirror.specs.Rows.{joined, All}
 use Rattle.wing_mirror.specs.Record.{Entry, storable, Typed}
 use Rattle.wing_mirror.specs.Machine.{Reading, reading, noted, decoded, stateAfter, readings}
 use Rattle.wing_mirror.specs.Recall.{setOf}
 use Rattle.wing_mirror.proofs.Records.Usables.{both}
-use Rattle.wing_mirror.proofs.Histories.Along.{feed-along}
 use Rattle.wing_mirror.proofs.Histories.Maps.{Proper}
 
 -- the readings of bytes that come in two pieces are those of each, one after the other
@@ -37,9 +30,9 @@ unfolding decoded
 decoded-pieces s a b =
     let x : Fed (List Reading) = record { control = s .control; store = s .store; memo = [] } in
     let y : Fed (List Reading) = feedOf noted x a in
-    feed-pieces noted x a b
+    decoder-laws .feed .pieces noted x a b
     ∙ ap (λ (l : List Reading). feedOf noted (record { control = y .control; store = y .store; memo = l }) b) (sym (append-nil (y .memo)))
-    ∙ sym (feed-along noted noted (λ (ms : List Reading). y .memo ++ ms) (λ node t l ms. sym (append-assoc (y .memo) ms (reading node (eventOf t l l) ∷ [])))
+    ∙ sym (decoder-laws .feed .along noted noted (λ (ms : List Reading). y .memo ++ ms) (λ node t l ms. sym (append-assoc (y .memo) ms (reading node (eventOf t l l) ∷ [])))
     (record { control = y .control; store = y .store; memo = [] }) b)
 
 pub readings-pieces : (s : State) (a b : List ℕ) → readings s (a ++ b) ≡ readings s a ++ readings (stateAfter s a) b
@@ -63,12 +56,12 @@ rest node = calmState (pos 1) node (replicate 4096 0)
 
 -- 01: df d1
 opened : decoded freshState (0xdf ∷ 0xd1 ∷ []) ≡ record { control = rest (pos 0) .control; store = rest (pos 0) .store; memo = [] }
-unfolding decoded feedOf fedFrom settleOf firstOf decodeOf escapedOf plainOf freshState
-opened = refl
+unfolding decoded freshState
+opened = decoder-laws .feed .channel noted (negsuc 0) (pos 0) (replicate 4096 0) [] 1 (omega arith)
 
-empty : zeros (replicate 4096 0) ≡ true
-unfolding zeros
-empty = refl
+rest-sound : (node : ℤ) → soundState (rest node) ≡ true
+unfolding soundState soundEscape soundPending soundToken soundCounts storedBy zeros
+rest-sound node = refl
 
 -- an entry as it is read
 abbrev pub told : Entry → Reading
@@ -78,12 +71,8 @@ told e = reading (e .id) (value (e .value))
 set-told : (node : ℤ) (e : Entry) → Proper e → decoded (rest node) (setOf e) ≡ record { control = rest (e .id) .control; store = rest (e .id) .store; memo = told e ∷ [] }
 unfolding decoded
 set-told node e h =
-    let s : List ℕ = replicate 4096 0 in
-    let l : length s ≡ 4096 = length-replicate {A = ℕ} 4096 0 in
-    let v : NodeValue = e .value in
-    let k : Settable v = settable v (h .typed) (h .text) in
-    fed-whole noted (pos 1) node (e .id) s v [] (h .node) k (omega arith) empty
-    ∙ ap (λ x. record { control = rest (e .id) .control; store = s; memo = reading (e .id) x ∷ [] }) (value-event v s k (omega arith))
+    decoder-laws .feed .order (λ n x rs. rs ++ (reading n x ∷ [])) (pos 1) node (e .id) (replicate 4096 0) (e .value) [] (setOf e ∷ []) (h .node) (settable (e .value) (h .typed) (h .text))
+    (length-replicate {A = ℕ} 4096 0) (rest-sound node) (append-nil (setOf e))
 
 -- set orders one after the other are their values in order
 sets-told : (es : List Entry) (node : ℤ) → All Proper es → readings (rest node) (joined (map setOf es)) ≡ map told es
@@ -91,7 +80,7 @@ unfolding joined
 sets-told [] node h = none
   where
     none : readings (rest node) [] ≡ []
-    none = unfold decoded feedOf fedFrom in ap (λ (x : Fed (List Reading)). x .memo) (calm-same noted (record { control = rest node .control; store = rest node .store; memo = [] }) refl)
+    none = unfold decoded in ap (λ (x : Fed (List Reading)). x .memo) (decoder-laws .feed .none noted (record { control = rest node .control; store = rest node .store; memo = [] }) refl)
 sets-told (e ∷ es) node h =
     onward (rest node) (setOf e) (joined (map setOf es)) _ (set-told node e (h .0)) ∙ ap (λ (l : List Reading). told e ∷ l) (sets-told es (e .id) (h .1))
 

@@ -25,7 +25,7 @@ use Rattle.wing_mirror.proofs.Tables.Chunks.{laid-nil}
 use Rattle.wing_mirror.proofs.Histories.Along.{handed}
 use Rattle.wing_mirror.proofs.Histories.Maps.{Proper}
 use Rattle.wing_mirror.proofs.Histories.Mirrored.{tableOf, usable-image, fits-image, put-image}
-use Rattle.wing_mirror.proofs.Histories.Decodes.{well-sound, readings-proper}
+use Rattle.wing_mirror.proofs.Histories.Decodes.{readings-proper}
 use Rattle.wing_mirror.proofs.Histories.Hears.{talliedOf, keep-all-image}
 use Rattle.wing_mirror.proofs.Calls.Outcomes.{feed-7, feed-14, feed-taken, fed-readings, set-7, set-10, set-1, set-6, set-9, set-sent}
 use Rattle.wing_mirror.proofs.Histories.Wells.{Well, start, set-proper, step-well}
@@ -57,7 +57,7 @@ module _ (buffer : List ℕ) where
       T = tableOf buffer (s .map)
 
       g : soundState (s .decoder) ≡ true
-      g = well-sound (s .decoder) (w .decoder)
+      g = w .decoder .sound
 
       u : usable T ≡ placesAllowed (placesIn buffer)
       u = usable-image buffer (s .map) (w .fine)

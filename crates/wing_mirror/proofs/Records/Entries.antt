@@ -1,28 +1,25 @@
 -- What the records of a usable table say: proper entries, whose records they are, in the same order.
-use Prim.Native.Nat.{ℕ, zero, suc, _^_, _<_, _*_, _/_, _≤_}
-use mathlib.Core.Bool.{Bool, true, false}
+use Prim.Native.Nat.{ℕ, zero, suc, _^_, _<_, _*_, _≤_}
+use mathlib.Core.Bool.{true}
 use mathlib.Core.Path.{_≡_, refl, sym, _∙_, ap, ap₂}
 use mathlib.Core.List.{List, [], _∷_, map}
 use native.Mathlib.Omega.{arith}
 use native.Mathlib.Nat.{mul-div-le}
 use borrow.Author.Tests.{le-leb}
 use lib.Dec.{eqb}
-use lib.ListN.{length, take, drop, getD, length-drop}
+use lib.ListN.{length, take, drop, length-drop}
 use lib.Seq.{length-take-le}
-use Rattle.wing_node.specs.Bool.{if}
 use Rattle.wing_node.specs.Field.{big}
 use Rattle.wing_node.specs.Signed.{signed, InBits}
-use Rattle.wing_node.specs.Value.{NodeValue, integer, float, string}
+use Rattle.wing_node.specs.Value.{integer, float, string}
 use Rattle.wing_node.proofs.Numerals.Numbers.{Digits, digits-take, digits-drop, number-below}
-use Rattle.wing_node.proofs.Numerals.Signs.{unsigned-signed}
+use Rattle.wing_node.proofs.Branches.{branch}
+use Rattle.wing_node.proofs.Numerals.Signs.{unsigned-signed, signed-in}
 use Rattle.wing_wire.specs.Range.{AreBytes, noBytes, byteThen}
-use Rattle.wing_wire.proofs.Reading.Branches.{branch}
-use Rattle.wing_wire.proofs.Reading.Ranges.{signed-in}
 use Rattle.wing_mirror.specs.Rows.{Table, places, records, rising, All}
 use Rattle.wing_mirror.specs.Record.{Entry, width, risingIds, ids, flipped, keyOf, recordOf, entryIn, valueIn, kindIn, lengthIn, payloadIn, Typed, wellFormed}
 use Rattle.wing_mirror.specs.Table.{rows, every, checked, soundTable, usable}
 use Rattle.wing_mirror.specs.History.{rank}
-use Rattle.wing_mirror.proofs.Tables.Chunks.{Wide, wide-records}
 use Rattle.wing_mirror.proofs.Tables.Images.{Stands, rising-map, all-also}
 use Rattle.wing_mirror.proofs.Records.Ids.{rising-ids}
 use Rattle.wing_mirror.proofs.Histories.Maps.{Proper}
@@ -54,14 +51,14 @@ module _ (r : List ℕ) (g : Row r) where
   value-typed : Typed (valueIn r)
   unfolding valueIn
   value-typed =
-      branch Typed (eqb (kindIn r) 0) (integer (signed 31 (big (take 4 (payloadIn r))))) _ (λ _. signed-in (big (take 4 (payloadIn r))) value-below)
+      branch Typed (eqb (kindIn r) 0) (integer (signed 31 (big (take 4 (payloadIn r))))) _ (λ _. signed-in 31 (big (take 4 (payloadIn r))) value-below)
       (λ _. branch Typed (eqb (kindIn r) 1) (float (big (take 4 (payloadIn r)))) (string (take (lengthIn r) (payloadIn r))) (λ _. omega (arith, value-below)) (λ _. tt))
 
   -- its entry is proper
   pub row-proper : Proper (entryIn r)
   unfolding entryIn
   row-proper =
-      record { node = signed-in (big (take 4 r)) id-below; typed = value-typed; text = read-storable r (g .wide) (g .bytes) (g .form) }
+      record { node = signed-in 31 (big (take 4 r)) id-below; typed = value-typed; text = read-storable r (g .wide) (g .bytes) (g .form) }
 
   -- and stands where it does
   pub row-stands : Stands rank keyOf entryIn r

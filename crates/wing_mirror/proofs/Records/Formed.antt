@@ -1,5 +1,5 @@
 -- The record of an entry has 01's form, width and order.
-use Prim.Native.Nat.{ℕ, zero, suc, _-_, _^_, _≤_, _<_}
+use Prim.Native.Nat.{ℕ, zero, suc, _^_, _≤_, _<_}
 use mathlib.Core.Bool.{true}
 use mathlib.Core.Path.{_≡_, refl, _∙_, ap}
 use mathlib.Core.List.{List, [], _∷_}
@@ -17,12 +17,12 @@ use Rattle.wing_node.specs.Value.{NodeValue, integer, float, string}
 use Rattle.wing_node.proofs.Numerals.Numbers.{number-digits, length-digitsIn}
 use Rattle.wing_wire.specs.State.{zeros}
 use Rattle.wing_wire.specs.Reader.{over, filled}
-use Rattle.wing_wire.proofs.Reading.Overs.{length-over}
+use Rattle.wing_wire.proofs.Laws.{decoder-laws}
 use Rattle.wing_mirror.specs.Record.{Entry, kindOf, payloadOf, recordOf, flipped, rankOf, keyOf, stringKept, wellKept, wellFormed, storable}
 use Rattle.wing_mirror.proofs.Records.Usables.{both}
 
 length-filled : (p : List ℕ) → length (filled 256 p) ≡ 256
-length-filled p = length-over p (replicate 256 0) ∙ length-replicate {A = ℕ} 256 0
+length-filled p = decoder-laws .filledSize 256 p
 
 pub record-width : (e : Entry) → length (recordOf e) ≡ 264
 unfolding recordOf digitsIn

@@ -1,5 +1,5 @@
 -- Two's complement, at any width: what the conversions need, and that they undo each other.
-use mathlib.Core.Path.{_≡_, refl, _∙_, ap, sym, subst}
+use mathlib.Core.Path.{_≡_, refl, _∙_, ap, subst}
 use mathlib.Core.Bool.{Bool, true, false}
 use Prim.Native.Nat.{ℕ, suc, _+_, _-_, _≤_, _<_, _^_}
 use native.Mathlib.Omega.{arith}
@@ -13,6 +13,7 @@ use mir.Syntax.{Width}
 use mir.Val.{bits, hbits, toZ, ofZ, sel, SFits}
 use Rattle.wing_node.specs.Bool.{if}
 use Rattle.wing_node.specs.Signed.{signed, unsigned, InBits}
+use Rattle.wing_node.proofs.Branches.{branch}
 
 sel-if : (b : Bool) (x y : ℤ) → sel b x y ≡ if b x y
 sel-if true x y = refl
@@ -84,3 +85,12 @@ unsigned-signed k u h = go (ltb u (2 ^ k))
     go : (b : Bool) → unsigned k (if b (pos u) (negsuc (2 ^ (k + 1) - suc u))) ≡ u
     go true = refl
     go false = omega arith
+
+-- what k + 1 bits are read as has k + 1 bits
+pub signed-in : (k u : ℕ) → u < 2 ^ (k + 1) → InBits k (signed k u)
+signed-in k u h =
+    branch (InBits k) (ltb u (2 ^ k)) _ _ (λ e. ltb-true _ _ e)
+    (λ e.
+    let d = doubled k in
+    let l : 2 ^ k ≤ u = ltb-false _ _ e in
+    omega arith)

@@ -361,7 +361,7 @@ module _ {M : Type 0} (h : ℤ → Event → M → M) where
   unfolding soundState soundToken soundCounts storedBy
   round-trip-pieces ch node id s v m ps i k full sound e =
       let room : 256 ≤ length s = omega arith in
-      pieces (fedCalm h ch node s m) ps refl
-      ∙ ap (feedOf handed (fedCalm h ch node s m)) e
+      pieces (fedCalm ch node s m) ps refl
+      ∙ ap (feedOf handed (fedCalm ch node s m)) e
       ∙ fed-whole handed ch node id s v m i k room (and-right (soundEscape (escape false ch None)) (zeros s) sound)
-      ∙ ap (λ (x : Event). fedCalm h ch id s (h id x m)) (value-event v s k room)
+      ∙ ap (λ (x : Event). fedCalm ch id s (h id x m)) (value-event v s k room)

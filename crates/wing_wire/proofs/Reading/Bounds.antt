@@ -14,8 +14,8 @@ use Rattle.wing_node.specs.Utf8.{utf8, charsFrom}
 use Rattle.wing_wire.specs.Token.{Row, table, ruleIn, ruleOf, widthOf}
 use Rattle.wing_wire.specs.Escape.{decodeOf}
 use Rattle.wing_wire.specs.Unit.{gives, singleOf, isString, tokenOf, beginOf, countOf, numberOf, shiftIn, numberUnit, Out, cleared, stringDone, stringUnit, keeps, bodyDone, bodyNext, bodyUnit, unitOf}
-use Rattle.wing_wire.specs.Stream.{Heard, isMore, pendingOf, settleOf, givenOf, firstOf, followOf, stepOf, runOf, advanceOf, released}
-use Rattle.wing_wire.specs.Range.{Within}
+use Rattle.wing_wire.specs.Stream.{Heard, isMore, pendingOf, settleOf, givenOf, firstOf, followOf, stepOf, runOf, advanceOf}
+use Rattle.wing_wire.specs.Range.{Within, TokenWithin, HeardWithin}
 use Rattle.wing_wire.specs.declared.token.Class.{Class}
 use Rattle.wing_wire.specs.declared.token.Class.the-variants.{NoEvent, Integer, String, Length, Int16, Int32, Float, Node, End, Count, ZeroCount}
 use Rattle.wing_wire.specs.declared.token.Rule.{Rule}
@@ -27,8 +27,6 @@ use Rattle.wing_wire.specs.declared.state.Token.the-variants.{Between, N
 use Rattle.wing_wire.specs.declared.state.Control.{Control}
 use Rattle.wing_wire.specs.declared.escape.Unit.{Unit as Unitʷ}
 use Rattle.wing_wire.specs.declared.escape.Unit.the-variants.{Nothing, Bare, Appended}
-use Rattle.wing_wire.specs.declared.unit.Answer.{Answer}
-use Rattle.wing_wire.specs.declared.unit.Answer.the-variants.{More, Integer as anInteger, Float as aFloat, String as aString, Body as aBody, End as anEnd, Refused}
 use Rattle.wing_wire.specs.declared.unit.Taken.{Taken}
 use Rattle.wing_wire.proofs.Reading.Pieces.{at, stays, run-on}
 use Rattle.wing_wire.proofs.Reading.Branches.{branch}
@@ -62,16 +60,9 @@ rule-fits t = fits-in table table-fits t
 
 -- ---- within bounds
 
--- a token in progress that will be within bounds
-abbrev pub Tame : Token → Type 0
-Tame Between = Unit {0}
-Tame (Number class left v) = Unit {0}
-Tame (InString want left) = want ≤ 256
-Tame (InBody want left stored) = stored ≤ 4096
-
 -- the token left, and the answer given
 pub record Bounded (s : List ℕ) (t : Taken) : Type 0 where
-  pub token : Tame (t .token)
+  pub token : TokenWithin (t .token)
   pub within : Within (t .answer) s
 
 -- the same of what a unit leaves, with the store as long as it was
@@ -114,7 +105,7 @@ begin-in node u s =
     branch (Bounded s) (eqb (ruleOf u .wants) 0) _ _ (λ _. single-in node (ruleOf u .class) u s)
     (λ _. record { token = go (isString (ruleOf u .class)) (widthOf (ruleOf u .class)) (rule-fits u); within = tt })
   where
-    go : (t : Bool) (w : ℕ) → ruleOf u .wants ≤ (if t 256 w) → Tame (if t (InString (ruleOf u .wants) (ruleOf u .wants)) (Number (ruleOf u .class) (ruleOf u .wants) 0))
+    go : (t : Bool) (w : ℕ) → ruleOf u .wants ≤ (if t 256 w) → TokenWithin (if t (InString (ruleOf u .wants) (ruleOf u .wants)) (Number (ruleOf u .class) (ruleOf u .wants) 0))
     go true w l = l
     go false w l = tt
 
@@ -166,7 +157,7 @@ body-in node want left stored u s a h =
     (λ _. record { taken = body-next-in node want left stored s h; size = refl })
 
 -- one unit
-pub unit-bounded : (node : ℤ) (t : Token) (s : List ℕ) (u : ℕ) (a : Bool) → Tame t → BoundedOut (length s) (unitOf node t s u a)
+pub unit-bounded : (node : ℤ) (t : Token) (s : List ℕ) (u : ℕ) (a : Bool) → TokenWithin t → BoundedOut (length s) (unitOf node t s u a)
 unfolding unitOf
 unit-bounded node Between s u a h = record { taken = begin-in node u s; size = refl }
 unit-bounded node (Number class left v) s u a h = record { taken = number-unit-in node class left v u s; size = refl }
@@ -175,47 +166,41 @@ unit-bounded node (InBody want left stored) s u a h = body-in node want left sto
 
 -- ---- through the bytes
 
--- the token left, the answer given, and the store as long as it was
-pub record BoundedHeard (n : ℕ) (o : Heard) : Type 0 where
-  pub token : Tame (o .told .control .token)
-  pub within : Within (o .told .answer) (o .store)
-  pub size : length (o .store) ≡ n
-
-settle-bounded : (c : Control) (s : List ℕ) → Tame (c .token) → BoundedHeard (length s) (settleOf c s)
+settle-bounded : (c : Control) (s : List ℕ) → TokenWithin (c .token) → HeardWithin (length s) (settleOf c s)
 unfolding settleOf
 settle-bounded c s h = go (c .escape .pending)
   where
-    go : (p : Pending) → BoundedHeard (length s) (pendingOf p c s)
+    go : (p : Pending) → HeardWithin (length s) (pendingOf p c s)
     go None = record { token = h; within = tt; size = refl }
     go (Byte u) = let o = unit-bounded (c .node) (c .token) s u true h in record { token = o .taken .token; within = o .taken .within; size = o .size }
 
-first-bounded : (c : Control) (s : List ℕ) (b : ℕ) → Tame (c .token) → BoundedHeard (length s) (firstOf c s b)
+first-bounded : (c : Control) (s : List ℕ) (b : ℕ) → TokenWithin (c .token) → HeardWithin (length s) (firstOf c s b)
 unfolding firstOf
 first-bounded c s b h = go (decodeOf (c .escape) b .unit) (decodeOf (c .escape) b .escape)
   where
-    go : (u : Unitʷ) (e : Escape) → BoundedHeard (length s) (givenOf u e c s)
+    go : (u : Unitʷ) (e : Escape) → HeardWithin (length s) (givenOf u e c s)
     go Nothing e = record { token = h; within = tt; size = refl }
     go (Bare u) e = let o = unit-bounded (c .node) (c .token) s u false h in record { token = o .taken .token; within = o .taken .within; size = o .size }
     go (Appended u) e = let o = unit-bounded (c .node) (c .token) s u true h in record { token = o .taken .token; within = o .taken .within; size = o .size }
 
-step-bounded : (c : Control) (s : List ℕ) (b : ℕ) → Tame (c .token) → BoundedHeard (length s) (stepOf c s b)
+step-bounded : (c : Control) (s : List ℕ) (b : ℕ) → TokenWithin (c .token) → HeardWithin (length s) (stepOf c s b)
 unfolding followOf
 step-bounded c s b h =
     let o : Heard = firstOf c s b in
     let k = first-bounded c s b h in
-    branch (BoundedHeard (length s)) (isMore (o .told .answer)) _ _ (λ _. rw (k .size) at (settle-bounded (o .told .control) (o .store) (k .token))) (λ _. k)
+    branch (HeardWithin (length s)) (isMore (o .told .answer)) _ _ (λ _. rw (k .size) at (settle-bounded (o .told .control) (o .store) (k .token))) (λ _. k)
 
-run-bounded : (n : ℕ) (o : Heard) (k : ℕ) (bs : List ℕ) → BoundedHeard n o → BoundedHeard n (runOf (at o k) bs .heard)
+run-bounded : (n : ℕ) (o : Heard) (k : ℕ) (bs : List ℕ) → HeardWithin n o → HeardWithin n (runOf (at o k) bs .heard)
 unfolding runOf
 run-bounded n o k [] h = h
 run-bounded n o k (b ∷ bs) h = go (isMore (o .told .answer)) refl (λ g. run-bounded n (stepOf (o .told .control) (o .store) b) (k + 1) bs g)
   where
     go : (t : Bool) → isMore (o .told .answer) ≡ t →
-        (BoundedHeard n (stepOf (o .told .control) (o .store) b) → BoundedHeard n (runOf (at (stepOf (o .told .control) (o .store) b) (k + 1)) bs .heard)) → BoundedHeard n (runOf (at o k) (b ∷ bs) .heard)
+        (HeardWithin n (stepOf (o .told .control) (o .store) b) → HeardWithin n (runOf (at (stepOf (o .told .control) (o .store) b) (k + 1)) bs .heard)) → HeardWithin n (runOf (at o k) (b ∷ bs) .heard)
     go true e ih = rw (run-on o k b bs e) (ih (rw (h .size) at (step-bounded (o .told .control) (o .store) b (h .token))))
     go false e ih = rw (stays (at o k) (b ∷ bs) e) h
 
 -- a next call from a token within bounds: its string or body is within bounds, and so is the token that it leaves
-pub advance-bounded : (c : Control) (s bytes : List ℕ) → Tame (c .token) → BoundedHeard (length s) (advanceOf c s bytes .heard)
+pub advance-bounded : (c : Control) (s bytes : List ℕ) → TokenWithin (c .token) → HeardWithin (length s) (advanceOf c s bytes .heard)
 unfolding advanceOf
 advance-bounded c s bytes h = run-bounded (length s) (settleOf c s) 0 bytes (settle-bounded c s h)

@@ -9,21 +9,20 @@ use lib.IntN.{ℤ, pos}
 use lib.Signed.{ltZ}
 use lib.ListN.{length, length-append}
 use Rattle.wing_node.specs.Bool.{if}
-use Rattle.wing_wire.specs.State.{escape, soundPending, soundEscape, soundToken, soundState}
+use Rattle.wing_wire.specs.State.{escape, soundPending, soundEscape}
 use Rattle.wing_wire.specs.Escape.{decodeOf, escapedOf, plainOf, otherOf}
 use Rattle.wing_wire.specs.Units.{pendingUnits, byteUnits, settled, unitsOf, waiting, weight}
 use Rattle.wing_wire.specs.Stream.{Heard, isMore, pendingOf, settleOf, givenOf, firstOf, Fed, heed, calm, fedByte, fedFrom, feedOf}
+use Rattle.wing_wire.specs.DecoderLaws.{count}
 use Rattle.wing_wire.specs.declared.state.Pending.{Pending}
 use Rattle.wing_wire.specs.declared.state.Pending.the-variants.{None, Byte}
 use Rattle.wing_wire.specs.declared.state.Escape.{Escape}
 use Rattle.wing_wire.specs.declared.state.Control.{Control}
-use Rattle.wing_wire.specs.declared.state.State.{State}
 use Rattle.wing_wire.specs.declared.escape.Unit.{Unit}
 use Rattle.wing_wire.specs.declared.escape.Unit.the-variants.{Nothing, Bare, Appended}
 use Rattle.wing_wire.specs.declared.escape.Decoded.{Decoded}
-use Rattle.wing_wire.specs.declared.unit.Answer.{Answer}
 use Rattle.wing_wire.proofs.Reading.Pieces.{clash, settle-calm}
-use Rattle.wing_wire.proofs.Reading.Branches.{branch, and-left}
+use Rattle.wing_wire.proofs.Reading.Branches.{branch}
 use Rattle.wing_wire.proofs.Reading.Sound.{escape-parts}
 
 -- what a byte gives and leaves weighs at most one more than what stood before it
@@ -89,10 +88,6 @@ units-sound e bytes s = omega (arith, units-few e bytes, sound-light e s)
 
 -- ---- answers
 
--- the handler that counts
-abbrev pub count : ℤ → Answer → List ℕ → ℕ → ℕ
-count node a s n = suc n
-
 heed-one : (o : Heard) (m : ℕ) → heed count o m .memo ≤ suc m
 heed-one o m = go (isMore (o .told .answer))
   where
@@ -139,10 +134,3 @@ answers x bytes = omega (arith, fed-few (calm count x) bytes (settle-calm _ _), 
 -- for sound escapes at most one answer more than there are bytes
 pub answers-sound : (x : Fed ℕ) (bytes : List ℕ) → soundEscape (x .control .escape) ≡ true → feedOf count x bytes .memo ≤ x .memo + length bytes + 1
 answers-sound x bytes s = omega (arith, answers x bytes, sound-light (x .control .escape) s)
-
--- a sound state gives at most one answer more than there are bytes
-pub answers-state : (s : State) (bytes : List ℕ) → soundState s ≡ true → feedOf count (record { control = s .control; store = s .store; memo = 0 }) bytes .memo ≤ length bytes + 1
-unfolding soundState
-answers-state s bytes e =
-    let l = answers-sound (record { control = s .control; store = s .store; memo = 0 }) bytes (and-left (soundEscape (s .control .escape)) (soundToken (s .control .token) (s .store)) e) in
-    omega arith

@@ -1,19 +1,19 @@
 -- Unit by unit, and fast through the inner units of a number or a string, is byte by byte: the laws of the code's loop.
-use Prim.Native.Nat.{ℕ, suc, _+_, _-_, _*_, _<_, _≤_}
+use Prim.Native.Nat.{ℕ, _+_, _-_, _*_, _<_, _≤_}
 use mathlib.Core.Bool.{Bool, true, false, not}
 use mathlib.Core.Path.{_≡_, refl, sym, _∙_, ap}
 use mathlib.Core.List.{List, [], _∷_}
 use native.Mathlib.Omega.{arith}
 use borrow.Author.Tests.{ltb-true, ltb-false}
-use lib.Dec.{ltb, leb, eqb}
+use lib.Dec.{ltb, eqb}
 use lib.IntN.{ℤ}
-use lib.ListN.{length, drop, getD, set}
+use lib.ListN.{length, drop, set}
 use lib.Seq.{drop-drop}
 use Rattle.wing_node.specs.Bool.{if}
 use Rattle.wing_wire.specs.State.{escape, control}
 use Rattle.wing_wire.specs.Escape.{decodeOf, plainOf, byteNext, pendingNext, decodeNextOf}
 use Rattle.wing_wire.specs.Unit.{out, awaits, shiftIn, numberUnit, stringUnit, unitOf}
-use Rattle.wing_wire.specs.Stream.{told, Heard, heard, quiet, isMore, joined, pendingOf, settleOf, givenOf, firstOf, followOf, stepOf, Run, runOf}
+use Rattle.wing_wire.specs.Stream.{told, Heard, heard, quiet, isMore, joined, settleOf, givenOf, firstOf, followOf, stepOf, Run, runOf}
 use Rattle.wing_wire.specs.Plain.{isWaiting, isNothing, isAppended, valueOf, isInner, ahead, numberAhead, Gone, gone, stringAhead, tokenAhead, isPlain, isFree, Turned, turned, aheadOf, onAhead, onceOf, isOn}
 use Rattle.wing_wire.specs.Units.{waiting}
 use Rattle.wing_wire.specs.declared.token.Class.{Class}

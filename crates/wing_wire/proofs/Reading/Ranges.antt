@@ -1,23 +1,22 @@
 -- What the types say of a state stays so: its bytes stay bytes, its numbers keep their 32 bits, its store its 4,096 bytes.
-use Prim.Native.Nat.{ℕ, zero, suc, _+_, _-_, _^_, _%_, _<_, _≤_}
+use Prim.Native.Nat.{ℕ, zero, suc, _+_, _-_, _^_, _%_, _<_}
 use mathlib.Core.Bool.{Bool, true, false}
 use mathlib.Core.Path.{_≡_, refl, _∙_}
 use mathlib.Core.List.{List, [], _∷_, _++_}
 use native.Mathlib.Omega.{arith}
-use borrow.Author.Tests.{ltb-true, ltb-false}
 use lib.Dec.{ltb, leb, eqb}
 use lib.IntN.{ℤ, pos}
 use lib.Signed.{ltZ}
-use lib.ListN.{length, take, drop, set, getD, replicate, length-set, length-replicate}
+use lib.ListN.{length, take, drop, set, replicate, length-set, length-replicate}
 use lib.Seq.{length-front}
 use Rattle.wing_node.specs.Signed.{signed, InBits}
 use Rattle.wing_node.specs.Utf8.{utf8}
+use Rattle.wing_node.proofs.Numerals.Signs.{signed-in}
 use Rattle.wing_wire.specs.Token.{ruleOf}
-use Rattle.wing_wire.specs.State.{escape, freshState, soundState}
+use Rattle.wing_wire.specs.State.{escape, freshState}
 use Rattle.wing_wire.specs.Escape.{decodeOf, escapedOf, plainOf, otherOf}
 use Rattle.wing_wire.specs.Unit.{gives, singleOf, isString, tokenOf, beginOf, countOf, numberOf, shiftIn, numberUnit, Out, cleared, stringDone, stringUnit, keeps, bodyDone, bodyNext, bodyUnit, unitOf}
 use Rattle.wing_wire.specs.Stream.{Heard, isMore, pendingOf, settleOf, givenOf, firstOf, followOf, stepOf, runOf, advanceOf, released, Fed, heed, calm, fedByte, fedFrom, feedOf}
-use Rattle.wing_wire.specs.Reader.{nextOf}
 use Rattle.wing_wire.specs.Range.{AreBytes, noBytes, byteThen, PendingByte, noPending, pendingByte, NumberIn, Stored, InRange, AnswerIn}
 use Rattle.wing_wire.specs.declared.token.Class.{Class}
 use Rattle.wing_wire.specs.declared.token.Class.the-variants.{NoEvent, Integer, String, Length, Int16, Int32, Float, Node, End, Count, ZeroCount}
@@ -27,14 +26,12 @@ use Rattle.wing_wire.specs.declared.state.Pending.{Pending}
 use Rattle.wing_wire.specs.declared.state.Pending.the-variants.{None, Byte}
 use Rattle.wing_wire.specs.declared.state.Escape.{Escape}
 use Rattle.wing_wire.specs.declared.state.Control.{Control}
-use Rattle.wing_wire.specs.declared.state.State.{State}
 use Rattle.wing_wire.specs.declared.escape.Unit.{Unit as Unitʷ}
 use Rattle.wing_wire.specs.declared.escape.Unit.the-variants.{Nothing, Bare, Appended}
 use Rattle.wing_wire.specs.declared.escape.Decoded.{Decoded}
 use Rattle.wing_wire.specs.declared.unit.Answer.{Answer}
 use Rattle.wing_wire.specs.declared.unit.Answer.the-variants.{More, Integer as anInteger, Float as aFloat, String as aString, Body as aBody, End as anEnd, Refused}
 use Rattle.wing_wire.specs.declared.unit.Taken.{Taken}
-use Rattle.wing_wire.specs.declared.reader.Reply.{Reply}
 use Rattle.wing_wire.proofs.Reading.Pieces.{at, stays, run-on}
 use Rattle.wing_wire.proofs.Reading.Branches.{branch}
 use Rattle.wing_wire.proofs.Reading.Sound.{UnitByte, noUnit, bare, appended}
@@ -86,9 +83,6 @@ pub record TakenIn (t : Taken) : Type 0 where
 abbrev pub OutIn : Out → Type 0
 OutIn o = TakenIn (o .taken) × Stored (o .store)
 
-pub signed-in : (v : ℕ) → v < 2 ^ 32 → InBits 31 (signed 31 v)
-signed-in v h = branch (InBits 31) (ltb v (2 ^ 31)) _ _ (λ e. ltb-true _ _ e) (λ e. let l : 2 ^ 31 ≤ v = ltb-false _ _ e in omega arith)
-
 signed-short : (v : ℕ) → v < 0x10000 → InBits 31 (signed 15 v)
 signed-short v h = branch (InBits 31) (ltb v (2 ^ 15)) _ _ (λ e. omega arith) (λ e. omega arith)
 
@@ -129,9 +123,9 @@ module _ (node : ℤ) (nodeIn : InBits 31 node) where
   number-in String v h = plainly Between More tt tt
   number-in Length v h = plainly (InString (v % 0x100 + 1) (v % 0x100 + 1)) More tt tt
   number-in Int16 v h = plainly Between (anInteger (signed 15 (v % 0x10000))) tt (signed-short (v % 0x10000) (omega arith))
-  number-in Int32 v h = plainly Between (anInteger (signed 31 v)) tt (signed-in v h)
+  number-in Int32 v h = plainly Between (anInteger (signed 31 v)) tt (signed-in 31 v h)
   number-in Float v h = plainly Between (aFloat v) tt h
-  number-in Node v h = record { node = signed-in v h; number = tt; answer = tt }
+  number-in Node v h = record { node = signed-in 31 v h; number = tt; answer = tt }
   number-in End v h = plainly Between More tt tt
   number-in Count v h = count-in (v % 0x10000)
   number-in ZeroCount v h = plainly Between (Refused 3) tt tt

@@ -12,14 +12,14 @@ use lib.Signed.{leZ, ltZ}
 use lib.ListN.{length, take, drop, getD, set, replicate}
 use lib.Seq.{drop-drop, drop-set-lt}
 use Rattle.wing_node.specs.Bool.{if}
-use Rattle.wing_node.specs.Utf8.{charsFrom, utf8}
-use Rattle.wing_wire.specs.Token.{Row, table, ruleIn, ruleOf, widthOf}
+use Rattle.wing_node.specs.Utf8.{utf8}
+use Rattle.wing_wire.specs.Token.{ruleOf, widthOf}
 use Rattle.wing_wire.specs.State.{and, zeros, escape, soundPending, soundEscape, underway, soundNumber, soundString, soundBody, soundCounts, storedBy, soundToken, soundState, freshState}
 use Rattle.wing_wire.specs.Escape.{decoded, ended, decodeOf, escapedOf, plainOf, otherOf, byteNext, pendingNext, decodeNextOf, DecodeNextSound}
 use Rattle.wing_wire.specs.Unit.{gives, singleOf, isString, tokenOf, beginOf, countOf, numberOf, shiftIn, numberUnit, Out, cleared, stringDone, stringUnit, keeps, bodyDone, bodyNext, bodyUnit, unitOf}
 use Rattle.wing_wire.specs.Stream.{Heard, isMore, pendingOf, settleOf, givenOf, firstOf, followOf, stepOf, runOf, advanceOf, released, Fed, calm, fedByte, fedFrom, feedOf}
 use Rattle.wing_wire.specs.Reader.{nextFrom, nextOf}
-use Rattle.wing_wire.specs.Range.{AreBytes, noBytes, byteThen, PendingByte, noPending, pendingByte, Within}
+use Rattle.wing_wire.specs.Range.{AreBytes, noBytes, byteThen, PendingByte, noPending, pendingByte, Within, TokenWithin}
 use Rattle.wing_wire.specs.declared.token.Class.{Class}
 use Rattle.wing_wire.specs.declared.token.Class.the-variants.{NoEvent, Integer, String, Length, Int16, Int32, Float, Node, End, Count, ZeroCount}
 use Rattle.wing_wire.specs.declared.token.Rule.{Rule}
@@ -38,7 +38,7 @@ use Rattle.wing_wire.specs.declared.unit.Answer.{Answer}
 use Rattle.wing_wire.specs.declared.unit.Taken.{Taken}
 use Rattle.wing_wire.specs.declared.reader.Reply.{Reply}
 use Rattle.wing_wire.proofs.Reading.Branches.{branch, and-left, and-right}
-use Rattle.wing_wire.proofs.Reading.Bounds.{Tame, Fits, rule-fits, unit-bounded}
+use Rattle.wing_wire.proofs.Reading.Bounds.{Fits, rule-fits, unit-bounded}
 use Rattle.wing_wire.proofs.Reading.Pieces.{at, clash, settle-calm, stays, run-on, released-more}
 use Rattle.wing_wire.proofs.Reading.Steps.{step-calm}
 
@@ -307,7 +307,7 @@ unit-sound node (InBody want left stored) s u a h g = body-unit-sound node want 
 
 -- ---- what is given out is within bounds
 
-tame : (t : Token) (s : List ℕ) → Sound t s → Tame t
+tame : (t : Token) (s : List ℕ) → Sound t s → TokenWithin t
 tame Between s g = tt
 tame (Number class left v) s g = tt
 tame (InString want left) s g = g .most
@@ -318,7 +318,7 @@ tame (InBody want left stored) s g = go (leb want 4096) refl (g .room)
     go false e h = omega arith
 
 -- a sound state's token is within bounds
-pub sound-tame : (s : State) → soundState s ≡ true → Tame (s .control .token)
+pub sound-tame : (s : State) → soundState s ≡ true → TokenWithin (s .control .token)
 unfolding soundState
 sound-tame s e = tame (s .control .token) (s .store) (parts (s .control .token) (s .store) (and-right (soundEscape (s .control .escape)) (soundToken (s .control .token) (s .store)) e))
 

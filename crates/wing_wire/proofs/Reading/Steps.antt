@@ -2,15 +2,18 @@
 use Prim.Native.Nat.{ℕ, suc, _+_, _≤_}
 use mathlib.Core.Bool.{Bool, true, false}
 use mathlib.Core.Path.{_≡_, refl, sym, _∙_, ap}
+use mathlib.Core.Logic.{_⊎_, inl, inr}
 use lib.IntN.{ℤ}
 use mathlib.Core.List.{List, [], _∷_}
 use native.Mathlib.Omega.{arith}
 use lib.ListN.{length, drop, drop-of-length-le}
-use Rattle.wing_wire.specs.Stream.{Heard, isMore, settleOf, firstOf, followOf, stepOf, Run, runOf, advanceOf, released, Fed, heed, fedFrom, feedOf}
-use Rattle.wing_wire.specs.declared.state.Pending.the-variants.{None}
+use Rattle.wing_wire.specs.Stream.{Heard, isMore, pendingOf, settleOf, firstOf, followOf, stepOf, Run, runOf, advanceOf, released, Fed, heed, fedFrom, feedOf}
+use Rattle.wing_wire.specs.Units.{waiting}
+use Rattle.wing_wire.specs.declared.state.Pending.{Pending}
+use Rattle.wing_wire.specs.declared.state.Pending.the-variants.{None, Byte}
 use Rattle.wing_wire.specs.declared.state.Control.{Control}
 use Rattle.wing_wire.specs.declared.unit.Answer.{Answer}
-use Rattle.wing_wire.proofs.Reading.Pieces.{at, clash, settle-calm, stays, run-on, calm-same, heed-more, feed-next}
+use Rattle.wing_wire.proofs.Reading.Pieces.{at, clash, settle-calm, stays, run-on, run-up, calm-same, heed-more, feed-next}
 
 -- a run takes no more bytes than there are
 run-in : (o : Heard) (n : ℕ) (bs : List ℕ) → runOf (at o n) bs .taken ≤ n + length bs
@@ -73,6 +76,34 @@ pub next-more : (c : Control) (s bytes : List ℕ) → isMore (advanceOf c s byt
     (advanceOf c s bytes .taken ≡ length bytes) × (advanceOf c s bytes .heard .told .control .escape .pending ≡ None)
 unfolding advanceOf
 next-more c s bytes p = let r = run-more (settleOf c s) 0 bytes (settle-calm c s) p in (omega (arith, r .0), r .1)
+
+-- a run that had no answer and has one took a byte
+run-takes : (o : Heard) (n : ℕ) (bs : List ℕ) → isMore (o .told .answer) ≡ true → isMore (runOf (at o n) bs .heard .told .answer) ≡ false → n + 1 ≤ runOf (at o n) bs .taken
+unfolding runOf
+run-takes o n [] e p = absurd (clash e p)
+run-takes o n (b ∷ bs) e p = rw (run-on o n b bs e) (run-up (stepOf (o .told .control) (o .store) b) (n + 1) bs)
+
+-- where the pending byte completes an answer, there was one
+was-waiting : (c : Control) (s : List ℕ) → isMore (settleOf c s .told .answer) ≡ false → waiting (c .escape .pending) ≡ 1
+unfolding settleOf
+was-waiting c s = go (c .escape .pending)
+  where
+    go : (p : Pending) → isMore (pendingOf p c s .told .answer) ≡ false → waiting p ≡ 1
+    go None q = absurd (clash refl q)
+    go (Byte u) q = refl
+
+-- an answer other than more has taken a byte, or the pending byte, and then nothing is pending
+pub next-takes : (c : Control) (s bytes : List ℕ) → isMore (advanceOf c s bytes .heard .told .answer) ≡ false →
+    (1 ≤ advanceOf c s bytes .taken) ⊎ ((waiting (c .escape .pending) ≡ 1) × (advanceOf c s bytes .heard .told .control .escape .pending ≡ None))
+unfolding advanceOf
+next-takes c s bytes p = go (isMore (settleOf c s .told .answer)) refl
+  where
+    r : Run
+    r = runOf (at (settleOf c s) 0) bytes
+
+    go : (t : Bool) → isMore (settleOf c s .told .answer) ≡ t → (1 ≤ r .taken) ⊎ ((waiting (c .escape .pending) ≡ 1) × (r .heard .told .control .escape .pending ≡ None))
+    go true e = inl (run-takes (settleOf c s) 0 bytes e p)
+    go false e = inr (was-waiting c s e, ap (λ (x : Run). x .heard .told .control .escape .pending) (stays (at (settleOf c s) 0) bytes e) ∙ settle-calm c s)
 
 -- a next call with no bytes takes none: it settles what is pending
 pub next-none : (c : Control) (s : List ℕ) → advanceOf c s [] ≡ record { heard = settleOf c s; taken = 0 }

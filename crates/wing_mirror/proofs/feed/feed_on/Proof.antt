@@ -5,19 +5,18 @@ use mir.Syntax.{w32}
 use mir.Val.{toZ, ofZ}
 use borrow.Author.Needs.{needs}
 use lib.ListN.{length}
-use Rattle.wing_wire.proofs.Reading.Sound.{sound-tame}
-use Rattle.wing_wire.proofs.Reading.Steps.{fed}
+use Rattle.wing_wire.proofs.Laws.{decoder-laws}
 use Rattle.wing_mirror.specs.Table.{table as tableOf}
 use Rattle.wing_mirror.specs.Counts.{none}
-use Rattle.wing_mirror.specs.Mirror.{tallied, keep, fedAll}
+use Rattle.wing_mirror.specs.Mirror.{tallied, fedAll}
 use Rattle.wing_mirror.specs.Tally.{tallyOf, stateOf}
-use Rattle.wing_mirror.proofs.Calls.Turns.{Underway, left, begun, inside, ended, turned, heard-bounded, again}
+use Rattle.wing_mirror.proofs.Calls.Turns.{Underway, fed, left, begun, inside, ended, turned, heard-bounded, again}
 use Rattle.wing_mirror.proofs.feed.feed_on.Statement.{statement}
 use Rattle.wing_mirror.proofs.feed.feed_on.Tie as tie
 
 abbrev Inv-loop : tie.InvT-loop
 Inv-loop store₀ table₀ count bytes t₀ d₀ i₀ store table t d i =
-    (length store ≡ length store₀) × (length table ≡ length table₀) × Underway bytes (fed keep d₀ store₀ (tallied (tableOf table₀ count) none)) d store (tallyOf t table) i
+    (length store ≡ length store₀) × (length table ≡ length table₀) × Underway bytes (fed d₀ store₀ (tallied (tableOf table₀ count) none)) d store (tallyOf t table) i
 
 abbrev μ-loop : tie.MeasureT-loop
 μ-loop store₀ table₀ count bytes t₀ d₀ i₀ store table t d i = left bytes d i
@@ -28,7 +27,7 @@ none-requires c κs = search needs
 loop-holds : tie.Need-loop-holds Inv-loop μ-loop
 loop-holds c =
     let s = c .before .before .before .before in
-    let g = sound-tame (stateOf (s .args .c) (s .args .store .now)) (s .pre .0) in
+    let g = decoder-laws .next .sound (stateOf (s .args .c) (s .args .store .now)) (s .pre .0) in
     (refl, refl, begun (s .args .bytes .now) (s .args .c) (s .args .store .now) (tableOf (s .args .table .now) (s .args .count)) (c .none .result) (c .none .ensures) (s .pre .3) g (s .pre .2))
 
 sub-advance : tie.Need-sub-advance Inv-loop μ-loop

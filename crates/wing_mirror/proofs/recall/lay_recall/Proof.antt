@@ -4,7 +4,7 @@ use native.Mathlib.Omega.{arith}
 use borrow.Author.Needs.{needs}
 use lib.ListN.{length, set, length-set}
 use lib.Seq.{sets, length-sets}
-use Rattle.wing_wire.proofs.Writing.Lays.{goes-on, in-part}
+use Rattle.wing_wire.proofs.Laws.{writer-laws}
 use Rattle.wing_mirror.specs.Table.{table as tableOf, rowAt}
 use Rattle.wing_mirror.specs.Recall.{recallBytes}
 use Rattle.wing_mirror.specs.Sending.{orderIn}
@@ -76,12 +76,12 @@ loop-again c =
     let h = c .before .before .before .before .loop-test .taken in
     let l = left-less n (k .number) b h in
     let o = c .before .before .lay-order .ensures in
-    let p = in-part (k .at) o in
+    let p = writer-laws .part (k .at) o in
     let q = ap length (p .bytes) ∙ length-sets (k .out) (k .at) (orderIn (rowAt (k .number) b)) in (
       q ∙ k .inv .0,
       omega (arith, o .next),
       omega arith,
-      goes-on p (left n (k .number + 1) b) ∙ ap (sets (k .out) (k .at)) (sym (left-next n (k .number) b h)) ∙ k .inv .3,
+      writer-laws .after p (left n (k .number + 1) b) ∙ ap (sets (k .out) (k .at)) (sym (left-next n (k .number) b h)) ∙ k .inv .3,
     )
 
 same-length : tie.Need-same-length Inv-loop μ-loop
