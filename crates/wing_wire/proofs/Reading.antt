@@ -10,8 +10,11 @@ pub mod Overs
 pub mod Pieces
 pub mod Inners
 pub mod Plains
+pub mod Along
+pub mod Channels
 pub mod Steps
 pub mod Branches
+pub mod NextUnits
 pub mod Bounds
 pub mod Sound
 pub mod Ranges
@@ -19,6 +22,3 @@ pub mod Handled
 pub mod Beside
 pub mod Few
 pub mod ByUnits
-pub mod Along
-pub mod Channels
-pub mod NextUnits
