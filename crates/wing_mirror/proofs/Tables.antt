@@ -1,4 +1,4 @@
--- Ordered lists and tables of any width.
+-- Ordered lists and tables of any width; Laying, Tests and Keys are about records of 264 bytes.
 pub mod Ordered
 pub mod Chunks
 pub mod Stays

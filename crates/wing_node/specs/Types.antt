@@ -12,7 +12,7 @@ use Rattle.wing_node.specs.declared.node_type.NodeUnit.the-variants.{Non
 abbrev pub types : List NodeType
 types = Node ∷ LinearFloat ∷ LogarithmicFloat ∷ FaderLevel ∷ Integer ∷ StringEnum ∷ FloatEnum ∷ String ∷ []
 
--- 01's eight units, by number
+-- the units by number; the names are libwing's, as 01 has numbers alone
 abbrev pub units : List NodeUnit
 units = None ∷ Db ∷ Percent ∷ Milliseconds ∷ Hertz ∷ Meters ∷ Seconds ∷ Octaves ∷ []
 

@@ -41,24 +41,24 @@ metersResult (Readings id n) out = ok (record { id = id; readings = take n out }
 metersResult (Unheard n) out = refused n
 
 -- 01's events. A value belongs to the current node
-pub data Heard : Type 0 where
-  wantsMore : Heard
-  valueAt : ℤ → NodeValue → Heard
-  aBody : List ℕ → Heard
-  anEnd : Heard
+pub data NodeEvent : Type 0 where
+  wantsMore : NodeEvent
+  valueAt : ℤ → NodeValue → NodeEvent
+  aBody : List ℕ → NodeEvent
+  anEnd : NodeEvent
 
 -- an event at the node that is current after it, or the number of the refusal
-unfoldable pub heardAt : ℤ → Event → Result Heard
-heardAt node more = ok wantsMore
-heardAt node (value v) = ok (valueAt node v)
-heardAt node (body b) = ok (aBody b)
-heardAt node end = ok anEnd
-heardAt node (refusal n) = refused n
+unfoldable pub eventAt : ℤ → Event → Result NodeEvent
+eventAt node more = ok wantsMore
+eventAt node (value v) = ok (valueAt node v)
+eventAt node (body b) = ok (aBody b)
+eventAt node end = ok anEnd
+eventAt node (refusal n) = refused n
 
 -- an answer by the node of the state after it and the string and body beside it
-unfoldable pub answerResult : Answer → ℤ → List ℕ → List ℕ → Result Heard
-answerResult a node s b = heardAt node (eventOf a s b)
+unfoldable pub answerResult : Answer → ℤ → List ℕ → List ℕ → Result NodeEvent
+answerResult a node s b = eventAt node (eventOf a s b)
 
 -- what the reply to a next call comes to
-unfoldable pub replyResult : Reply → Result Heard
+unfoldable pub replyResult : Reply → Result NodeEvent
 replyResult r = answerResult (r .answer) (r .state .control .node) (r .string) (r .body)

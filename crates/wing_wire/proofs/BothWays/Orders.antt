@@ -15,7 +15,7 @@ use Rattle.wing_wire.specs.State.{freshState, soundState}
 use Rattle.wing_wire.specs.Write.{Wrote, wrote, writeOf}
 use Rattle.wing_wire.specs.Command.{setBytes, setString}
 use Rattle.wing_wire.specs.Reader.{nextOf}
-use Rattle.wing_wire.specs.Answers.{heardAt, answerResult, replyResult}
+use Rattle.wing_wire.specs.Answers.{eventAt, answerResult, replyResult}
 use Rattle.wing_wire.specs.RoundTrip.{Settable, calmState}
 use Rattle.wing_wire.specs.SetOrders.{AtRest, ReadBack, ReadsAsSet}
 use Rattle.wing_wire.specs.declared.state.State.{State}
@@ -41,12 +41,12 @@ calm-sound ch node id s e = e
 module _ (id : ℤ) (v : NodeValue) (i : InBits 31 id) (h : Settable v) where
   read-calm : (ch node : ℤ) (s : List ℕ) → length s ≡ 4096 → soundState (calmState ch node s) ≡ true →
       ReadBack id v (length (setBytes id v)) (setBytes id v) (calmState ch node s)
-  unfolding replyResult answerResult heardAt
+  unfolding replyResult answerResult eventAt
   read-calm ch node s full sound =
       let r = round-trip ch node id s v i h full sound in
       let rest : AtRest (calmState ch id s) = record { sound = calm-sound ch node id s sound; store = full; unescaped = refl; pending = refl; between = refl } in
       record {
-        event = ap (heardAt (nextOf (calmState ch node s) (setBytes id v) .state .control .node)) (r .event) ∙ rw (r .state);
+        event = ap (eventAt (nextOf (calmState ch node s) (setBytes id v) .state .control .node)) (r .event) ∙ rw (r .state);
         taken = r .taken;
         state = rw (r .state) rest;
         node = rw (r .state);

@@ -16,7 +16,7 @@ use Rattle.wing_wire.specs.Write.{Wrote, wrote, writeOf}
 use Rattle.wing_wire.specs.Command.{setBytes, setString}
 use Rattle.wing_wire.specs.Meter.{Asked, asked, meterRequest, askOf, requestMeter, Heard, heard, readings, packetOf}
 use Rattle.wing_wire.specs.Reader.{nextOf, nextEvent}
-use Rattle.wing_wire.specs.Answers.{writtenResult, MeterRequest, requestedResult, MeterPacket, metersResult, heardAt, answerResult, replyResult}
+use Rattle.wing_wire.specs.Answers.{writtenResult, MeterRequest, requestedResult, MeterPacket, metersResult, eventAt, answerResult, replyResult}
 use Rattle.wing_wire.specs.declared.meter.Meter.{Meter}
 use Rattle.wing_wire.specs.declared.meter.Requested.the-variants.{Bytes as Asks, Refused as Unrequested}
 use Rattle.wing_wire.specs.declared.meter.MetersRead.the-variants.{Readings, Refused as Unheard}
@@ -103,6 +103,6 @@ packet-result p out = go (ltb (length p) 4) (ltb 8192 (length p)) (ltb (length o
     go false false false = rw (take-append-seam rs (drop (length rs) out))
 
 -- a next call gives 01's event at the node of the state after it, or its number
-pub next-result : (s : State) (bytes : List ℕ) → length (s .store) ≡ 4096 → replyResult (nextOf s bytes) ≡ heardAt (nextOf s bytes .state .control .node) (nextEvent s bytes)
+pub next-result : (s : State) (bytes : List ℕ) → length (s .store) ≡ 4096 → replyResult (nextOf s bytes) ≡ eventAt (nextOf s bytes .state .control .node) (nextEvent s bytes)
 unfolding replyResult answerResult
-next-result s bytes l = ap (heardAt (nextOf s bytes .state .control .node)) (next-event s bytes l)
+next-result s bytes l = ap (eventAt (nextOf s bytes .state .control .node)) (next-event s bytes l)
