@@ -1,17 +1,17 @@
 -- What is promised of a next call, as specs/Wire states it.
-use Prim.Native.Nat.{ℕ, _≤_}
+use Prim.Native.Nat.{ℕ, _≤_, _<_}
 use mathlib.Core.Bool.{Bool, true, false, not}
 use mathlib.Core.Path.{_≡_, refl, sym, ap}
 use mathlib.Core.List.{List, [], _∷_}
 use native.Mathlib.Omega.{arith}
 use borrow.Author.Tests.{leb-true}
 use lib.Dec.{leb}
-use lib.ListN.{length}
+use lib.ListN.{length, take, length-take}
 use Rattle.wing_node.specs.Bool.{if}
 use Rattle.wing_node.specs.Result.{Result, ok, refused}
 use Rattle.wing_wire.specs.State.{soundState}
 use Rattle.wing_wire.specs.Stream.{isMore, advanceOf}
-use Rattle.wing_wire.specs.Reader.{nextOf, nextFrom, refusedNext}
+use Rattle.wing_wire.specs.Reader.{stringBeside, bodyBeside, nextOf, nextFrom, refusedNext}
 use Rattle.wing_wire.specs.Repeated.{Accepted}
 use Rattle.wing_wire.specs.declared.state.State.{State}
 use Rattle.wing_wire.specs.declared.state.Pending.the-variants.{None}
@@ -21,11 +21,12 @@ use Rattle.wing_wire.specs.declared.unit.Answer.{Answer}
 use Rattle.wing_wire.specs.declared.unit.Answer.the-variants.{More, Refused as Unread}
 use Rattle.wing_node.proofs.Branches.{branch}
 use Rattle.wing_wire.proofs.Reading.Steps.{next-more}
+use Rattle.wing_wire.proofs.Laws.{decoder-laws}
 use Rattle.wing_wire.proofs.Reading.Repeats.{accepted, repeated}
 use Rattle.wing_mirror.specs.Rows.{In}
 use Rattle.promises.specs.Lines.{_gives_, by, sends}
-use Rattle.promises.specs.Wire.{nextLines, noted, NextCall}
-use Rattle.promises.proofs.Reading.{advance-says}
+use Rattle.promises.specs.Wire.{nextLines, withReading, Beside, NextCall}
+use Rattle.promises.proofs.Reading.{advance-says, is-more, advance-stops}
 
 sent-back : (s : State) (bytes : List ℕ) (n : ℕ) → sends (nextLines s bytes) ≡ refused n → nextOf s bytes ≡ refusedNext n s
 unfolding nextOf by
@@ -57,11 +58,42 @@ more-takes-all s bytes =
     P : Reply → Type 0
     P r = r .answer ≡ More → (r .taken ≡ length bytes) × (r .state .control .escape .pending ≡ None)
 
+-- what stands beside the answer is of the store that the run left; a call that is sent back has zeros
+next-beside : (s : State) (bytes : List ℕ) → Beside (nextOf s bytes)
+unfolding nextOf stringBeside bodyBeside
+next-beside s bytes =
+    branch Beside (soundState s) _ _
+    (λ _. branch Beside (leb (length bytes) 65536) _ _ (λ _. record { store = advanceOf (s .control) (s .store) bytes .heard .store; string = refl; body = refl }) (λ _. record { store = []; string = refl; body = refl }))
+    (λ _. record { store = []; string = refl; body = refl })
+
+next-within : (s : State) (bytes : List ℕ) → nextOf s bytes .taken ≤ length bytes
+unfolding nextOf
+next-within s bytes =
+    branch P (soundState s) _ _
+    (λ _. branch P (leb (length bytes) 65536) _ _ (λ _. decoder-laws .next .within (s .control) (s .store) bytes) (λ _. omega arith))
+    (λ _. omega arith)
+  where
+    P : Reply → Type 0
+    P r = r .taken ≤ length bytes
+
+-- a front of accepted bytes is accepted
+front : (s : State) (bytes : List ℕ) (k : ℕ) → Accepted s bytes → Accepted s (take k bytes)
+front s bytes k a = let m = a .most in record { sound = a .sound; store = a .store; most = omega (arith, length-take k bytes) }
+
+next-stops : (s : State) (bytes : List ℕ) → Accepted s bytes → (k : ℕ) → k < nextOf s bytes .taken → nextOf s (take k bytes) .answer ≡ More
+next-stops s bytes a k l =
+    let r : k < advanceOf (s .control) (s .store) bytes .taken = rw (accepted s bytes a) at l in
+    rw (accepted s (take k bytes) (front s bytes k a)) (is-more (advanceOf (s .control) (s .store) (take k bytes) .heard .told .answer) (advance-stops (s .control) (s .store) bytes k r))
+
 pub next-call : (s : State) (bytes : List ℕ) → length (s .store) ≡ 4096 → NextCall s bytes (nextOf s bytes)
 next-call s bytes full = record {
+  same = refl;
+  beside = next-beside s bytes;
+  stops = λ e. next-stops s bytes (passed s bytes full e);
+  within = next-within s bytes;
   sent-back = sent-back s bytes;
   refusals = λ e. rw (accepted s bytes (passed s bytes full e)) (λ n. advance-says (s .control) (s .store) bytes n);
   more = more-takes-all s bytes;
-  ends = λ e m rs. repeated noted s bytes rs (passed s bytes full e) .more m;
-  again = λ e m rs. repeated noted s bytes rs (passed s bytes full e) .again m;
+  ends = λ e m rs. repeated withReading s bytes rs (passed s bytes full e) .more m;
+  again = λ e m rs. repeated withReading s bytes rs (passed s bytes full e) .again m;
 }

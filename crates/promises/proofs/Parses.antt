@@ -13,7 +13,7 @@ use Rattle.wing_node.specs.Parsing.{parserSays, Takes, beginSays, stepOf, numbe
 use Rattle.wing_node.specs.declared.items.Walk.{Walk}
 use Rattle.wing_node.proofs.Bodies.Walks.{definitions}
 use Rattle.wing_mirror.specs.Rows.{In}
-use Rattle.promises.specs.Node.{Short, Unreadable, Whole, AsParsed, ParserCall, BeginCall, StepCall, ItemCall}
+use Rattle.promises.specs.Node.{Short, Unreadable, AllStand, AsParsed, ParserCall, BeginCall, StepCall, ItemCall}
 use Rattle.promises.proofs.Lines.{given}
 
 -- 4 or 5 as a member of the list
@@ -26,7 +26,7 @@ module _ (body : List ℕ) where
   p = definitions .parsing body
 
   -- what is taken stands, and what stands is taken
-  pub whole-taken : Whole body → Takes body
+  pub whole-taken : AllStand body → Takes body
   whole-taken s = p .taken .1 s
 
   pub parser-call : ParserCall body (definitionOf body)
@@ -38,7 +38,7 @@ module _ (body : List ℕ) where
   b : Beginning body
   b = definitions .beginning body
 
-  pub begin-call : BeginCall body (beginOf body)
+  pub begin-call : BeginCall body (begunResult (beginOf body))
   begin-call = record {
     refusals = record {
       past-end = (λ e. p .pastEnd .0 (b .turned 4 .0 e), λ s. b .turned 4 .1 (p .pastEnd .1 s));
@@ -48,10 +48,10 @@ module _ (body : List ℕ) where
     taken = (λ e. begun-whole e, λ s. b .begun (whole-taken s));
   }
     where
-      begun-whole : beginSays body ≡ ok (walkIn body) → Whole body
+      begun-whole : beginSays body ≡ ok (walkIn body) → AllStand body
       begun-whole e = go (parserSays body) refl
         where
-          go : (r : Result DefinitionValues) → parserSays body ≡ r → Whole body
+          go : (r : Result DefinitionValues) → parserSays body ≡ r → AllStand body
           go (ok d) q = p .taken .0 (record { definition = d; says = q })
           go (refused n) q = absurd (given (walkIn body) n (sym e ∙ b .turned n .1 q))
 
@@ -86,14 +86,14 @@ module _ (body : List ℕ) where
         go (inl e) = listed k (14 ∷ []) (p .numbers k e)
         go (inr t) = inr (inr (inl (t .2)))
 
-    item-over : (numberSays body number ≡ refused 14) ↔ (Whole body × (countIn body ≤ number))
+    item-over : (numberSays body number ≡ refused 14) ↔ (AllStand body × (countIn body ≤ number))
     item-over = (λ e. go (i .turned 14 .0 e), λ s. i .turned 14 .1 (inr (whole-taken (s .0), s .1, refl)))
       where
         other : _≡_ {A = ℕ} 14 4 ⊎ _≡_ {A = ℕ} 14 5 → ⊥
         other (inl e) = omega arith
         other (inr e) = omega arith
 
-        go : (parserSays body ≡ refused 14) ⊎ (Takes body × (countIn body ≤ number) × _≡_ {A = ℕ} 14 14) → Whole body × (countIn body ≤ number)
+        go : (parserSays body ≡ refused 14) ⊎ (Takes body × (countIn body ≤ number) × _≡_ {A = ℕ} 14 14) → AllStand body × (countIn body ≤ number)
         go (inl e) = absurd (other (p .numbers 14 e))
         go (inr t) = (p .taken .0 (t .0), t .1)
 

@@ -1,5 +1,5 @@
 -- The refusals that the decoder answers: 1, 2 and 3, each with the token taken.
-use Prim.Native.Nat.{ℕ, _+_, _-_, _%_}
+use Prim.Native.Nat.{ℕ, zero, suc, _+_, _-_, _%_, _<_}
 use mathlib.Core.Bool.{Bool, true, false}
 use mathlib.Core.Path.{_≡_, refl, ap}
 use mathlib.Core.Logic.{inl, inr}
@@ -188,3 +188,36 @@ run-says o n (b ∷ bs) h = go (isMore (o .told .answer)) refl (run-says (stepOf
 pub advance-says : (c : Control) (s bytes : List ℕ) → SaysHeard (advanceOf c s bytes .heard)
 unfolding advanceOf
 advance-says c s bytes = run-says (settleOf c s) 0 bytes (settle-says c s)
+
+-- ---- it stops after the unit that completes an answer
+
+pub is-more : (a : Answer) → isMore a ≡ true → a ≡ More
+is-more More e = refl
+is-more (anInteger x) e = absurd (let z : _≡_ {A = ℕ} 0 1 = cc in omega arith)
+is-more (aFloat bits) e = absurd (let z : _≡_ {A = ℕ} 0 1 = cc in omega arith)
+is-more (aString n) e = absurd (let z : _≡_ {A = ℕ} 0 1 = cc in omega arith)
+is-more (aBody n) e = absurd (let z : _≡_ {A = ℕ} 0 1 = cc in omega arith)
+is-more anEnd e = absurd (let z : _≡_ {A = ℕ} 0 1 = cc in omega arith)
+is-more (Refused n) e = absurd (let z : _≡_ {A = ℕ} 0 1 = cc in omega arith)
+
+-- a front of the bytes that a run took, shorter than these, gives nothing yet
+run-stops : (o : Heard) (n : ℕ) (bs : List ℕ) (k : ℕ) → n + k < runOf (at o n) bs .taken → isMore (runOf (at o n) (take k bs) .heard .told .answer) ≡ true
+unfolding runOf
+run-stops o n [] k l = absurd (omega arith)
+run-stops o n (b ∷ bs) k l = go (isMore (o .told .answer)) refl k l (λ j. run-stops (stepOf (o .told .control) (o .store) b) (n + 1) bs j)
+  where
+    o′ : Heard
+    o′ = stepOf (o .told .control) (o .store) b
+
+    go : (t : Bool) → isMore (o .told .answer) ≡ t → (k : ℕ) → n + k < runOf (at o n) (b ∷ bs) .taken →
+        ((j : ℕ) → n + 1 + j < runOf (at o′ (n + 1)) bs .taken → isMore (runOf (at o′ (n + 1)) (take j bs) .heard .told .answer) ≡ true) →
+        isMore (runOf (at o n) (take k (b ∷ bs)) .heard .told .answer) ≡ true
+    go true e zero l ih = e
+    go true e (suc k) l ih =
+        let m : n + suc k < runOf (at o′ (n + 1)) bs .taken = rw (run-on o n b bs e) at l in
+        rw (run-on o n b (take k bs) e) (ih k (omega arith))
+    go false e k l ih = absurd (let m : n + k < n = rw (stays (at o n) (b ∷ bs) e) at l in omega arith)
+
+pub advance-stops : (c : Control) (s bytes : List ℕ) (k : ℕ) → k < advanceOf c s bytes .taken → isMore (advanceOf c s (take k bytes) .heard .told .answer) ≡ true
+unfolding advanceOf
+advance-stops c s bytes k l = run-stops (settleOf c s) 0 bytes k (omega arith)

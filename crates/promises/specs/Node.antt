@@ -11,14 +11,13 @@ use Rattle.wing_node.specs.Types.{hasItems}
 use Rattle.wing_node.specs.Definition.{itemOf}
 use Rattle.wing_node.specs.Items.{walk}
 use Rattle.wing_node.specs.Standing.{PastEnd, NotUtf8, Stand, StopsAt, extent}
-use Rattle.wing_node.specs.Answers.{none, parsedResult, begunResult, itemResult}
+use Rattle.wing_node.specs.Answers.{none, parsedResult, itemResult}
 use Rattle.wing_node.specs.InBody.{countIn, allFields, definitionIn, walkIn, itemIn, itemInBody}
 use Rattle.wing_node.specs.Parsing.{Left, IsItem, Walking}
 use Rattle.wing_node.specs.declared.definition.Parsed.{Parsed}
 use Rattle.wing_node.specs.declared.definition.Item.{Item}
 use Rattle.wing_node.specs.declared.items.Walk.{Walk}
 use Rattle.wing_node.specs.declared.items.Step.{Step}
-use Rattle.wing_node.specs.declared.items.Begun.{Begun}
 use Rattle.wing_mirror.specs.Rows.{In}
 
 -- 01: definition field past the end, 4: some number of fields stand whole and good at the front, and the next one is not whole
@@ -30,8 +29,8 @@ abbrev pub Unreadable : List ℕ → Type 0
 Unreadable body = StopsAt NotUtf8 (allFields body) body
 
 -- all fields stand whole and good
-abbrev pub Whole : List ℕ → Type 0
-Whole body = Stand (allFields body) body
+abbrev pub AllStand : List ℕ → Type 0
+AllStand body = Stand (allFields body) body
 
 -- a call that the parser's refusals decide: 4 and 5, exactly then, and no other number but these
 pub record AsParsed {A : Type 0} (body : List ℕ) (others : List ℕ) (came : Result A) : Type 0 where
@@ -42,12 +41,13 @@ pub record AsParsed {A : Type 0} (body : List ℕ) (others : List ℕ) (came : R
 -- from_bytes: 4 or 5, or the definition that the fields say, exactly where all stand
 pub record ParserCall (body : List ℕ) (answer : Parsed) : Type 0 where
   pub refusals : AsParsed body [] (parsedResult body answer)
-  pub taken : (parsedResult body answer ≡ ok (definitionIn body)) ↔ Whole body
+  pub taken : (parsedResult body answer ≡ ok (definitionIn body)) ↔ AllStand body
 
--- items_begin: the parser's 4 or 5, or the walk at the first item with their count; types without items have count 0
-pub record BeginCall (body : List ℕ) (answer : Begun) : Type 0 where
-  pub refusals : AsParsed body [] (begunResult answer)
-  pub taken : (begunResult answer ≡ ok (walkIn body)) ↔ Whole body
+-- beginning, by the plain call and by the walker: the parser's 4 or 5, or the walk at the first item with their count; types without items
+-- have count 0
+pub record BeginCall (body : List ℕ) (came : Result Walk) : Type 0 where
+  pub refusals : AsParsed body [] came
+  pub taken : (came ≡ ok (walkIn body)) ↔ AllStand body
 
 -- item_step, from any place
 pub record StepCall (body : List ℕ) (w : Walk) (answer : Step) : Type 0 where
@@ -67,10 +67,10 @@ pub record StepCall (body : List ℕ) (w : Walk) (answer : Step) : Type 0 where
 -- item_by_number: the body's 4 or 5, then 14 exactly for a number that is not below the count, else what the item of that number holds
 pub record ItemCall (body : List ℕ) (number : ℕ) (answer : Item) : Type 0 where
   pub refusals : AsParsed body (14 ∷ []) (itemResult body answer)
-  pub over : (itemResult body answer ≡ refused 14) ↔ (Whole body × (countIn body ≤ number))
-  pub given : Whole body → number < countIn body → IsItem (itemResult body answer)
-  pub said : Whole body → number < countIn body → itemResult body answer ≡ ok (itemInBody body number)
+  pub over : (itemResult body answer ≡ refused 14) ↔ (AllStand body × (countIn body ≤ number))
+  pub given : AllStand body → number < countIn body → IsItem (itemResult body answer)
+  pub said : AllStand body → number < countIn body → itemResult body answer ≡ ok (itemInBody body number)
 
 -- over a body whose fields all stand, the walk gives the item of each number in its turn, as many as the count, and then none
 abbrev pub Walks : Type 0
-Walks = (body : List ℕ) → Whole body → Walking body
+Walks = (body : List ℕ) → AllStand body → Walking body

@@ -12,11 +12,11 @@ use Rattle.wing_node.specs.Utf8.{utf8}
 use Rattle.wing_node.specs.Value.{NodeValue, string}
 use Rattle.wing_wire.specs.State.{soundEscape, soundState}
 use Rattle.wing_wire.specs.Escape.{decodeOf, nextUnit}
-use Rattle.wing_wire.specs.Stream.{run}
+use Rattle.wing_wire.specs.Stream.{Fed, run}
 use Rattle.wing_wire.specs.Units.{settled}
 use Rattle.wing_wire.specs.Command.{setBytes}
 use Rattle.wing_wire.specs.Meter.{meterRequest, readings}
-use Rattle.wing_wire.specs.Reader.{Event, eventIn, refusedNext}
+use Rattle.wing_wire.specs.Reader.{Event, eventIn, stringBeside, bodyBeside, refusedNext, nextOf}
 use Rattle.wing_wire.specs.Repeated.{Accepted, fedState, feedEvents, CoreGives}
 use Rattle.wing_wire.specs.Answers.{writtenResult, MeterRequest, requestedResult, MeterPacket, metersResult}
 use Rattle.wing_wire.specs.SetOrders.{ReadsAsSet}
@@ -68,28 +68,46 @@ packetLines p out =
 -- ---- what is promised
 
 -- readings so far, and one more
-abbrev pub noted : ℤ → Event → List Reading → List Reading
-noted node e rs = rs ++ (reading node e ∷ [])
+abbrev pub withReading : ℤ → Event → List Reading → List Reading
+withReading node e rs = rs ++ (reading node e ∷ [])
+
+-- 01: string (256 bytes) or body (4,096 bytes), zero-filled, stands beside the answer; with any other answer, refusals included, these
+-- bytes are all 0: the bytes that the units gave stand in some store
+pub record Beside (reply : Reply) : Type 0 where
+  pub store : List ℕ
+  pub string : reply .string ≡ stringBeside (reply .answer) store
+  pub body : reply .body ≡ bodyBeside (reply .answer) store
 
 -- a next call
 pub record NextCall (s : State) (bytes : List ℕ) (reply : Reply) : Type 0 where
+  -- it is the call that SetOrders, Repeated and CoreGives of the wire's specs/ speak of
+  pub same : reply ≡ nextOf s bytes
   -- demand 1: 8, 14, and then nothing is taken and the state is as it was
   pub sent-back : (n : ℕ) → sends (nextLines s bytes) ≡ refused n → reply ≡ refusedNext n s
   -- else the decoder's own refusals are 1, 2 and 3, each with its token taken; when they come, specs/Tokens of the wire says
   pub refusals : sends (nextLines s bytes) ≡ ok tt → (n : ℕ) → reply .answer ≡ Unread n → In n (1 ∷ 2 ∷ 3 ∷ []) × (reply .state .control .token ≡ Between)
+  -- what stands beside the answer
+  pub beside : Beside reply
+  -- 01: it stops after the unit that completes an event or refusal: no fewer bytes would have given it
+  pub stops : sends (nextLines s bytes) ≡ ok tt → (k : ℕ) → k < reply .taken → nextOf s (take k bytes) .answer ≡ More
+  pub within : reply .taken ≤ length bytes
   -- demand 2: 'more' only when all bytes are taken and nothing is pending
   pub more : reply .answer ≡ More → (reply .taken ≡ length bytes) × (reply .state .control .escape .pending ≡ None)
   -- 01: feed runs next until 'more': where the reply says so, the feed of these bytes leaves its state and gives nothing more
   pub ends : sends (nextLines s bytes) ≡ ok tt → reply .answer ≡ More → (rs : List Reading) →
-      feedEvents noted (fedState noted s rs) bytes ≡ fedState noted (reply .state) rs
+      feedEvents withReading (fedState withReading s rs) bytes ≡ fedState withReading (reply .state) rs
   -- any other event comes next in the feed, at the node that is current; then come those of the bytes that were not taken
   pub again : sends (nextLines s bytes) ≡ ok tt → (reply .answer ≡ More → ⊥) → (rs : List Reading) →
-      feedEvents noted (fedState noted s rs) bytes ≡
-      feedEvents noted (fedState noted (reply .state) (noted (reply .state .control .node) (eventIn reply) rs)) (drop (reply .taken) bytes)
+      feedEvents withReading (fedState withReading s rs) bytes ≡
+      feedEvents withReading (fedState withReading (reply .state) (withReading (reply .state .control .node) (eventIn reply) rs)) (drop (reply .taken) bytes)
 
 -- a state by its parts
 abbrev pub stateOf : Control → List ℕ → State
 stateOf c store = record { control = c; store = store }
+
+-- bytes in two pieces, at any split and from any state, are the bytes at once: a token cut between two calls goes on where it was
+abbrev pub PiecesJoin : Type 0
+PiecesJoin = (x : Fed (List Reading)) (a b : List ℕ) → feedEvents withReading x (a ++ b) ≡ feedEvents withReading (feedEvents withReading x a) b
 
 -- the core, over the control and the lent store of a state: what next gives from the same state and bytes, where it is not sent back
 abbrev pub AdvanceCall : State → List ℕ → Advanced → List ℕ → Type 0

@@ -10,18 +10,23 @@ ghost use Rattle.wing_wire.specs.Tokens.{Tokens};
 ghost use Rattle.wing_wire.specs.Cases.{Case, cases};
 ghost use Rattle.wing_mirror.specs.History.{Agreement, Equality, Rebuilding, Histories};
 ghost use Rattle.promises.specs.Node.{Walks};
-ghost use Rattle.promises.specs.Wire.{noted};
+ghost use Rattle.promises.specs.Wire.{withReading, PiecesJoin};
 ghost use Rattle.promises.specs.Mirror.{UnplacedStays};
 
 pub mod mirror;
 pub mod node;
 pub mod wire;
 
-// Demand 1, console bytes. Whatever bytes are fed, their units are cut into tokens of 01's table, and what is handed on is what
+// Demand 1, console bytes. Whatever bytes are fed from between tokens, their units are cut into tokens of 01's table, and what is handed on is what
 // these tokens give, in order and nothing else: 1 exactly for a string whose units are not UTF-8, 2 exactly for a count over
 // 4,096, 3 exactly for count 0, each when the last unit comes. Every unit of a token other than d7 leaves the node as it was.
 pub fn demand_1_tokens()
-    ensures { λ _. ⌜ Tokens noted ⌝ }
+    ensures { λ _. ⌜ Tokens withReading ⌝ }
+{}
+
+// Demand 1, console bytes in pieces. From any state, in the midst of a token too, bytes in two pieces are read as the bytes at once.
+pub fn demand_1_pieces()
+    ensures { λ _. ⌜ PiecesJoin ⌝ }
 {}
 
 // Demand 1, items. Over a body that the parser takes a walk gives exactly its count of items, that of each number in its turn,
@@ -43,7 +48,7 @@ pub fn demand_2_round_trip()
 
 // Demand 2, for bytes that arrive in any pieces: what is read after them is that value at that node, once.
 pub fn demand_2_in_pieces()
-    ensures { λ _. ⌜ RoundTripPieces noted ⌝ }
+    ensures { λ _. ⌜ RoundTripPieces withReading ⌝ }
 {}
 
 // Demand 2, for definitions of all eight types: fields that fit their forms, one after the other, are read as these fields, with
@@ -55,7 +60,7 @@ pub fn demand_2_definitions()
 // Demand 3. 01: feed runs next until "more". From a sound state with at most 65,536 bytes next calls, each on what the one before
 // left, come to an end, and leave and hand on what the feed does.
 pub fn demand_3_until_more()
-    ensures { λ _. ⌜ UntilMore noted ⌝ }
+    ensures { λ _. ⌜ UntilMore withReading ⌝ }
 {}
 
 // Demand 3. After any list of feed and set calls, refused ones included, a mirror has answered each call as the plain

@@ -1,12 +1,26 @@
-// The calls on definitions, each with what is promised of it as its contract. There is nothing here but the call.
+// The calls on strings, values, definitions and their items, each with what is promised of it as its contract. There is nothing here but the call.
 ghost use mathlib.Core.Path.{_≡_};
 ghost use Rattle.wing_node.specs.Items.{walk};
+ghost use Rattle.wing_node.specs.Utf8.{Octets, Decides};
+ghost use Rattle.wing_node.specs.Value.{meant, intIn, stringIn};
+ghost use Rattle.wing_node.specs.Answers.{begunResult, startResult, stringTold};
 ghost use Rattle.promises.specs.Node.{ParserCall, BeginCall, StepCall, ItemCall};
 use wing_node::definition::Item;
 use wing_node::definition::Parsed;
 use wing_node::items::Begun;
 use wing_node::items::Step;
+use wing_node::items::Walk;
 use wing_node::node_type::NodeType;
+use wing_node::value::StringRead;
+use wing_node::value::Value;
+use wing_node::walker::Start;
+
+// RFC 3629's grammar, both ways.
+pub fn is_utf8(s: &[u8]) -> bool
+    ensures { λ r. ⌜ Decides r (Octets (now (s .entry))) ⌝ }
+{
+    wing_node::utf8::is_utf8(s)
+}
 
 pub fn from_bytes(body: &[u8]) -> Parsed
     ensures { λ r. ⌜ ParserCall (now (body .entry)) r ⌝ }
@@ -15,7 +29,7 @@ pub fn from_bytes(body: &[u8]) -> Parsed
 }
 
 pub fn items_begin(body: &[u8]) -> Begun
-    ensures { λ r. ⌜ BeginCall (now (body .entry)) r ⌝ }
+    ensures { λ r. ⌜ BeginCall (now (body .entry)) (begunResult r) ⌝ }
 {
     wing_node::items::items_begin(body)
 }
@@ -30,4 +44,29 @@ pub fn item_by_number(body: &[u8], number: usize) -> Item
     ensures { λ r. ⌜ ItemCall (now (body .entry)) number r ⌝ }
 {
     wing_node::items::item_by_number(body, number)
+}
+
+// The walker's begin and step, for callers that keep plain numbers.
+pub fn begin_over(body: &[u8]) -> Start
+    ensures { λ r. ⌜ BeginCall (now (body .entry)) (startResult r) ⌝ }
+{
+    wing_node::walker::begin_over(body)
+}
+
+pub fn step_over(body: &[u8], w: Walk) -> Step
+    ensures { λ r. ⌜ StepCall (now (body .entry)) w r ⌝ }
+{
+    wing_node::walker::step_over(body, w)
+}
+
+pub fn get_int(v: Value) -> i32
+    ensures { λ r. ⌜ r ≡ intIn v ⌝ }
+{
+    wing_node::value::get_int(v)
+}
+
+pub fn get_string(v: Value, bytes: [u8; 256]) -> StringRead
+    ensures { λ r. ⌜ stringTold (r .answer) (r .bytes) ≡ stringIn (meant v bytes) ⌝ }
+{
+    wing_node::value::get_string(v, bytes)
 }

@@ -2,9 +2,11 @@
 ghost use mathlib.Core.Path.{_≡_};
 ghost use Rattle.wing_node.specs.Value.{integer as integerOf, float as floatOf, string as stringOf};
 ghost use Rattle.wing_wire.specs.Command.{setBytes, idBytes, suffixBytes, requestBytes};
+ghost use Rattle.wing_wire.specs.Lent.{wholeReply};
 ghost use Rattle.wing_wire.specs.Meter.{keepAlives};
 ghost use Rattle.promises.specs.Wire.{stateOf, NextCall, AdvanceCall, DecodeCall, commandLines, stringLines, CommandCall, SetOrder, MeterCall, PacketCall};
 use wing_wire::escape::NextUnit;
+use wing_wire::lent::Parted;
 use wing_wire::meter::Meter;
 use wing_wire::meter::MetersRead;
 use wing_wire::meter::Requested;
@@ -20,6 +22,20 @@ pub fn next(s: State, bytes: &[u8]) -> Reply
     ensures { λ r. ⌜ NextCall s (now (bytes .entry)) r ⌝ }
 {
     wing_wire::reader::next(s, bytes)
+}
+
+// The same with the reply parted from the state.
+pub fn next_parted(s: State, bytes: &[u8]) -> Parted
+    ensures { λ r. ⌜ NextCall s (now (bytes .entry)) (wholeReply (r .reply) (r .state)) ⌝ }
+{
+    wing_wire::lent::next_parted(s, bytes)
+}
+
+// The lent form, through a local that is lent to it.
+pub fn next_over(s: State, bytes: &[u8]) -> Parted
+    ensures { λ r. ⌜ NextCall s (now (bytes .entry)) (wholeReply (r .reply) (r .state)) ⌝ }
+{
+    wing_wire::lent::next_over(s, bytes)
 }
 
 pub fn advance(c: Control, store: &mut [u8], bytes: &[u8]) -> Advanced

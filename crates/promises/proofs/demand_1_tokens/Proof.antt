@@ -1,10 +1,10 @@
 use Rattle.wing_wire.proofs.Reading.Cuts.{tokens}
-use Rattle.promises.specs.Wire.{noted}
+use Rattle.promises.specs.Wire.{withReading}
 use Rattle.promises.proofs.demand_1_tokens.Statement.{statement}
 use Rattle.promises.proofs.demand_1_tokens.Tie as tie
 
 returns : tie.Need-returns
-returns c = tokens noted
+returns c = tokens withReading
 
 pub demand-1-tokens-spec : {M : Type 1} → statement M
 demand-1-tokens-spec = tie.close (tie.spec returns)

@@ -1,10 +1,10 @@
 use Rattle.wing_wire.proofs.BothWays.RoundTrip.{round-trip-pieces}
-use Rattle.promises.specs.Wire.{noted}
+use Rattle.promises.specs.Wire.{withReading}
 use Rattle.promises.proofs.demand_2_in_pieces.Statement.{statement}
 use Rattle.promises.proofs.demand_2_in_pieces.Tie as tie
 
 returns : tie.Need-returns
-returns c = round-trip-pieces noted
+returns c = round-trip-pieces withReading
 
 pub demand-2-in-pieces-spec : {M : Type 1} → statement M
 demand-2-in-pieces-spec = tie.close (tie.spec returns)

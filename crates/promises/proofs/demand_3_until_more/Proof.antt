@@ -1,10 +1,10 @@
 use Rattle.wing_wire.proofs.Reading.Repeats.{until-more}
-use Rattle.promises.specs.Wire.{noted}
+use Rattle.promises.specs.Wire.{withReading}
 use Rattle.promises.proofs.demand_3_until_more.Statement.{statement}
 use Rattle.promises.proofs.demand_3_until_more.Tie as tie
 
 returns : tie.Need-returns
-returns c = until-more noted
+returns c = until-more withReading
 
 pub demand-3-until-more-spec : {M : Type 1} → statement M
 demand-3-until-more-spec = tie.close (tie.spec returns)

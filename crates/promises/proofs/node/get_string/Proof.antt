@@ -1,0 +1,14 @@
+use borrow.Author.Needs.{needs}
+use Rattle.wing_node.specs.Value.{meant}
+use Rattle.wing_node.proofs.Results.{answers-agree}
+use Rattle.promises.proofs.node.get_string.Statement.{statement}
+use Rattle.promises.proofs.node.get_string.Tie as tie
+
+get-string-requires : tie.Need-get-string-requires
+get-string-requires c κs = search needs
+
+returns : tie.Need-returns
+returns c = rw (c .get-string .ensures) (answers-agree .string (meant (c .before .args .v) (c .before .args .bytes)))
+
+pub get-string-spec : {M : Type 1} → statement M
+get-string-spec = tie.close (tie.spec get-string-requires returns)
