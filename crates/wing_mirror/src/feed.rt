@@ -82,6 +82,8 @@ fn unfed(why: u8, state: State, count: usize) -> FeedReply
     }
 }
 
+// 01: a feed takes up to 65,536 bytes and runs next until 'more': each value is stored at its node or has no place, each body goes
+// through the parser, and the six counts tell how many. 8, 7, 14.
 pub fn feed(state: State, table: &mut [u8], count: usize, bytes: &[u8]) -> FeedReply
     ensures { λ r. ⌜ feeding r (now (table .exit)) ≡ mirrorFeed state (tableOf (now (table .entry)) count) (now (bytes .entry)) ⌝ }
 {

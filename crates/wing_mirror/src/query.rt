@@ -33,6 +33,7 @@ fn number_of(table: &[u8], count: usize, key: u32) -> Lookup
     Lookup::None
 }
 
+// 01: an id's record number, or none. 7.
 pub fn lookup(table: &[u8], count: usize, id: i32) -> Lookup
     ensures { λ r. ⌜ r ≡ lookupAnswer (tableOf (now (table .entry)) count) id ⌝ }
 {
@@ -105,6 +106,7 @@ fn read_at(table: &[u8], number: usize) -> RecordRead
     read_record(&table[at..at + State::PLACE_WIDTH])
 }
 
+// 01: a record is read by number, from 0: its id and value, the bytes of a string beside it. 7, 14.
 pub fn record(table: &[u8], count: usize, number: usize) -> RecordRead
     ensures { λ r. ⌜ r ≡ recordAnswer (tableOf (now (table .entry)) count) number ⌝ }
 {
@@ -142,6 +144,7 @@ fn same_records(a: &[u8], count_a: usize, b: &[u8], count_b: usize) -> bool
     false
 }
 
+// 01: two mirrors are equal if count and records are. 7 for either table.
 pub fn same(a: &[u8], count_a: usize, b: &[u8], count_b: usize) -> Same
     ensures { λ r. ⌜ r ≡ sameAnswer (tableOf (now (a .entry)) «count_a») (tableOf (now (b .entry)) «count_b») ⌝ }
 {

@@ -84,6 +84,7 @@ fn set_value(
     refused(6, count)
 }
 
+// 01: set through the mirror writes the command and stores the value. 7, 6, 9.
 pub fn set_int(table: &mut [u8], count: usize, out: &mut [u8], id: i32, value: i32) -> SetReply
     ensures { λ r. ⌜ setting r (now (out .exit)) (now (table .exit)) ≡ mirrorSet id (integer value) (tableOf (now (table .entry)) count) (now (out .entry)) ⌝ }
 {
@@ -94,6 +95,7 @@ pub fn set_int(table: &mut [u8], count: usize, out: &mut [u8], id: i32, value: i
     refused(7, count)
 }
 
+// The same for a float, by its 32 bits.
 pub fn set_float(table: &mut [u8], count: usize, out: &mut [u8], id: i32, bits: u32) -> SetReply
     ensures { λ r. ⌜ setting r (now (out .exit)) (now (table .exit)) ≡ mirrorSet id (float bits) (tableOf (now (table .entry)) count) (now (out .entry)) ⌝ }
 {
@@ -104,6 +106,7 @@ pub fn set_float(table: &mut [u8], count: usize, out: &mut [u8], id: i32, bits: 
     refused(7, count)
 }
 
+// The same for a string. 7, 10, 1, 6, 9.
 pub fn set_string(table: &mut [u8], count: usize, out: &mut [u8], id: i32, value: &[u8]) -> SetReply
     ensures { λ r. ⌜ setting r (now (out .exit)) (now (table .exit)) ≡ mirrorSet id (stringOf (now (value .entry))) (tableOf (now (table .entry)) count) (now (out .entry)) ⌝ }
 {

@@ -9,6 +9,7 @@ use crate::order::key_at;
 use crate::record;
 use wing_wire::state::State;
 
+// 01: places = buffer length div 264.
 pub fn places(table: &[u8]) -> usize
     ensures { λ r. ⌜ r ≡ length (now (table .entry)) / width ⌝ }
 {
@@ -60,6 +61,7 @@ fn all_pass(table: &[u8], count: usize) -> bool
     true
 }
 
+// 01: the count is at most the places, the records have their form and order, and strings are UTF-8.
 pub fn is_sound(table: &[u8], count: usize) -> bool
     ensures { λ r. ⌜ r ≡ soundTable (tableOf (now (table .entry)) count) ⌝ }
 {

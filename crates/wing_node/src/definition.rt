@@ -248,6 +248,7 @@ fn finish(refused: u8, d: Definition) -> Parsed
     Parsed::Good(d)
 }
 
+// The definition in a body, or 4 or 5 by its first failing field. Later bytes are ignored.
 pub fn from_bytes(body: &[u8]) -> Parsed
     ensures { λ r. ⌜ r ≡ definitionOf (now (body .entry)) ⌝ }
 {

@@ -37,6 +37,7 @@ pub fn to_i16(u: u16) -> i16
     }
 }
 
+// The number whose 32 bits these are, in two's complement.
 pub fn to_i32(u: u32) -> i32
     ensures { λ r. ⌜ r ≡ signed 31 u ⌝ }
 {
@@ -58,6 +59,7 @@ pub fn of_i16(x: i16) -> u16
     }
 }
 
+// The 32 bits of a number.
 pub fn of_i32(x: i32) -> u32
     ensures { λ r. ⌜ r ≡ unsigned 31 x ⌝ }
 {
@@ -68,6 +70,7 @@ pub fn of_i32(x: i32) -> u32
     }
 }
 
+// The 16-bit number in the bytes from a place on, 0 where fewer are left.
 pub fn u16_at(s: &[u8], at: usize) -> u16
     ensures { λ r. ⌜ r ≡ fieldAt 2 (now (s .entry)) at ⌝ }
 {
@@ -77,6 +80,7 @@ pub fn u16_at(s: &[u8], at: usize) -> u16
     number_16(s[at], s[at + 1])
 }
 
+// The same of 32 bits.
 pub fn u32_at(s: &[u8], at: usize) -> u32
     ensures { λ r. ⌜ r ≡ fieldAt 4 (now (s .entry)) at ⌝ }
 {
@@ -86,12 +90,14 @@ pub fn u32_at(s: &[u8], at: usize) -> u32
     number_32(s[at], s[at + 1], s[at + 2], s[at + 3])
 }
 
+// The same of 16 bits, signed.
 pub fn i16_at(s: &[u8], at: usize) -> i16
     ensures { λ r. ⌜ r ≡ signed 15 (fieldAt 2 (now (s .entry)) at) ⌝ }
 {
     to_i16(u16_at(s, at))
 }
 
+// The same of 32 bits, signed.
 pub fn i32_at(s: &[u8], at: usize) -> i32
     ensures { λ r. ⌜ r ≡ signed 31 (fieldAt 4 (now (s .entry)) at) ⌝ }
 {
@@ -110,6 +116,7 @@ pub fn put_u16(out: &mut [u8], at: usize, n: u16) -> bool
     true
 }
 
+// The same of 32 bits.
 pub fn put_u32(out: &mut [u8], at: usize, n: u32) -> bool
     ensures { λ r. ⌜ put r (now (out .exit)) ≡ putAt (bytesOf 4 n) at (now (out .entry)) ⌝ }
 {
@@ -123,12 +130,14 @@ pub fn put_u32(out: &mut [u8], at: usize, n: u32) -> bool
     true
 }
 
+// The same of 16 bits, signed.
 pub fn put_i16(out: &mut [u8], at: usize, x: i16) -> bool
     ensures { λ r. ⌜ put r (now (out .exit)) ≡ putAt (bytesOf 2 (unsigned 15 x)) at (now (out .entry)) ⌝ }
 {
     put_u16(out, at, of_i16(x))
 }
 
+// The same of 32 bits, signed.
 pub fn put_i32(out: &mut [u8], at: usize, x: i32) -> bool
     ensures { λ r. ⌜ put r (now (out .exit)) ≡ putAt (bytesOf 4 (unsigned 31 x)) at (now (out .entry)) ⌝ }
 {
@@ -142,6 +151,7 @@ pub fn bytes_16(n: u16) -> [u8; 2]
     [(n / 256 % 256) as u8, (n % 256) as u8]
 }
 
+// The four bytes of a number.
 pub fn bytes_32(n: u32) -> [u8; 4]
     ensures { λ r. ⌜ r ≡ bytesOf 4 n ⌝ }
 {

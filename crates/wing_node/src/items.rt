@@ -55,6 +55,7 @@ fn first_of(kind: NodeType, details: Details) -> Walk
     }
 }
 
+// 01: the walk begins at the first item; a body that the parser refuses gives its 4 or 5.
 pub fn items_begin(body: &[u8]) -> Begun
     ensures { λ r. ⌜ r ≡ beginOf (now (body .entry)) ⌝ }
 {

@@ -58,6 +58,7 @@ pub fn unit_of(n: u16) -> NodeUnit
     }
 }
 
+// 01: types 5 and 6 have items.
 pub fn has_items(kind: NodeType) -> bool
     ensures { λ r. ⌜ r ≡ hasItems kind ⌝ }
 {

@@ -133,6 +133,7 @@ fn ascii_4(s: &[u8], i: usize) -> bool
     u32_at(s, i) & 0x8080_8080 == 0
 }
 
+// Whether the bytes are UTF-8 by RFC 3629's grammar.
 pub fn is_utf8(s: &[u8]) -> bool
     ensures { λ r. ⌜ r ≡ utf8 (now (s .entry)) ⌝ }
     ensures { λ r. ⌜ Decides r (Octets (now (s .entry))) ⌝ }

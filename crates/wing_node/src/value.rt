@@ -26,6 +26,7 @@ pub struct StringRead {
     pub bytes: [u8; 256],
 }
 
+// 01: the integer getter gives 0 for other kinds.
 pub fn get_int(v: Value) -> i32
     ensures { λ r. ⌜ r ≡ intIn v ⌝ }
 {
@@ -36,6 +37,7 @@ pub fn get_int(v: Value) -> i32
     }
 }
 
+// 01: the string getter gives the string, an integer's decimal, and none for a float.
 pub fn get_string(v: Value, bytes: [u8; 256]) -> StringRead
     ensures { λ r. ⌜ r ≡ answerOf (stringIn (meant v bytes)) ⌝ }
 {

@@ -73,6 +73,7 @@ fn begin_at(body: &[u8]) -> Start
     start_of(begun)
 }
 
+// A walker at the first item, or the parser's 4 or 5.
 pub fn begin<'a>(body: &'a [u8]) -> Opened<'a>
     ensures { λ r. ⌜ r ≡ openedOf (body .entry) ⌝ }
 {

@@ -22,6 +22,7 @@ pub struct Parted {
     pub reply: LentReply,
 }
 
+// next with its reply parted from the state, as the lent form stores them apart.
 pub fn next_parted(s: State, bytes: &[u8]) -> Parted
     ensures { λ r. ⌜ (wholeReply (r .reply) (r .state) ≡ nextOf s (now (bytes .entry))) × (eventIn (wholeReply (r .reply) (r .state)) ≡ nextEvent s (now (bytes .entry))) ⌝ }
 {

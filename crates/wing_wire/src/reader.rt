@@ -118,6 +118,8 @@ fn read_on(s: State, bytes: &[u8]) -> Reply
     }
 }
 
+// 01: takes up to 65,536 bytes and stops after the unit that completes an event or refusal; 'more' only when all bytes are taken
+// and nothing is pending. 8, 14.
 pub fn next(s: State, bytes: &[u8]) -> Reply
     ensures { λ r. ⌜ r ≡ nextOf s (now (bytes .entry)) ⌝ }
     ensures { λ r. ⌜ eventIn r ≡ nextEvent s (now (bytes .entry)) ⌝ }

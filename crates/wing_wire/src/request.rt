@@ -30,12 +30,14 @@ fn ask(out: &mut [u8], what: u8, id: i32) -> Written
     hand_over(out, &scratch, n)
 }
 
+// 01: definition request: da dd for id 0, else d7 id dd. 9.
 pub fn request_node_definition(out: &mut [u8], id: i32) -> Written
     ensures { λ r. ⌜ wrote r (now (out .exit)) ≡ writeOf (requestBytes 0xdd id) (now (out .entry)) ⌝ }
 {
     ask(out, 0xdd, id)
 }
 
+// 01: data request: dc for dd. 9.
 pub fn request_node_data(out: &mut [u8], id: i32) -> Written
     ensures { λ r. ⌜ wrote r (now (out .exit)) ≡ writeOf (requestBytes 0xdc id) (now (out .entry)) ⌝ }
 {

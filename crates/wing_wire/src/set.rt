@@ -81,6 +81,7 @@ fn lay_set_int(out: &mut [u8], id: i32, value: i32) -> usize
     lay_integer(out, at, value)
 }
 
+// 01: set: d7, id, value: an integer. 9.
 pub fn set_int(out: &mut [u8], id: i32, value: i32) -> Written
     ensures { λ r. ⌜ wrote r (now (out .exit)) ≡ writeOf (setBytes id (integer value)) (now (out .entry)) ⌝ }
 {
@@ -100,6 +101,7 @@ fn lay_set_float(out: &mut [u8], id: i32, bits: u32) -> usize
     lay_32(out, next, bits)
 }
 
+// The same for a float, by its 32 bits.
 pub fn set_float(out: &mut [u8], id: i32, bits: u32) -> Written
     ensures { λ r. ⌜ wrote r (now (out .exit)) ≡ writeOf (setBytes id (float bits)) (now (out .entry)) ⌝ }
 {

@@ -44,6 +44,7 @@ pub struct State {
 }
 
 impl Control {
+    // 01: unescaped, channel −1, nothing pending, current node 0, between tokens.
     pub fn fresh() -> Self
         ensures { λ r. ⌜ r ≡ freshControl ⌝ }
     {
@@ -64,6 +65,7 @@ impl State {
 
     pub const PLACE_WIDTH: usize = 264;
 
+    // The same with a store of zeros.
     pub fn fresh() -> Self
         ensures { λ r. ⌜ r ≡ freshState ⌝ }
     {

@@ -55,6 +55,7 @@ fn join(e: Escape, t: Taken) -> Told
     }
 }
 
+// Whether an answer is 'more'.
 pub fn is_more(a: Answer) -> bool
     ensures { λ r. ⌜ r ≡ isMore a ⌝ }
 {
