@@ -1,3 +1,4 @@
+-- Each return is a case of `readAt` (`read-refused`, `read-short`, `read-there`), and the number is what `u32_at` says of a whole field.
 use mathlib.Core.Path.{_≡_, sym, refl, _∙_, ap}
 use Prim.Native.Nat.{_-_, _≤_}
 use native.Mathlib.Omega.{arith}

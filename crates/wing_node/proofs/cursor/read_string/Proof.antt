@@ -1,3 +1,5 @@
+-- Each return is a case of `readAt`: refused before (`read-refused`), too short (`string-short`), there (`string-there`) or not UTF-8
+-- (`string-wrong`), as `is_utf8` tells of the bytes after the length byte.
 use mathlib.Core.Path.{_≡_, sym, _∙_}
 use mathlib.Core.Bool.{true, false}
 use Prim.Native.Nat.{_-_, _+_}

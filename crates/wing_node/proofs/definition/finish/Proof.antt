@@ -1,3 +1,4 @@
+-- Each return is the branch of `parsedFrom` with that test of the refusal.
 use borrow.Author.Tests.{eq-eqb, ne-eqb}
 use Rattle.wing_node.proofs.definition.finish.Statement.{statement}
 use Rattle.wing_node.proofs.definition.finish.Tie as tie

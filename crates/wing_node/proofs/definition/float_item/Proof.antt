@@ -1,3 +1,4 @@
+-- `itemAt` opened is the two reads one after the other, and the contracts of `read_32` and `read_string` give each.
 use Rattle.wing_node.specs.Cursor.{reads, after}
 use Rattle.wing_node.specs.Definition.{itemAt}
 use borrow.Author.Needs.{needs}

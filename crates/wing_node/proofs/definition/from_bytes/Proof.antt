@@ -1,3 +1,5 @@
+-- `definitionOf` opened is the code's reads one after the other: the contract of each call gives its field, and that of `finish` the refusal or the
+-- definition.
 use mathlib.Core.Path.{_≡_, _∙_}
 use mir.Syntax.{w32}
 use mir.Val.{toZ, ofZ}

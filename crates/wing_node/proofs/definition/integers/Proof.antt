@@ -1,3 +1,4 @@
+-- `detailsAt` opened is two 4-byte fields one after the other, which the contract of `read_32` gives, and `to_i32` gives their signs.
 use mathlib.Core.Path.{_≡_}
 use mir.Syntax.{w32}
 use mir.Val.{toZ, ofZ}

@@ -1,3 +1,4 @@
+-- `listedAt` opened is the count and the items after it, which the contracts of `read_16` and `past_items` give.
 use Rattle.wing_node.specs.Definition.{listedAt}
 use borrow.Author.Needs.{needs}
 use Rattle.wing_node.proofs.definition.listed.Statement.{statement}

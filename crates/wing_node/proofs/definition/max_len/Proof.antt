@@ -1,3 +1,4 @@
+-- `detailsAt` opened is one 2-byte field, which the contract of `read_16` gives.
 use Rattle.wing_node.specs.Cursor.{reads, after}
 use Rattle.wing_node.specs.Definition.{detailsAt, times}
 use borrow.Author.Needs.{needs}

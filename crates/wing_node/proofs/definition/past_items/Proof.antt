@@ -1,3 +1,5 @@
+-- The invariant: the cursor past the items left is the cursor past all of them; a turn passes one (`items-turn`), and a refused cursor stays where
+-- it is (`after-refused`).
 use mathlib.Core.Path.{_≡_, refl, _∙_, sym, ap}
 use Prim.Native.Nat.{_-_}
 use native.Mathlib.Omega.{arith}

@@ -1,3 +1,4 @@
+-- Each arm is `detailsAt` at that type, by the contract of the function that it calls; types 1 and 2 have the same fields, as have 5 and 6.
 use Rattle.wing_node.specs.Cursor.{reads, after}
 use Rattle.wing_node.specs.Definition.{detailsAt, listedAt, times}
 use borrow.Author.Needs.{needs}

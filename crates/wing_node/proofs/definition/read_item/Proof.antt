@@ -1,3 +1,4 @@
+-- Each arm is `itemAt` at that type, by the contract of the function that it calls; a type without items reads no field.
 use Rattle.wing_node.specs.Cursor.{reads, after}
 use Rattle.wing_node.specs.Definition.{itemAt}
 use borrow.Author.Needs.{needs}

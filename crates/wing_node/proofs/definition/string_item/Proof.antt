@@ -1,3 +1,4 @@
+-- `itemAt` opened is two strings one after the other, which the contract of `read_string` gives.
 use Rattle.wing_node.specs.Cursor.{reads, after}
 use Rattle.wing_node.specs.Definition.{itemAt}
 use borrow.Author.Needs.{needs}

@@ -1,3 +1,4 @@
+-- The digits of n in base 256, computed from the definition, are the bytes of the array.
 use mathlib.Core.Path.{refl}
 use Rattle.wing_node.specs.Digits.{digitsIn}
 use borrow.Author.Needs.{needs}

@@ -1,3 +1,4 @@
+-- The contract of `u16_at`, then that of `to_i16`.
 use mathlib.Core.Path.{_≡_, _∙_, ap}
 use mir.Syntax.{w16}
 use mir.Val.{toZ, ofZ}

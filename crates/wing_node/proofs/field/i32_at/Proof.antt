@@ -1,3 +1,4 @@
+-- The contract of `u32_at`, then that of `to_i32`.
 use mathlib.Core.Path.{_≡_, _∙_, ap}
 use mir.Syntax.{w32}
 use mir.Val.{toZ, ofZ}

@@ -1,3 +1,4 @@
+-- The number of two bytes, computed digit by digit from the definition, is the code's term but for a 0 * 256 in front.
 use mathlib.Core.Path.{_≡_}
 use Prim.Native.Nat.{_+_, _*_}
 use native.Mathlib.Omega.{arith}

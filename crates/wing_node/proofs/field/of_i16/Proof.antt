@@ -1,4 +1,4 @@
--- `field::of_i16` meets its contract. Assumes nothing.
+-- Below 0 the code takes !x from the greatest number, which leaves the bits of x (`turned`, `bits-below`); else x is its own bits (`bits-above`).
 use mathlib.Core.Path.{refl}
 use native.Mathlib.Omega.{arith}
 use mir.Facts.{toZ-ofZ}

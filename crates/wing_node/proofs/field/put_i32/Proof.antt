@@ -1,3 +1,4 @@
+-- The contract of `of_i32` gives the number's bits, and that of `put_u32` what is left in the bytes.
 use mir.Facts.{toZ-ofZ}
 use Rattle.wing_node.specs.Signed.{unsigned}
 use mathlib.Core.Path.{_∙_, ap}

@@ -1,3 +1,4 @@
+-- Without room nothing is put (`put-short`); else the two stores, one after the other, are the two digits placed (`stores-two`).
 use mathlib.Core.Path.{sym}
 use native.Mathlib.Omega.{arith}
 use lib.ListN.{length-set}

@@ -1,3 +1,4 @@
+-- Without room nothing is put (`put-short`); else the four stores, one after the other, are the four digits placed (`stores-four`).
 use mathlib.Core.Path.{sym}
 use native.Mathlib.Omega.{arith}
 use lib.ListN.{length-set}

@@ -1,4 +1,5 @@
--- `field::to_i32` meets its contract. Assumes nothing.
+-- The result has the bits u in both branches, as u taken twice from the greatest number is u again, and the law `reads` gives the number with these
+-- bits.
 use mathlib.Core.Path.{_≡_, refl}
 use Prim.Native.Nat.{_-_}
 use native.Mathlib.Omega.{arith}

@@ -1,3 +1,4 @@
+-- Fewer than two bytes read as 0 (`field-short`); else the field is the number of its two bytes (`two-bytes`), which `number_16` gives.
 use mathlib.Core.Path.{sym, _∙_, ap}
 use Prim.Native.Nat.{_≤_, _-_}
 use native.Mathlib.Omega.{arith}

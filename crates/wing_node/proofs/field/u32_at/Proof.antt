@@ -1,3 +1,4 @@
+-- Fewer than four bytes read as 0 (`field-short`); else the field is the number of its four bytes (`four-bytes`), which `number_32` gives.
 use mathlib.Core.Path.{sym, _∙_, ap}
 use Prim.Native.Nat.{_≤_, _-_}
 use native.Mathlib.Omega.{arith}

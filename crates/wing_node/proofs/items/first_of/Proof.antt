@@ -1,3 +1,4 @@
+-- Each arm is the line of `walkFrom` with that variant, by the contract of `walk_of`.
 use borrow.Author.Needs.{needs}
 use Rattle.wing_node.proofs.items.first_of.Statement.{statement}
 use Rattle.wing_node.proofs.items.first_of.Tie as tie

@@ -1,3 +1,4 @@
+-- The contract of `items_begin` says which line of `numberedIn` counts, and that of `numbered` gives the item.
 use Rattle.wing_node.specs.Items.{itemNumbered}
 use borrow.Author.Needs.{needs}
 use Rattle.wing_node.proofs.items.item_by_number.Statement.{statement}

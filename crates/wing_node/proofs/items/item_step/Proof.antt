@@ -1,3 +1,4 @@
+-- Each return is the branch of `stepAt` with that test, and the contracts of `has_items` and `read_item` give what is tested.
 use borrow.Author.Tests.{eq-eqb, ne-eqb}
 use Rattle.wing_node.specs.Items.{stepAt}
 use borrow.Author.Needs.{needs}

@@ -1,3 +1,4 @@
+-- The contract of `from_bytes` says which line of `beginFrom` counts, and that of `first_of` gives the walk.
 use Rattle.wing_node.specs.Items.{beginOf}
 use borrow.Author.Needs.{needs}
 use Rattle.wing_node.proofs.items.items_begin.Statement.{statement}

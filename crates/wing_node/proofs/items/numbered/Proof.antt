@@ -1,3 +1,4 @@
+-- Both returns are the branches of `numberedFrom`: `past_items` gives the place after the items before it, and `item_step` the item there.
 use borrow.Author.Tests.{le-leb, le-ltb, lt-leb, lt-ltb}
 use Rattle.wing_node.specs.Items.{numberedFrom}
 use borrow.Author.Needs.{needs}

@@ -1,3 +1,4 @@
+-- Each arm is the entry of `types` with that number, and a number that is none of 0 to 7 is past the list's end (`over-seven`).
 use mathlib.Core.Path.{sym}
 use lib.ListN.{List·getD-eq-default}
 use Rattle.wing_node.proofs.Eight.{over-seven}

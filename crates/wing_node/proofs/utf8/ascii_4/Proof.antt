@@ -1,4 +1,5 @@
--- `utf8::ascii_4` meets its contract: what `u32_at` gives is the number of the four bytes.
+-- Fewer than four bytes begin no row of four (`begins-short`); else `u32_at` gives the number of the four bytes, and its high bits tell
+-- (`ascii-word`).
 use Prim.Native.Nat.{ℕ}
 use mathlib.Core.Path.{sym, _∙_, ap}
 use native.Mathlib.Omega.{arith}

@@ -1,3 +1,4 @@
+-- Each return is the branch of `char-at` with that test, which is `charLength` in the order in which the code looks at the bytes.
 use Prim.Native.Nat.{_<_, _+_}
 use mathlib.Core.Path.{refl, sym, _∙_}
 use native.Mathlib.Omega.{arith}

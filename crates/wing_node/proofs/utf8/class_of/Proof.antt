@@ -1,3 +1,4 @@
+-- The law `lead`, computed at each of 256 bytes, says that the leading zeros of 255 minus the byte are its leading ones.
 use borrow.Author.Needs.{needs}
 use Rattle.wing_node.proofs.Characters.LeadBytes.{lead}
 use Rattle.wing_node.proofs.utf8.class_of.Statement.{statement}

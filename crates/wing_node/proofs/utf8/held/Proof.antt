@@ -1,3 +1,4 @@
+-- Inside the bytes the two tests are those of `holds` (`begins-at`); past the end no byte is left to match.
 use borrow.Author.Needs.{needs}
 use borrow.Author.Tests.{le-leb, lt-leb}
 use lib.ListN.{drop-of-length-le}

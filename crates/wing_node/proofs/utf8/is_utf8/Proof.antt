@@ -1,4 +1,5 @@
--- `utf8::is_utf8` meets its contract.
+-- The invariant: the bytes are UTF-8 exactly if those from i on are; a turn passes four bytes of ASCII, `is_utf8_from` tells of the rest, and
+-- `decides-by` makes it the grammar's answer.
 use Prim.Native.Nat.{_-_}
 use mathlib.Core.Path.{_≡_, refl, sym, _∙_}
 use native.Mathlib.Omega.{arith}

@@ -1,3 +1,4 @@
+-- The invariant: the bytes from the start on are UTF-8 exactly if those from i on are; a turn passes one whole character.
 use Prim.Native.Nat.{_-_}
 use mathlib.Core.Path.{_≡_, refl, sym, _∙_}
 use native.Mathlib.Omega.{arith}

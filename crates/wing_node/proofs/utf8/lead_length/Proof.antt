@@ -1,3 +1,4 @@
+-- The law `lead`, computed at each of 256 bytes, says that the length is this choice by class, and each return is its branch with that test.
 use borrow.Author.Tests.{lt-ltb, le-ltb, ne-eqb}
 use borrow.Author.Needs.{needs}
 use Rattle.wing_node.proofs.Characters.LeadBytes.{lead}

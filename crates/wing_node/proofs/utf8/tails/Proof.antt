@@ -1,3 +1,4 @@
+-- The invariant: n tail bytes stand at i exactly if those left stand at the place reached; a turn passes one of them (`begins-again`).
 use mathlib.Core.Path.{_≡_, refl, sym, _∙_}
 use native.Mathlib.Omega.{arith}
 use borrow.Author.Needs.{needs}

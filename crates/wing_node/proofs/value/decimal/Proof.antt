@@ -1,4 +1,5 @@
--- `wing_node::value::decimal` meets its contract. Assumes nothing.
+-- In both branches `places` gives the length and `put_digits` the digits of what `magnitude` gives, and the laws of `Answers` make them the decimal
+-- with its sign.
 use mathlib.Core.Path.{_∙_, ap}
 use Prim.Native.Nat.{_+_, _≤_}
 use native.Mathlib.Omega.{arith}

@@ -1,4 +1,4 @@
--- `wing_node::value::first` meets its contract. Assumes nothing.
+-- The contract of `zero_from` leaves the first n bytes and zeros after them (`zeroed-first`), and the length is that of those bytes (`answered`).
 use mathlib.Core.Path.{_≡_, _∙_}
 use native.Mathlib.Omega.{arith}
 use borrow.Author.Needs.{needs}

@@ -1,4 +1,4 @@
--- `wing_node::value::get_int` meets its contract. Assumes nothing.
+-- Each arm is the line of `intIn` with that variant.
 use mathlib.Core.Path.{_≡_}
 use borrow.Author.Needs.{needs}
 use mir.Syntax.{w32}

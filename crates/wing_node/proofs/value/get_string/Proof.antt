@@ -1,4 +1,4 @@
--- `wing_node::value::get_string` meets its contract. Assumes nothing.
+-- Each arm is the line of `stringIn` with that variant, by the contracts of `decimal` and `first`.
 use mathlib.Core.Path.{_≡_, _∙_, ap}
 use borrow.Author.Needs.{needs}
 use mir.Syntax.{w32}

@@ -1,4 +1,4 @@
--- `wing_node::value::magnitude` meets its contract. Assumes nothing.
+-- Below 0 it is !x + 1 (`turned`, `below-zero`); else x as it is.
 use native.Mathlib.Omega.{arith}
 use borrow.Author.Needs.{needs}
 use mathlib.Core.Path.{refl}

@@ -1,4 +1,4 @@
--- `wing_node::value::places` meets its contract. The invariant: the digits counted and those of the rest are one more than those of n. Assumes nothing.
+-- The invariant: the digits counted and those of the rest are one more than those of n; a turn takes one digit from the rest (`length-more`).
 use mathlib.Core.Path.{_≡_}
 use Prim.Native.Nat.{_+_}
 use native.Mathlib.Omega.{arith}

@@ -1,4 +1,4 @@
--- `wing_node::value::put_digits` meets its contract. The invariant: what is left to do has the same outcome. Assumes nothing.
+-- The invariant: the bytes with the i digits left put into them are the outcome for all k digits; a turn puts the last of those (`placed-turn`).
 use mathlib.Core.Path.{_≡_, refl, _∙_, sym, ap}
 use Prim.Native.Nat.{_≤_}
 use native.Mathlib.Omega.{arith}

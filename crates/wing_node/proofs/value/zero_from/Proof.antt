@@ -1,4 +1,4 @@
--- `wing_node::value::zero_from` meets its contract. The invariant: what is left to do has the same outcome. Assumes nothing.
+-- The invariant: the bytes with zeros from i on are the bytes at entry with zeros from the start on; a turn stores one of them (`zeroed-turn`).
 use mathlib.Core.Path.{_≡_, refl, _∙_, sym}
 use Prim.Native.Nat.{_-_}
 use borrow.Author.Needs.{needs}

@@ -1,4 +1,4 @@
--- `wing_node::walker::begin` meets its contract: a walk of its MIR, by hand. `begin_at` is called on the slice, and a walker is made of the slice and the place that `begin_at` gives.
+-- Walked by hand: `begin_at` is called on the slice, and a walker is made of the slice and the place that the contract of `begin_at` gives.
 -- A `&` is Copy: what the slice owns is had three times, for the callee, for the result and for the exit.
 use mathlib.Core.Path.{_≡_, refl, ap}
 use Prim.Native.Nat.{ℕ}

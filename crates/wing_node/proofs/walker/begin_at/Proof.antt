@@ -1,3 +1,4 @@
+-- The contract of `items_begin`, then that of `start_of`.
 use borrow.Author.Needs.{needs}
 use Rattle.wing_node.proofs.walker.begin_at.Statement.{statement}
 use Rattle.wing_node.proofs.walker.begin_at.Tie as tie

@@ -1,4 +1,4 @@
--- `wing_node::walker::begin_over` meets its contract: a walk of its MIR, by hand. `begin` is called on the slice, and the plain numbers are taken out of the walker that it gives.
+-- Walked by hand: `begin` is called on the slice, and the plain numbers are taken out of the walker that the contract of `begin` gives.
 use mathlib.Core.Path.{_≡_, refl, ap}
 use Prim.Native.Nat.{ℕ}
 use mathlib.Core.List.{[], _∷_, List}

@@ -1,3 +1,4 @@
+-- Each arm is the line of `startOf` with that variant.
 use borrow.Author.Needs.{needs}
 use Rattle.wing_node.proofs.walker.start_of.Statement.{statement}
 use Rattle.wing_node.proofs.walker.start_of.Tie as tie

@@ -1,4 +1,5 @@
--- `wing_node::walker::step` meets its contract: a walk of its MIR, by hand. The walker is taken apart, `item_step` is called on its fields, and a walker is made anew of the same slice and the place that `item_step` gives.
+-- Walked by hand: the walker is taken apart, `item_step` is called on its fields, and a walker is made anew of the same slice and the place that the
+-- contract of `item_step` gives.
 -- The walker is Copy: what it owns is had three times, for the callee, for the result and for the exit.
 use mathlib.Core.Path.{_≡_, refl, ap}
 use mathlib.Core.List.{[], _∷_}

@@ -1,4 +1,5 @@
--- `wing_node::walker::step_over` meets its contract: a walk of its MIR, by hand. A walker is made of the slice and the walk, `step` is called on it, and the plain numbers are taken out of the walker that it gives.
+-- Walked by hand: a walker is made of the slice and the walk, `step` is called on it, and the plain numbers are taken out of the walker that the
+-- contract of `step` gives.
 use mathlib.Core.Path.{_≡_, refl, ap}
 use Prim.Native.Nat.{ℕ}
 use mathlib.Core.List.{[], _∷_, List}
