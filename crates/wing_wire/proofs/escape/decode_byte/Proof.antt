@@ -1,4 +1,4 @@
--- `escape::decode_byte` meets its contract.
+-- Both returns are the branches of `decodeOf`, by the contracts of `decode_escaped` and `decode_plain`.
 use borrow.Author.Needs.{needs}
 use Rattle.wing_wire.specs.Escape.{decodeOf}
 use Rattle.wing_wire.proofs.escape.decode_byte.Statement.{statement}

@@ -1,4 +1,4 @@
--- `escape::decode_escaped` meets its contract.
+-- Each return is the branch of `escapedOf` with that test of the byte, by the contract of the function that it calls.
 use Prim.Native.Nat.{_-_, _<_}
 use mathlib.Core.Path.{_≡_}
 use native.Mathlib.Omega.{arith}

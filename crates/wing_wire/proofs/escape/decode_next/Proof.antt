@@ -1,3 +1,4 @@
+-- Each return is the case of `decodeNextOf`: a pending byte, a byte at the place, which the contract of `decode_byte` decodes, or none.
 use mathlib.Core.Path.{_≡_}
 use mir.Val.{toZ, ofZ}
 use mir.Syntax.{w8}

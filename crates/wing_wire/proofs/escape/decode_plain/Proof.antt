@@ -1,4 +1,4 @@
--- `escape::decode_plain` meets its contract.
+-- Both returns are the branches of `plainOf` with that test of the byte.
 use mathlib.Core.Path.{_≡_}
 use mir.Val.{toZ, ofZ}
 use mir.Syntax.{w8}

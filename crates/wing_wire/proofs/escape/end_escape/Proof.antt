@@ -1,4 +1,4 @@
--- `escape::end_escape` meets its contract.
+-- The contract of `escape_of`, as the channel comes back as it was from its 8 bits.
 use mathlib.Core.Path.{_≡_, _∙_}
 use mir.Val.{toZ, ofZ}
 use mir.Syntax.{w8}

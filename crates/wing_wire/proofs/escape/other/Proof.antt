@@ -1,4 +1,4 @@
--- `escape::other` meets its contract.
+-- Both returns are the branches of `otherOf` with that test of the channel, by the contracts of `end_escape` and `escape_of`.
 use mathlib.Core.Path.{_≡_}
 use mir.Val.{toZ, ofZ}
 use mir.Syntax.{w8}

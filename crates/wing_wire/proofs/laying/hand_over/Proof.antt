@@ -1,3 +1,5 @@
+-- Where out is too short nothing is written (law `short`); else the contract of `copy_front` puts the n bytes over its front, which is the whole
+-- command (laws `over-whole` and `whole`).
 use Prim.Native.Nat.{_≤_}
 use mathlib.Core.Path.{_≡_}
 use native.Mathlib.Omega.{arith}

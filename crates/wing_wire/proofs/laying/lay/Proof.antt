@@ -1,3 +1,5 @@
+-- Inside the buffer the byte is stored (law `stored`), past its end the buffer stays as it is (law `past`), and the place goes on by one in both
+-- cases.
 use lib.ListN.{length, length-set}
 use mathlib.Core.Path.{ap, _∙_}
 use mathlib.Core.Logic.{⊎-elim}

@@ -1,3 +1,4 @@
+-- The contract of `lay_escaped` on the two bytes that the contract of `bytes_16` gives.
 use Rattle.wing_node.proofs.Numerals.Numbers.{length-digitsIn}
 use borrow.Author.Needs.{needs}
 use Rattle.wing_wire.proofs.laying.lay_16.Statement.{statement}

@@ -1,3 +1,5 @@
+-- The invariant: the first i bytes are laid escaped, in at most twice as many; a turn lays one more (`escaped-df`, `escaped-other`), and the law
+-- `then` joins it on.
 use lib.Seq.{take-all}
 use borrow.Author.Needs.{needs}
 use Prim.Native.Nat.{_+_, _-_, _*_, _≤_, _<_}

@@ -1,3 +1,4 @@
+-- The contracts of `lay` and `lay_32` one after the other, which the law `then` joins; `of_i32` gives the id's bits.
 use mir.Facts.{toZ-ofZ}
 use native.Mathlib.Omega.{arith}
 use Rattle.wing_wire.proofs.Writing.Lays.{then}

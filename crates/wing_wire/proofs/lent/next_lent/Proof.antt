@@ -1,4 +1,5 @@
--- `wing_wire::lent::next_lent` meets its contract: a walk of its MIR, by hand. The borrow is opened, the struct is copied out and passed to `next_parted`, the state of what that returns is stored back, and the borrow is closed at it.
+-- Walked by hand: the borrow is opened, the struct is copied out and passed to `next_parted`, the state of what that returns is stored back, and the
+-- borrow is closed at it; the contract of `next_parted` carries it.
 use mathlib.Core.Path.{_≡_, refl, ap}
 use Prim.Native.Nat.{ℕ}
 use mathlib.Core.List.{[], _∷_, List}

@@ -1,4 +1,5 @@
--- `wing_wire::lent::next_over` meets its contract: a walk of its MIR, by hand. The state is stored in a local, which is lent to `next_lent` for a lifetime that ends after the call, and what the local then holds is returned.
+-- Walked by hand: the state is stored in a local, which is lent to `next_lent` for a lifetime that ends after the call, and what the local then
+-- holds is returned; the contract of `next_lent` carries it.
 use mathlib.Core.Path.{_≡_, refl, ap}
 use Prim.Native.Nat.{ℕ}
 use mathlib.Core.List.{[], _∷_, List}

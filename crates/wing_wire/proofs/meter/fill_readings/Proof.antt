@@ -1,3 +1,5 @@
+-- The invariant: the first i readings of the packet stand at the front of out, and the rest of out is as it was; a turn puts one more
+-- (`one-reading`).
 use borrow.Author.Needs.{needs}
 use Prim.Native.Nat.{_+_, _-_, _≤_}
 use mathlib.Core.Path.{_≡_, _∙_}

@@ -1,3 +1,4 @@
+-- Each arm is the line of `itemOf` with that variant.
 use mathlib.Core.Path.{sym, ap}
 use Rattle.wing_wire.specs.Meter.{itemOf}
 use borrow.Author.Needs.{needs}

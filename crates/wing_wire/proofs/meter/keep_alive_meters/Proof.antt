@@ -1,3 +1,5 @@
+-- Where out is shorter than what `keep_alives_len` counts nothing is written (law `short`); else it has room, by that count or by 13 bytes an id
+-- (`keep-alives-le`), and `lay_keep_alives` writes all (law `written`).
 use native.Mathlib.Omega.{arith}
 use Rattle.wing_wire.proofs.Writing.Lays.{written, short}
 use Rattle.wing_wire.proofs.Writing.Sizes.{keep-alives-le}

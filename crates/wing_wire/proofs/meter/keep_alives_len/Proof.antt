@@ -1,3 +1,5 @@
+-- The invariant: the total and the length of the keep-alives left are the length of all; a turn lays one into the scratch byte to count it
+-- (`one-alive`).
 use borrow.Author.Needs.{needs}
 use Prim.Native.Nat.{_+_, _-_, _*_, _≤_}
 use mathlib.Core.Path.{_≡_, ap, _∙_}

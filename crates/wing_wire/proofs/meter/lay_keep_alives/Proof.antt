@@ -1,3 +1,5 @@
+-- The invariant: laying the keep-alives left from the place reached on gives what laying all from the front on gives; a turn lays one into the part
+-- of out from there on (`in-part`, `goes-on`).
 use borrow.Author.Needs.{needs}
 use Prim.Native.Nat.{_+_, _-_}
 use mathlib.Core.Path.{_≡_, sym, ap, _∙_}

@@ -1,3 +1,4 @@
+-- The contract of `item_of` says which line of `itemBytes` counts, and each arm lays its bytes; the law `then` joins two lays.
 use mathlib.Core.Path.{sym, _∙_}
 use native.Mathlib.Omega.{arith}
 use Rattle.wing_wire.specs.Meter.{itemBytes}

@@ -1,3 +1,4 @@
+-- `meterRequest` opened is the head, the items and three bytes, whose lays one after the other the law `then` joins.
 use Rattle.wing_wire.specs.Meter.{meterRequest}
 use Rattle.wing_wire.proofs.Writing.Lays.{then}
 use borrow.Author.Needs.{needs}

@@ -1,3 +1,4 @@
+-- The invariant: the first i meters are laid, in at most three bytes each; a turn lays one more (`meters-more`), and the law `then` joins it on.
 use borrow.Author.Needs.{needs}
 use Prim.Native.Nat.{_+_, _-_, _*_, _≤_}
 use mathlib.Core.Path.{_≡_}

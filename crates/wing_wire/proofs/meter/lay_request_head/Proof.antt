@@ -1,3 +1,4 @@
+-- `requestHead` opened is the bytes and fields of the lays one after the other, which the law `then` joins.
 use native.Mathlib.Omega.{arith}
 use Rattle.wing_wire.specs.Meter.{requestHead}
 use Rattle.wing_wire.proofs.Writing.Lays.{then}

@@ -1,4 +1,4 @@
--- `meter::pair_at` meets its contract.
+-- The number of the two bytes, computed from the definition, is the code's sum, by arithmetic.
 use Prim.Native.Nat.{_+_}
 use native.Mathlib.Omega.{arith}
 use Rattle.wing_node.specs.Digits.{numberIn, numberFrom}

@@ -1,3 +1,5 @@
+-- Each return is a case of `packetOf` (`too-short`, `too-long`, `no-room`, `heard-whole`), and the contracts of `fill_readings` and `u16_at` give
+-- the readings and the id.
 use native.Mathlib.Omega.{arith}
 use Rattle.wing_wire.proofs.Writing.Packets.{too-short, too-long, no-room, heard-whole}
 use borrow.Author.Needs.{needs}

@@ -1,4 +1,4 @@
--- `meter::reading_at` meets its contract.
+-- The pair turned round is the number of the two bytes in order, which is the field there (`field-whole`, `two-bytes`), and `to_i16` gives its sign.
 use Prim.Native.Nat.{_+_, _*_, _-_, _/_, _%_, _≤_}
 use mathlib.Core.Path.{_≡_, _∙_, ap, sym}
 use mathlib.Core.List.{_∷_, []}

@@ -1,3 +1,5 @@
+-- Each return is a case of `requestMeter` (`too-many`, `spent`, `asks-whole`, `asks-handed`); no request is over 212 bytes (`meter-request-le`), so
+-- an output or scratch buffer of that size has room for it.
 use Prim.Native.Nat.{_+_}
 use mathlib.Core.Path.{sym, ap, _∙_}
 use native.Mathlib.Omega.{arith}

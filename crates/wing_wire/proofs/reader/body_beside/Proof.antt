@@ -1,3 +1,4 @@
+-- Each arm is the line of `bodyBeside` with that variant, and the contract of `body_front` gives the body's bytes.
 use Rattle.wing_wire.specs.Reader.{bodyBeside}
 use borrow.Author.Needs.{needs}
 use Rattle.wing_wire.proofs.reader.body_beside.Statement.{statement}

@@ -1,3 +1,5 @@
+-- Each return is the branch of `nextOf` and `nextEvent` with that test, by the contracts of `read_on` and `refuse`; the law `next-event` reads the
+-- event from what stands beside the answer.
 use borrow.Author.Tests.{le-leb, le-ltb, lt-leb, lt-ltb}
 use mathlib.Core.Path.{_≡_, refl}
 use lib.ListN.{length}

@@ -1,3 +1,4 @@
+-- The contract of `advance` gives the run, and those of `string_beside`, `body_beside` and `release` what `nextFrom` makes of it.
 use mathlib.Core.Path.{ap}
 use Rattle.wing_wire.specs.Reader.{nextFrom}
 use borrow.Author.Needs.{needs}

@@ -1,3 +1,4 @@
+-- Each arm is the line of `stringBeside` with that variant, and the contract of `string_front` gives the string's bytes.
 use Rattle.wing_wire.specs.Reader.{stringBeside}
 use borrow.Author.Needs.{needs}
 use Rattle.wing_wire.proofs.reader.string_beside.Statement.{statement}

@@ -1,3 +1,4 @@
+-- Both returns are the cases of `requestBytes` (`request-zero`, `request-other`), and the law `then` joins the lays.
 use mathlib.Core.Path.{_≡_, sym, ap, _∙_}
 use lib.IntN.{pos}
 use mir.Syntax.{w32}

@@ -1,3 +1,4 @@
+-- The contract of `ask` with the byte dc.
 use mir.Facts.{toZ-ofZ}
 use borrow.Author.Needs.{needs}
 use Rattle.wing_wire.proofs.request.request_node_data.Statement.{statement}

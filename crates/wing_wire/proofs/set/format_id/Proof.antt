@@ -1,3 +1,5 @@
+-- No formatted id is over 10 bytes (`format-le`): with room it is laid straight into out (law `written`), else into a scratch buffer and handed over
+-- (law `handed`).
 use mir.Facts.{toZ-ofZ}
 use mathlib.Core.Path.{_∙_}
 use native.Mathlib.Omega.{arith}

@@ -1,3 +1,4 @@
+-- Both returns are the branches of `from_to_` with that test, as the numbers come back as they were from their 32 bits.
 use mir.Facts.{toZ-ofZ}
 use Rattle.wing_wire.proofs.set.is_from.Statement.{statement}
 use Rattle.wing_wire.proofs.set.is_from.Tie as tie

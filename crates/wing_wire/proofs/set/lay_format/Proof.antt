@@ -1,3 +1,4 @@
+-- Each arm is the line of `suffixBytes` with that variant: after the id that `lay_id` lays comes nothing or one byte, and the law `then` joins them.
 use mir.Facts.{toZ-ofZ}
 use Rattle.wing_wire.proofs.Writing.Lays.{then, nothing}
 use Rattle.wing_wire.specs.Command.{idBytes, suffixBytes}

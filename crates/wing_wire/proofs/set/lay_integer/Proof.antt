@@ -1,3 +1,4 @@
+-- Each return is a case of `integerBytes` (`one-byte`, `two-bytes`, `four-bytes`) by what `is_from` tells, and the law `then` joins the lays.
 use mir.Syntax.{w16}
 use Rattle.wing_wire.proofs.Writing.Lays.{then}
 use mir.Facts.{toZ-ofZ}

@@ -1,3 +1,4 @@
+-- Each return is the branch of `lengthBytes` with that test of the length, by the contracts of `lay` and `lay_8`, and the law `then` joins two lays.
 use Rattle.wing_wire.proofs.Writing.Lays.{then}
 use borrow.Author.Tests.{eq-eqb, ne-eqb, le-leb, lt-leb}
 use native.Mathlib.Omega.{arith}

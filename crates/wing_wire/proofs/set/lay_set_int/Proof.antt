@@ -1,3 +1,4 @@
+-- `setBytes` of an integer opened is the id and the integer, whose lays one after the other the law `then` joins.
 use mir.Facts.{toZ-ofZ}
 use Rattle.wing_wire.proofs.Writing.Lays.{then}
 use Rattle.wing_wire.specs.Command.{idBytes, setBytes, valueBytes}

@@ -1,3 +1,4 @@
+-- `setBytes` of a string opened is the id, the length and the escaped bytes, whose lays one after the other the law `then` joins.
 use mir.Facts.{toZ-ofZ}
 use Rattle.wing_wire.proofs.Writing.Lays.{then}
 use Rattle.wing_wire.specs.Command.{idBytes, setBytes, valueBytes, stringBytes}

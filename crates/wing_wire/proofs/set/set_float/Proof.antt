@@ -1,3 +1,5 @@
+-- No float order is over 18 bytes (`set-float-le`): with room it is laid straight into out (law `written`), else into a scratch buffer and handed
+-- over (law `handed`).
 use mir.Facts.{toZ-ofZ}
 use mathlib.Core.Path.{_∙_}
 use native.Mathlib.Omega.{arith}

@@ -1,3 +1,5 @@
+-- Each return is a case of `setString` (`string-long`, `string-bad`, `string-good`); an order of UTF-8 is not over 395 bytes (`set-string-le`), so
+-- it is laid straight into out (law `written`) or into a scratch buffer and handed over (law `handed`).
 use mir.Facts.{toZ-ofZ}
 use mathlib.Core.Path.{sym, _∙_}
 use native.Mathlib.Omega.{arith}

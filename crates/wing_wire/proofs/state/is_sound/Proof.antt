@@ -1,4 +1,4 @@
--- `state::is_sound` meets its contract.
+-- Both returns are the branches of `soundState`, by the contracts of `sound_escape` and `sound_token`.
 use borrow.Author.Needs.{needs}
 use Rattle.wing_wire.specs.State.{soundState}
 use Rattle.wing_wire.proofs.state.is_sound.Statement.{statement}

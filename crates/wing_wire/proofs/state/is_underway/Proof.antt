@@ -1,4 +1,4 @@
--- `state::is_underway` meets its contract.
+-- Both returns are the branches of `underway` with the test that 1 or more are left.
 use borrow.Author.Tests.{le-leb, lt-leb}
 use Rattle.wing_wire.specs.State.{underway}
 use Rattle.wing_wire.proofs.state.is_underway.Statement.{statement}

@@ -1,4 +1,4 @@
--- `state::is_within` meets its contract.
+-- The arms for 0 to 3 units are the tests with those powers of 256, and for four or more units any number of 32 bits is below (`below-power`).
 use mathlib.Core.Path.{sym}
 use borrow.Author.Tests.{lt-ltb}
 use Rattle.wing_wire.proofs.Reading.Powers.{below-power}

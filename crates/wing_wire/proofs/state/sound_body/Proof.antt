@@ -1,4 +1,4 @@
--- `state::sound_body` meets its contract.
+-- Each return is the branch of `soundBody` with that test, by the contract of `is_underway`.
 use mathlib.Core.Path.{sym, _∙_}
 use native.Mathlib.Omega.{arith}
 use borrow.Author.Tests.{le-leb, lt-leb}

@@ -1,4 +1,4 @@
--- `state::sound_counts` meets its contract.
+-- Each arm is the line of `soundCounts` with that variant, by the contract of the function that it calls.
 use borrow.Author.Needs.{needs}
 use Rattle.wing_wire.specs.State.{soundCounts}
 use Rattle.wing_wire.proofs.state.sound_counts.Statement.{statement}

@@ -1,4 +1,4 @@
--- `state::sound_escape` meets its contract.
+-- Each return is the branch of `soundEscape` with those tests of the channel, and the contract of `sound_pending` gives the last one.
 use mathlib.Core.Path.{_≡_}
 use mir.Val.{toZ, ofZ}
 use mir.Syntax.{w8}

@@ -1,4 +1,4 @@
--- `state::sound_number` meets its contract.
+-- Both returns are the branches of `soundNumber`, by the contracts of `width_of`, `is_underway` and `is_within`.
 use mathlib.Core.Path.{sym, _∙_}
 use native.Mathlib.Omega.{arith}
 use borrow.Author.Needs.{needs}

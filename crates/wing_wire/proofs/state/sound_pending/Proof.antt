@@ -1,4 +1,4 @@
--- `state::sound_pending` meets its contract.
+-- Each return is the line of `soundPending` with that variant, and of a pending byte the branch with that test.
 use mathlib.Core.Path.{_≡_}
 use mir.Val.{toZ, ofZ}
 use mir.Syntax.{w8}

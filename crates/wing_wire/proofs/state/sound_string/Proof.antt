@@ -1,4 +1,4 @@
--- `state::sound_string` meets its contract.
+-- Both returns are the branches of `soundString`, by the contract of `is_underway`.
 use mathlib.Core.Path.{sym, _∙_}
 use borrow.Author.Needs.{needs}
 use Rattle.wing_wire.specs.State.{soundString}

@@ -1,4 +1,4 @@
--- `state::sound_token` meets its contract.
+-- Both returns are the branches of `soundToken`, by the contracts of `sound_counts`, `stored_by` and `zeros_from`.
 use borrow.Author.Needs.{needs}
 use Rattle.wing_wire.specs.State.{soundToken}
 use Rattle.wing_wire.proofs.state.sound_token.Statement.{statement}

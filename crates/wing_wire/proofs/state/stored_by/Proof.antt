@@ -1,4 +1,4 @@
--- `state::stored_by` meets its contract.
+-- Each arm is the line of `storedBy` with that variant, and the contract of `collected` gives a string's count.
 use borrow.Author.Needs.{needs}
 use Rattle.wing_wire.specs.State.{storedBy}
 use Rattle.wing_wire.proofs.state.stored_by.Statement.{statement}

@@ -1,4 +1,5 @@
--- `state::zeros_from` meets its contract.
+-- The invariant: the bytes from the start on are all 0 exactly if those joined so far are and those from i on are; a turn joins one more
+-- (`one-more`).
 use Prim.Native.Nat.{_-_}
 use mathlib.Core.Path.{_≡_, refl, sym, _∙_}
 use lib.Dec.{eqb}

@@ -1,5 +1,6 @@
+-- The invariant: the run from here over the bytes left is the whole run; a turn takes one unit and the inner units after it (`once-whole`), and at
+-- the end nothing is left to run (`whole-ends`).
 use borrow.Author.Needs.{needs}
--- `wing_wire::stream::advance` meets its contract. The invariant: the run from here over the bytes left is the whole run. Assumes nothing.
 use mathlib.Core.Path.{_≡_, refl, sym, _∙_, ap}
 use Prim.Native.Nat.{_+_, _-_, _*_}
 use lib.ListN.{length}

@@ -1,3 +1,4 @@
+-- The contract of `token_ahead` gives the token, the store and the place of `aheadOf`, and that of `control_of` the control around the token.
 use mathlib.Core.Path.{_≡_}
 use mir.Val.{toZ, ofZ}
 use mir.Syntax.{w32}

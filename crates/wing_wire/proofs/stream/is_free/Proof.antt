@@ -1,3 +1,4 @@
+-- Both returns are the branches of `isFree`, by the contracts of `is_more` and `is_plain`.
 use borrow.Author.Needs.{needs}
 use Rattle.wing_wire.proofs.stream.is_free.Statement.{statement}
 use Rattle.wing_wire.proofs.stream.is_free.Tie as tie

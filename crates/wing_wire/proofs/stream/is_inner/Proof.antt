@@ -1,3 +1,4 @@
+-- Both returns are the branches of `isInner` with that test of what is left.
 use borrow.Author.Tests.{le-leb, lt-leb}
 use Rattle.wing_wire.specs.Plain.{isInner}
 use Rattle.wing_wire.proofs.stream.is_inner.Statement.{statement}

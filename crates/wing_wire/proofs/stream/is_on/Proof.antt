@@ -1,3 +1,4 @@
+-- Each return is the branch of `isOn` with that test, by the contracts of `is_more` and `is_waiting`.
 use borrow.Author.Tests.{lt-ltb, le-ltb}
 use borrow.Author.Needs.{needs}
 use Rattle.wing_wire.proofs.stream.is_on.Statement.{statement}

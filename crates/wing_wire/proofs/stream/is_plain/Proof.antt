@@ -1,3 +1,4 @@
+-- Both returns are the branches of `isPlain`, by the contract of `is_waiting`.
 use borrow.Author.Needs.{needs}
 use Rattle.wing_wire.proofs.stream.is_plain.Statement.{statement}
 use Rattle.wing_wire.proofs.stream.is_plain.Tie as tie

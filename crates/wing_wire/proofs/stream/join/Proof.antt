@@ -1,3 +1,4 @@
+-- The contract of `control_of`, as the node comes back as it was from its 32 bits.
 use mathlib.Core.Path.{_≡_}
 use mir.Val.{toZ, ofZ}
 use mir.Syntax.{w32}

@@ -1,3 +1,4 @@
+-- Each arm is the line of `released` with that variant, and the contract of `clear` gives the store after a string or a body.
 use borrow.Author.Needs.{needs}
 use Rattle.wing_wire.proofs.stream.release.Statement.{statement}
 use Rattle.wing_wire.proofs.stream.release.Tie as tie

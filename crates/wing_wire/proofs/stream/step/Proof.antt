@@ -1,3 +1,5 @@
+-- Both returns are the branches of `onAhead` in `onceOf`: `decode_next` gives the unit, `take` what it makes of the control, `is_free` the test, and
+-- `ahead` the inner units after it.
 use Rattle.wing_wire.specs.Plain.{onAhead, onceOf}
 use borrow.Author.Needs.{needs}
 use Rattle.wing_wire.proofs.stream.step.Statement.{statement}

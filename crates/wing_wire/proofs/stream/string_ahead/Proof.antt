@@ -1,3 +1,5 @@
+-- The invariant: the inner units from i on give what those from the start on give; a turn stores one (`string-turn`), and the loop ends at the first
+-- byte that is none or after the last (`string-stops`, `string-ends`).
 use borrow.Author.Needs.{needs}
 use mathlib.Core.Path.{_≡_, refl, sym, _∙_}
 use Prim.Native.Nat.{_-_}

@@ -1,3 +1,5 @@
+-- Without a unit the control keeps its token (`given-nothing`); else the contract of `take_unit`, with the unit's value and whether it is appended,
+-- gives `givenOf` (`given-some`).
 use mathlib.Core.Path.{_≡_, sym, _∙_}
 use mir.Val.{toZ, ofZ}
 use mir.Syntax.{w32}

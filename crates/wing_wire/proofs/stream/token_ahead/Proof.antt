@@ -1,3 +1,4 @@
+-- Each arm is the line of `tokenAhead` with that variant, by the contracts of `number_ahead` and `string_ahead`.
 use Rattle.wing_wire.specs.Plain.{tokenAhead}
 use borrow.Author.Needs.{needs}
 use Rattle.wing_wire.proofs.stream.token_ahead.Statement.{statement}

@@ -1,4 +1,4 @@
--- `token::class_of` meets its contract.
+-- Each arm is the entry of `classes` with that number, and a number that is none of 0 to 9 is past the list's end (`over-seven`, `over-nine`).
 use mathlib.Core.Path.{sym}
 use lib.ListN.{List·getD-eq-default}
 use Rattle.wing_node.proofs.Eight.{over-seven}

@@ -1,3 +1,5 @@
+-- The law `early-right`, computed at each of 256 first units, says that the early answers are the table's, and each return is its branch with that
+-- test; the last arm is the contract of `rule_of`.
 use mathlib.Core.Path.{_∙_}
 use native.Mathlib.Omega.{arith}
 use borrow.Author.Tests.{lt-ltb, le-ltb}

@@ -1,4 +1,5 @@
--- `token::rule_of` meets its contract.
+-- The law `entry-right`, computed at each of 256 first units, says that the entries of the two columns are the table's row; `class_of` gives the
+-- class of its number.
 use native.Mathlib.Omega.{arith}
 use borrow.Author.Needs.{needs}
 use Rattle.wing_wire.proofs.Reading.Columns.{classColumn, wantsColumn, entryOf, entry-right, wants-byte}

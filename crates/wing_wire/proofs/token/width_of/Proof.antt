@@ -1,4 +1,4 @@
--- `token::width_of` meets its contract.
+-- Each arm is the line of `widthOf` with that class.
 use borrow.Author.Needs.{needs}
 use Rattle.wing_wire.specs.Token.{widthOf}
 use Rattle.wing_wire.proofs.token.width_of.Statement.{statement}

@@ -1,3 +1,4 @@
+-- Both returns are the branches of `beginOf` with that test of the units wanted, by the contracts of `first_rule`, `single` and `token_of`.
 use mir.Facts.{toZ-ofZ}
 use borrow.Author.Tests.{eq-eqb, ne-eqb}
 use borrow.Author.Needs.{needs}

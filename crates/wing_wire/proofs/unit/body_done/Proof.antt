@@ -1,3 +1,4 @@
+-- Both returns are the branches of `bodyDone` with that test of the count.
 use mir.Facts.{toZ-ofZ}
 use borrow.Author.Tests.{le-leb, lt-leb}
 use borrow.Author.Needs.{needs}

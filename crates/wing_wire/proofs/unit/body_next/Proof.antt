@@ -1,3 +1,4 @@
+-- Both returns are the branches of `bodyNext` with that test of what is left, and the contract of `body_done` gives the last unit's answer.
 use mir.Facts.{toZ-ofZ}
 use borrow.Author.Tests.{le-leb, lt-leb}
 use borrow.Author.Needs.{needs}

@@ -1,3 +1,4 @@
+-- Both returns are the branches of `bodyUnit` by what `is_kept` tells, and the contracts of `put` and `body_next` give the store and the answer.
 use mathlib.Core.Path.{sym, _∙_}
 use native.Mathlib.Omega.{arith}
 use mir.Facts.{toZ-ofZ}

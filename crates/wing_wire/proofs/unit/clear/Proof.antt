@@ -1,4 +1,5 @@
--- `wing_wire::unit::clear` meets its contract. The invariant: the store is the one at entry with its first i bytes 0. Assumes nothing.
+-- The invariant: the store is the one at entry with its first i bytes 0; a turn clears one more (`cleared-turn`), and past the store's end nothing
+-- is left to clear (`cleared-all`).
 use mathlib.Core.Path.{_≡_, refl, _∙_, ap}
 use mathlib.Core.Logic.{⊎-elim}
 use mathlib.Core.List.{List}

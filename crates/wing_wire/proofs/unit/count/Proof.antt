@@ -1,3 +1,4 @@
+-- Both returns are the branches of `countOf` with that test of the count.
 use mir.Facts.{toZ-ofZ}
 use borrow.Author.Tests.{eq-eqb, ne-eqb}
 use borrow.Author.Needs.{needs}

@@ -1,3 +1,4 @@
+-- The contract of `is_utf8` on the first n bytes, or on the whole store where n reaches its end (`take-all`).
 use mathlib.Core.Path.{sym}
 use lib.Seq.{take-all, length-take-le}
 use borrow.Author.Needs.{needs}

@@ -1,3 +1,4 @@
+-- Each return is the branch of `keeps` with that test.
 use borrow.Author.Tests.{le-leb, lt-leb}
 use Rattle.wing_wire.specs.Unit.{keeps}
 use Rattle.wing_wire.proofs.unit.is_kept.Statement.{statement}

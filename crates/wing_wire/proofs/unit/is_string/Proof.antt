@@ -1,3 +1,4 @@
+-- Each arm is the line of `isString` with that class.
 use borrow.Author.Needs.{needs}
 use Rattle.wing_wire.specs.Unit.{isString}
 use Rattle.wing_wire.proofs.unit.is_string.Statement.{statement}

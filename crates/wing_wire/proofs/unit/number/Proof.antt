@@ -1,3 +1,5 @@
+-- Each arm is the line of `numberOf` with that class; the contracts of `to_i16` and `to_i32` give the signed numbers, and that of `count` what a
+-- count does.
 use mathlib.Core.Path.{_≡_}
 use native.Mathlib.Omega.{arith}
 use mir.Val.{SFits, toZ, ofZ}

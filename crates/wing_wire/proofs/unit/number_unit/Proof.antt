@@ -1,3 +1,4 @@
+-- Both returns are the branches of `numberUnit` with that test of what is left, by the contracts of `shift_in` and `number`.
 use mir.Facts.{toZ-ofZ}
 use borrow.Author.Tests.{le-leb, lt-leb}
 use borrow.Author.Needs.{needs}

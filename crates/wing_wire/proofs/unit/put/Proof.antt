@@ -1,3 +1,4 @@
+-- Inside the store the byte is written; past its end setting a byte changes nothing (`set-out`).
 use mathlib.Core.Path.{sym}
 use lib.Seq.{set-out}
 use borrow.Author.Needs.{needs}

@@ -1,3 +1,4 @@
+-- Each arm is the line of `singleOf` with that class.
 use Prim.Native.Nat.{_^_, _<_}
 use borrow.Author.Tests.{lt-ltb}
 use borrow.Author.Needs.{needs}

@@ -1,3 +1,4 @@
+-- Both returns are the branches of `stringDone` by what `front_is_utf8` tells, and the contract of `clear` gives the store of a refused string.
 use mir.Facts.{toZ-ofZ}
 use borrow.Author.Needs.{needs}
 use Rattle.wing_wire.specs.Unit.{stringDone}

@@ -1,3 +1,5 @@
+-- Both returns are the branches of `stringUnit` with that test of what is left: `collected` and `put` store the unit, and `string_done` gives the
+-- last one's answer.
 use mir.Facts.{toZ-ofZ}
 use borrow.Author.Tests.{le-leb, lt-leb}
 use borrow.Author.Needs.{needs}

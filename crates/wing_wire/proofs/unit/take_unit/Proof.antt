@@ -1,3 +1,4 @@
+-- Each arm is the line of `unitOf` with that variant, by the contract of the function that it calls.
 use mir.Facts.{toZ-ofZ}
 use borrow.Author.Needs.{needs}
 use Rattle.wing_wire.specs.Unit.{unitOf}

@@ -1,3 +1,4 @@
+-- Both returns are the branches of `tokenOf` by what `is_string` tells.
 use borrow.Author.Needs.{needs}
 use Rattle.wing_wire.specs.Unit.{tokenOf}
 use Rattle.wing_wire.proofs.unit.token_of.Statement.{statement}

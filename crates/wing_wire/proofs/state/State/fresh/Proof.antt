@@ -1,4 +1,4 @@
--- `state::State::fresh` meets its contract.
+-- The contract of `Control::fresh`, beside a store of zeros.
 use borrow.Author.Needs.{needs}
 use Rattle.wing_wire.specs.State.{freshState}
 use Rattle.wing_wire.proofs.state.State.fresh.Statement.{statement}
