@@ -1,3 +1,4 @@
+-- The invariant: out with zeros from i on is the bytes at entry with zeros from the front on; a turn stores one of them (`zeroed-turn`).
 use mathlib.Core.Path.{_≡_, refl, _∙_, sym}
 use Prim.Native.Nat.{_-_}
 use native.Mathlib.Nat.{sub-zero}

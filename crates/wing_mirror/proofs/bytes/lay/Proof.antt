@@ -1,3 +1,4 @@
+-- The invariant: the first i bytes of src stand in out at their place; a turn lays one more (`lay-more`).
 use Rattle.wing_mirror.proofs.Tables.Laying.{lay-more}
 use lib.Seq.{sets, take-all}
 use lib.ListN.{length, take, length-set}

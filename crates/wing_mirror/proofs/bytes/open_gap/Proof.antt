@@ -1,3 +1,4 @@
+-- The invariant: the bytes from i to the end are moved up by w, and the others are as they were (`moved`); a turn moves one more (law `again`).
 use Rattle.wing_mirror.proofs.Tables.Moves.{moved, none, again}
 use lib.ListN.{length, length-set}
 use native.Mathlib.Omega.{arith}

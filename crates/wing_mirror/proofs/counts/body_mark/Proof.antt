@@ -1,3 +1,4 @@
+-- Each arm is the line of `bodyMark` with that variant, and the contract of `refusal_mark` gives the mark of a refusal.
 use Rattle.wing_mirror.specs.Counts.{bodyMark}
 use borrow.Author.Needs.{needs}
 use Rattle.wing_mirror.proofs.counts.body_mark.Statement.{statement}

@@ -1,3 +1,4 @@
+-- In each arm one more in that count is what adding `one` of that mark gives, as the other counts get 0 more.
 use native.Mathlib.Nat.{add-zero}
 use Rattle.wing_mirror.specs.Counts.{order, one}
 use borrow.Author.Needs.{needs}

@@ -1,3 +1,4 @@
+-- The contract of `feed_on`, with the reply made of what it leaves.
 use mathlib.Core.Path.{ap}
 use Rattle.wing_wire.specs.Stream.{Fed}
 use Rattle.wing_mirror.specs.Mirror.{Tallied, fedFully}

@@ -1,3 +1,4 @@
+-- Each return is the branch of `mirrorFeed` with that test, by the contracts of `is_sound`, `is_usable`, `fed` and `unfed`.
 use mathlib.Core.Path.{sym, _∙_}
 use borrow.Author.Tests.{le-leb, lt-leb}
 use Rattle.wing_mirror.specs.Mirror.{mirrorFeed}

@@ -1,3 +1,5 @@
+-- The invariant: the feed from here over the bytes left is the whole feed, and the table is usable (`Underway`); a turn hands one answer to
+-- `keep_answer` and releases it (law `again`), and at 'more' the feed has ended (law `ended`).
 use mathlib.Core.Path.{_≡_, refl, sym, _∙_}
 use native.Mathlib.Omega.{arith}
 use mir.Facts.{toZ-ofZ}

@@ -1,3 +1,4 @@
+-- The contract of `none` gives the six zero counts, and the rest is as it came.
 use borrow.Author.Needs.{needs}
 use Rattle.wing_mirror.proofs.feed.unfed.Statement.{statement}
 use Rattle.wing_mirror.proofs.feed.unfed.Tie as tie

@@ -1,3 +1,5 @@
+-- Each arm is the line of `keepEvent` for the event of that answer, by the contracts of `keep_value`, `keep_body`, `mark` and `refusal_mark`;
+-- `Within` bounds the string and the body.
 use Prim.Native.Nat.{_≤_}
 use mathlib.Core.Path.{_≡_, sym, ap}
 use native.Mathlib.Omega.{arith}

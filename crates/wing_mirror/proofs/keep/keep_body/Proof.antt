@@ -1,3 +1,4 @@
+-- The contracts of `from_bytes`, `body_mark` and `mark` one after the other.
 use mathlib.Core.Path.{_∙_}
 use borrow.Author.Needs.{needs}
 use Rattle.wing_mirror.proofs.keep.keep_body.Statement.{statement}

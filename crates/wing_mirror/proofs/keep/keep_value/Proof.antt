@@ -1,3 +1,5 @@
+-- The contract of `lay_record` gives the value's record and that of `put` whether it was taken, which are the two branches of `keepEvent`
+-- (`stored-kept`, `unplaced-kept`).
 use mathlib.Core.Path.{_∙_, ap}
 use lib.IntN.{ℤ}
 use mir.Facts.{toZ-ofZ}

@@ -1,3 +1,4 @@
+-- The contract of `tick`, beside the count.
 use borrow.Author.Needs.{needs}
 use Rattle.wing_mirror.proofs.keep.mark.Statement.{statement}
 use Rattle.wing_mirror.proofs.keep.mark.Tie as tie

@@ -1,3 +1,5 @@
+-- The invariant: as many of the first i records as of all have a lower key, and their keys rise; a turn drops a last one whose key is not lower (law
+-- `down`), and a last one whose key is lower ends the loop (law `stops`).
 use Prim.Native.Nat.{_≤_}
 use mathlib.Core.Bool.{true}
 use mathlib.Core.Path.{_≡_, refl, sym, _∙_}

@@ -1,3 +1,4 @@
+-- Both returns are the branches of `lookupAnswer` by what `is_usable` tells, and the contracts of `rank` and `number_of` give the number.
 use Prim.Native.Nat.{ℕ}
 use mathlib.Core.Bool.{true}
 use mathlib.Core.Path.{_≡_, sym, _∙_, ap}

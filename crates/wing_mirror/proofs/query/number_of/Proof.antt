@@ -1,3 +1,4 @@
+-- The contract of `search` gives the one place where the key can stand, and `held` tells whether it does (`number-there`, `number-none`).
 use mathlib.Core.Path.{sym, _∙_, ap}
 use Rattle.wing_mirror.specs.Query.{answerOf}
 use Rattle.wing_mirror.proofs.Tables.Keys.{number-there, number-none}

@@ -1,3 +1,5 @@
+-- Each return is the kind of record with that test (`integer-said`, `float-said`, `string-read-said`), by the contracts of the field readers,
+-- `number_read` and `string_read`.
 use mathlib.Core.Path.{_≡_, _∙_}
 use mir.Syntax.{w32}
 use mir.Val.{toZ, ofZ}

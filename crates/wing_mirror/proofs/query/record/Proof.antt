@@ -1,3 +1,4 @@
+-- Each return is the branch of `recordAnswer` with that test, and the contract of `read_at` gives the record of the number (`row-of`).
 use Prim.Native.Nat.{ℕ}
 use mathlib.Core.Path.{sym, _∙_, ap}
 use mathlib.Core.List.{List}

@@ -1,3 +1,4 @@
+-- Each return is the branch of `sameAnswer` with that test, by the contracts of `is_usable` and `same_records`.
 use mathlib.Core.Path.{sym, _∙_}
 use Rattle.wing_mirror.specs.Table.{table}
 use Rattle.wing_mirror.specs.Query.{sameAnswer}

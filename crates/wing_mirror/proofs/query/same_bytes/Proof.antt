@@ -1,3 +1,5 @@
+-- The invariant: the bytes are the same exactly if those from i on are; a turn passes one equal pair (`bytes-on`), and an unequal pair ends it
+-- (`bytes-off`).
 use Prim.Native.Nat.{_-_}
 use mathlib.Core.Path.{_≡_, refl, sym, _∙_}
 use native.Mathlib.Omega.{arith}

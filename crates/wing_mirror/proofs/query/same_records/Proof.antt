@@ -1,3 +1,4 @@
+-- With equal counts the bytes of all records are compared at once, which compares record by record (`rows-bytes`); else `sameTables` is false.
 use borrow.Author.Tests.{eq-eqb, ne-eqb}
 use Prim.Native.Nat.{ℕ, _*_}
 use mathlib.Core.Path.{sym, _∙_, ap}

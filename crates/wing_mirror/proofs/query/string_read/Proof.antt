@@ -1,3 +1,4 @@
+-- The contract of `lay` puts the first bytes of the payload, as many as `least` says, over zeros, which is what the entry says (`string-said`).
 use mathlib.Core.Path.{sym}
 use native.Mathlib.Omega.{arith}
 use mir.Facts.{toZ-ofZ}

@@ -1,3 +1,5 @@
+-- The contract of `send_record` on the 264 bytes of the record writes its order, whole since there is room (`laid-whole`), and `size_in` gives its
+-- length.
 use Prim.Native.Nat.{_+_, _-_, _*_}
 use mathlib.Core.Path.{_≡_}
 use native.Mathlib.Omega.{arith}

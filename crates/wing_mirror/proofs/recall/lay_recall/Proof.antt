@@ -1,3 +1,5 @@
+-- The invariant: laying the orders left from the place reached on gives what laying all after df d1 gives; a turn lays one (`left-next`) into the
+-- part of out from there on.
 use Prim.Native.Nat.{_+_, _-_, _≤_}
 use mathlib.Core.Path.{_≡_, refl, sym, ap, _∙_}
 use native.Mathlib.Omega.{arith}

@@ -1,3 +1,5 @@
+-- The invariant: the total and the length of the orders left are the length of all; a turn lays one into the scratch buffer, which has room for any
+-- (`row-le`), to count it.
 use Prim.Native.Nat.{_+_, _-_, _*_, _≤_}
 use mathlib.Core.Path.{_≡_, ap}
 use native.Mathlib.Omega.{arith}

@@ -1,3 +1,5 @@
+-- Each return is a case of `recallOf` (`unusable`, `recalled`): out is too short by what `orders_len` counts, or has room, by that count or by 395
+-- bytes a record (`orders-le`), and `lay_recall` writes all.
 use mathlib.Core.Path.{sym, _∙_}
 use mathlib.Core.Logic.{⊎-elim}
 use native.Mathlib.Omega.{arith}

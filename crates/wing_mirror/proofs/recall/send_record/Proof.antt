@@ -1,3 +1,4 @@
+-- Each return is the kind of record with that test (`integer-entry`, `float-entry`, `string-order`), by the contract of the writer that it calls.
 use Prim.Native.Nat.{_+_, _-_}
 use mathlib.Core.Path.{_≡_, _∙_, ap}
 use mir.Syntax.{w32}

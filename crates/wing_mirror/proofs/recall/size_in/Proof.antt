@@ -1,3 +1,4 @@
+-- Each arm is the line of `sizeIn` with that variant.
 use mathlib.Core.Path.{sym, ap}
 use Rattle.wing_mirror.specs.Sending.{sizeIn}
 use borrow.Author.Needs.{needs}

@@ -1,3 +1,4 @@
+-- Both returns are the branches of `flipped` with that test of the bits.
 use borrow.Author.Tests.{lt-ltb, le-ltb}
 use borrow.Author.Needs.{needs}
 use Rattle.wing_mirror.proofs.record.flip.Statement.{statement}

@@ -1,3 +1,4 @@
+-- The contract of `u32_at` gives the first four bytes as a number (`field-whole`), and that of `flip` its place in the order.
 use mathlib.Core.Path.{_∙_, ap}
 use native.Mathlib.Omega.{arith}
 use Rattle.wing_node.proofs.Numerals.Placed.{field-whole}

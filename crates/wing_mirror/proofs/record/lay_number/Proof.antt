@@ -1,3 +1,5 @@
+-- The stores of the kind, of the length by `put_u16` and of the bits by `put_u32`, each laid at its place (`field-sets`), are those of `laidFrom` in
+-- order.
 use Rattle.wing_node.specs.Digits.{digitsIn}
 use Prim.Native.Nat.{ℕ}
 use mathlib.Core.Path.{_≡_, _∙_, ap}

@@ -1,3 +1,5 @@
+-- The contracts of `clear` and `put_i32` leave zeros and the id, and each arm lays kind, length and payload of its variant over them, which is the
+-- record (`record-laid`).
 use Prim.Native.Nat.{ℕ}
 use mathlib.Core.Path.{_≡_, _∙_, ap}
 use native.Mathlib.Omega.{arith}

@@ -1,3 +1,5 @@
+-- The stores of the kind, of the length by `put_u16` and of the bytes by `lay` are those of `laidFrom` in order, as n and `least` take the same
+-- bytes (`string-laid`).
 use mathlib.Core.Path.{sym}
 use native.Mathlib.Omega.{arith}
 use lib.ListN.{set, length-set, length-take}

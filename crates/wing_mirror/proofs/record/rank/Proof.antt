@@ -1,3 +1,4 @@
+-- The contract of `of_i32`, then that of `flip`.
 use mir.Facts.{toZ-ofZ}
 use Rattle.wing_node.specs.Signed.{unsigned}
 use mathlib.Core.Path.{_∙_, ap}

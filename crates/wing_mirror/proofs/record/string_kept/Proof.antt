@@ -1,3 +1,4 @@
+-- Each return is the branch of `stringKept` with that test, by the contracts of `zeros_from` and `is_utf8`.
 use borrow.Author.Tests.{le-leb, lt-leb}
 use mathlib.Core.Path.{sym}
 use lib.Seq.{length-take-le}

@@ -1,3 +1,4 @@
+-- Both returns are the branches of `wellFormed` with that test of the sixth byte, by the contracts of `u16_at` and `well_kept`.
 use borrow.Author.Tests.{eq-eqb, ne-eqb}
 use Prim.Native.Nat.{_-_}
 use mathlib.Core.Path.{_≡_, _∙_, ap₂}

@@ -1,3 +1,4 @@
+-- Each return is the branch of `wellKept` with that test, by the contracts of `zeros_from` and `string_kept`.
 use borrow.Author.Tests.{le-leb, lt-leb, eq-eqb, ne-eqb}
 use Rattle.wing_mirror.specs.Record.{wellKept}
 use borrow.Author.Needs.{needs}

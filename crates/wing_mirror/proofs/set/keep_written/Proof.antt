@@ -1,3 +1,4 @@
+-- Each arm is the line of `keptOf` with that variant, by the contracts of `put` and `refused`.
 use Rattle.wing_wire.specs.declared.write.Written.the-variants.{Bytes}
 use Rattle.wing_mirror.specs.Sets.{keptOf}
 use Rattle.wing_mirror.specs.Puts.{Done}

@@ -1,3 +1,5 @@
+-- Each arm is `setBytes` of that variant, by the contract of the writer that it calls; a string that may be stored is never refused for itself
+-- (`string-sent`).
 use mathlib.Core.Path.{_≡_, sym, _∙_, ap}
 use mathlib.Core.Bool.{true}
 use mir.Facts.{toZ-ofZ}

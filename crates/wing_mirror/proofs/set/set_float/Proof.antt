@@ -1,3 +1,4 @@
+-- The contract of `set_value`, with the table's soundness from `is_usable`; a table that is not usable gives 7 (`unusable`).
 use mathlib.Core.Path.{refl, sym, _∙_}
 use mir.Facts.{toZ-ofZ}
 use native.Mathlib.Omega.{arith}

@@ -1,3 +1,5 @@
+-- The contract of `set_value`, with the table's soundness from `is_usable` and the string's form from the tests (`storable-string`); each refusal is
+-- a case of `mirrorSet` (`unusable`, `long-string`, `bad-string`).
 use mathlib.Core.Path.{sym, _∙_}
 use mir.Facts.{toZ-ofZ}
 use native.Mathlib.Omega.{arith}

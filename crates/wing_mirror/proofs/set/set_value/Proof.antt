@@ -1,3 +1,5 @@
+-- Both returns are the cases of `mirrorSet` by what `has_room` tells: `lay_record`, `send` and `keep_written` make what it writes and stores
+-- (`kept-so`), or there is no place (`no-room`).
 use mir.Facts.{toZ-ofZ}
 use Rattle.wing_node.specs.Value.{meant}
 use Rattle.wing_mirror.specs.Table.{table}

@@ -1,3 +1,5 @@
+-- The contract of `search` gives the one place where the key can stand; where `held` finds it there is room (`takes-there`), else if a place is free
+-- (`takes-free`).
 use Rattle.wing_mirror.specs.Table.{table}
 use Rattle.wing_mirror.proofs.Records.Usables.{room, up}
 use Rattle.wing_mirror.proofs.Records.Placing.{takes-there, takes-free}

@@ -1,3 +1,5 @@
+-- Each return is a case of `putOf`, at the place that `search` gives: the record is laid over the one held there (`over-it`) or into the gap that
+-- `open_gap` opens (`new-one`), or no place is free (`none-free`).
 use mathlib.Core.Path.{sym, _∙_}
 use native.Mathlib.Omega.{arith}
 use native.Mathlib.Nat.{mul-div-le}

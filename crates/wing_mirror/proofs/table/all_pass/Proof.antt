@@ -1,3 +1,4 @@
+-- The invariant: all records have their form and order exactly if those from i on do; a turn passes one (law `turn`).
 use Prim.Native.Nat.{_-_}
 use mathlib.Core.Path.{_≡_, sym, _∙_, ap}
 use borrow.Author.Needs.{needs}

@@ -1,3 +1,4 @@
+-- The contract of `well_formed` on the 264 bytes of the record of that number.
 use Prim.Native.Nat.{_+_, _-_, _*_}
 use mathlib.Core.Path.{_≡_}
 use native.Mathlib.Omega.{arith}

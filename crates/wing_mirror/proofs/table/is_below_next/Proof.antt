@@ -1,3 +1,4 @@
+-- Both returns are the branches of `belowNext` with that test of the number, by the contract of `key_at`.
 use borrow.Author.Tests.{lt-ltb, le-ltb}
 use Rattle.wing_mirror.specs.Table.{belowNext}
 use borrow.Author.Needs.{needs}

@@ -1,3 +1,4 @@
+-- Both returns are the branches of `soundTable` with that test of the count, by the contracts of `places` and `all_pass`.
 use borrow.Author.Tests.{le-leb, lt-leb}
 use native.Mathlib.Omega.{arith}
 use native.Mathlib.Nat.{mul-div-le}

@@ -1,3 +1,4 @@
+-- Each return is the branch of `usable` with that test of the places, by the contracts of `places` and `is_sound`.
 use borrow.Author.Tests.{le-leb, lt-leb}
 use Rattle.wing_mirror.specs.Table.{placesAllowed, usable}
 use borrow.Author.Needs.{needs}

@@ -1,3 +1,4 @@
+-- Both returns are the branches of `passesAt`, by the contracts of `formed_at` and `is_below_next`.
 use Rattle.wing_mirror.specs.Table.{passesAt}
 use borrow.Author.Needs.{needs}
 use Rattle.wing_mirror.proofs.table.passes.Statement.{statement}
