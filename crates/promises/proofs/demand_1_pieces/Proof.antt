@@ -1,3 +1,4 @@
+-- The decoder's law `pieces`, that a feed of joined bytes is the one feed after the other, for the handler that lists the readings.
 use Rattle.wing_wire.specs.Reader.{eventOf}
 use Rattle.wing_wire.proofs.Laws.{decoder-laws}
 use Rattle.promises.specs.Wire.{withReading}

@@ -1,3 +1,4 @@
+-- The wire's law `tokens`, that units are cut into tokens of the table and give what these give, for the handler that lists the readings.
 use Rattle.wing_wire.proofs.Reading.Cuts.{tokens}
 use Rattle.promises.specs.Wire.{withReading}
 use Rattle.promises.proofs.demand_1_tokens.Statement.{statement}

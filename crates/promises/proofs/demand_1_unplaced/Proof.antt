@@ -1,3 +1,4 @@
+-- `keepEvent` of a value, opened at the branch where it does not fit, leaves the table as it was.
 use Rattle.wing_mirror.specs.Mirror.{keepEvent}
 use Rattle.promises.proofs.demand_1_unplaced.Statement.{statement}
 use Rattle.promises.proofs.demand_1_unplaced.Tie as tie

@@ -1,3 +1,4 @@
+-- The law `walking` of the parser and the item calls, for a body that is taken since all its fields stand (`whole-taken`).
 use Rattle.wing_node.proofs.Bodies.Walks.{definitions}
 use Rattle.promises.proofs.Parses.{whole-taken}
 use Rattle.promises.proofs.demand_1_walks.Statement.{statement}

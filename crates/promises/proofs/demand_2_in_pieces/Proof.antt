@@ -1,3 +1,4 @@
+-- The wire's law `round-trip-pieces`, which joins the pieces and reads the set order, for the handler that lists the readings.
 use Rattle.wing_wire.proofs.BothWays.RoundTrip.{round-trip-pieces}
 use Rattle.promises.specs.Wire.{withReading}
 use Rattle.promises.proofs.demand_2_in_pieces.Statement.{statement}

@@ -1,3 +1,4 @@
+-- The part `equality` of the mirror's law `histories`: the records are the map's entries in order.
 use Rattle.wing_mirror.proofs.Histories.Demand.{histories}
 use Rattle.promises.proofs.demand_3_equality.Statement.{statement}
 use Rattle.promises.proofs.demand_3_equality.Tie as tie

@@ -1,3 +1,4 @@
+-- The part `agreement` of the mirror's law `histories`: the mirror is an image of the machine, and each call keeps it so.
 use Rattle.wing_mirror.proofs.Histories.Demand.{histories}
 use Rattle.promises.proofs.demand_3_histories.Statement.{statement}
 use Rattle.promises.proofs.demand_3_histories.Tie as tie

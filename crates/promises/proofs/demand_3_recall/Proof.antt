@@ -1,3 +1,4 @@
+-- The part `rebuilding` of the mirror's law `histories`: the machine that is fed what recall writes has the entries of the records.
 use Rattle.wing_mirror.proofs.Histories.Demand.{histories}
 use Rattle.promises.proofs.demand_3_recall.Statement.{statement}
 use Rattle.promises.proofs.demand_3_recall.Tie as tie

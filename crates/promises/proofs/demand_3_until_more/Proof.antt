@@ -1,3 +1,4 @@
+-- The wire's law `until-more`, that next calls repeated leave and hand on what the feed does, for the handler that lists the readings.
 use Rattle.wing_wire.proofs.Reading.Repeats.{until-more}
 use Rattle.promises.specs.Wire.{withReading}
 use Rattle.promises.proofs.demand_3_until_more.Statement.{statement}

@@ -1,3 +1,4 @@
+-- The mirror's law `histories`, which puts all parts of demand 3 together.
 use Rattle.wing_mirror.proofs.Histories.Demand.{histories}
 use Rattle.promises.proofs.demand_3_whole.Statement.{statement}
 use Rattle.promises.proofs.demand_3_whole.Tie as tie

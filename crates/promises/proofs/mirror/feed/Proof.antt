@@ -1,3 +1,4 @@
+-- By the contract of the mirror's `feed` the reply and the table are those of `mirrorFeed`, of which `feed-call` says what is promised.
 use mathlib.Core.Path.{sym, subst}
 use denote.Ref.{now}
 use borrow.Author.Needs.{needs}

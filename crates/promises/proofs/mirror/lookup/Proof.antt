@@ -1,3 +1,5 @@
+-- By the contract of the mirror's `lookup` the answer is `lookupAnswer`, of which `lookup-call` says what is promised, as the table's elements are
+-- bytes (`are-bytes`).
 use denote.Ref.{now}
 use mir.Facts.{toZ-ofZ}
 use borrow.Author.Needs.{needs}

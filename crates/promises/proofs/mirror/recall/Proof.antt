@@ -1,3 +1,5 @@
+-- By the contract of the mirror's `recall` the answer and the output are those of `recallOf`, of which `recall-call` says what is promised, as the
+-- table's elements are bytes (`are-bytes`).
 use mathlib.Core.Path.{sym, subst}
 use denote.Ref.{now}
 use borrow.Author.Needs.{needs}

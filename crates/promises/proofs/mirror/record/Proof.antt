@@ -1,3 +1,5 @@
+-- By the contract of the mirror's `record` the reply is `recordAnswer`, of which `record-call` says what is promised, as the table's elements are
+-- bytes (`are-bytes`).
 use denote.Ref.{now}
 use borrow.Author.Needs.{needs}
 use Rattle.wing_mirror.specs.Table.{table}

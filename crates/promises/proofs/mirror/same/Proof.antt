@@ -1,3 +1,4 @@
+-- By the contract of the mirror's `same` the answer is `sameAnswer`, of which `same-call` says what is promised.
 use borrow.Author.Needs.{needs}
 use Rattle.promises.proofs.Calls.{same-call}
 use Rattle.promises.proofs.mirror.same.Statement.{statement}

@@ -1,3 +1,4 @@
+-- By the contract of the mirror's `set_int` the reply, the table and the output are those of `mirrorSet`, of which `set-call` says what is promised.
 use mathlib.Core.Path.{sym, subst}
 use denote.Ref.{now}
 use mir.Facts.{toZ-ofZ}

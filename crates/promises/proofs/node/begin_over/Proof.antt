@@ -1,3 +1,4 @@
+-- By the contract of the walker's `begin_over` the answer is that of `beginOf` (`answers-agree`), of which `begin-call` says what is promised.
 use denote.Ref.{now}
 use borrow.Author.Needs.{needs}
 use Rattle.wing_node.proofs.Results.{answers-agree}

@@ -1,3 +1,4 @@
+-- By the contract of the parser the answer is `definitionOf`, of which `parser-call` says what is promised.
 use denote.Ref.{now}
 use borrow.Author.Needs.{needs}
 use Rattle.promises.proofs.Parses.{parser-call}

@@ -1,3 +1,4 @@
+-- By the contract of the value's `get_string` the answer is `answerOf`, which tells the string of `stringIn` (`answers-agree`).
 use borrow.Author.Needs.{needs}
 use Rattle.wing_node.specs.Value.{meant}
 use Rattle.wing_node.proofs.Results.{answers-agree}

@@ -1,3 +1,4 @@
+-- By the contract of `item_by_number` the answer is `itemNumbered`, of which `item-call` says what is promised.
 use denote.Ref.{now}
 use borrow.Author.Needs.{needs}
 use Rattle.promises.proofs.Parses.{item-call}

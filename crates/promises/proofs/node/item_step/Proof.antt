@@ -1,3 +1,4 @@
+-- By the contract of `item_step` the answer is `stepAt`, of which `step-call` says what is promised.
 use denote.Ref.{now}
 use borrow.Author.Needs.{needs}
 use Rattle.wing_node.specs.Items.{walk}

@@ -1,3 +1,4 @@
+-- By the contract of `items_begin` the answer is `beginOf`, of which `begin-call` says what is promised.
 use denote.Ref.{now}
 use borrow.Author.Needs.{needs}
 use Rattle.promises.proofs.Parses.{begin-call}

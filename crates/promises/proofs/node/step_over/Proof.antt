@@ -1,3 +1,4 @@
+-- By the contract of the walker's `step_over` the answer is `stepAt`, of which `step-call` says what is promised.
 use denote.Ref.{now}
 use borrow.Author.Needs.{needs}
 use Rattle.promises.proofs.Parses.{step-call}

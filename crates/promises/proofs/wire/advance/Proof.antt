@@ -1,3 +1,4 @@
+-- By the contract of the core the answer and the store are those of `advanceOf`, of which `core-is-next` says that they are what a next call gives.
 use mathlib.Core.Path.{sym, subst}
 use denote.Ref.{now}
 use borrow.Author.Needs.{needs}

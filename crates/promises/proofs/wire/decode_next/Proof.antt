@@ -1,3 +1,4 @@
+-- By the contract of the wire's `decode_next` the answer is `decodeNextOf`, of which `decode-call` says what is promised.
 use denote.Ref.{now}
 use borrow.Author.Needs.{needs}
 use Rattle.promises.proofs.Decodes.{decode-call}

@@ -1,3 +1,4 @@
+-- By the contract of the wire's `format_id` the answer and the output are those of `writeOf`, of which `command-writes` says what is promised.
 use mathlib.Core.Path.{sym, subst}
 use denote.Ref.{now}
 use mir.Facts.{toZ-ofZ}

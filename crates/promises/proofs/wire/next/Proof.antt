@@ -1,3 +1,4 @@
+-- By the contract of the wire's `next` the reply is `nextOf`, of which `next-call` says what is promised.
 use denote.Ref.{now}
 use borrow.Author.Needs.{needs}
 use Rattle.promises.proofs.Nexts.{next-call}

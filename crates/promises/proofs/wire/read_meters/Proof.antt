@@ -1,3 +1,4 @@
+-- By the contract of the wire's `read_meters` the answer and the readings are those of `packetOf`, of which `packet-reads` says what is promised.
 use mathlib.Core.Path.{sym, subst}
 use denote.Ref.{now}
 use borrow.Author.Needs.{needs}

@@ -1,3 +1,5 @@
+-- By the contract of the wire's `request_meter` the answer and the output are those of `requestMeter`, of which `meters-write` says what is
+-- promised.
 use mathlib.Core.Path.{sym, subst}
 use denote.Ref.{now}
 use borrow.Author.Needs.{needs}
