@@ -1,7 +1,7 @@
 """Orders to one mirror and its table memory."""
 from orders.words import UINT32, count, demand, hex_of, hex_width, int32, pairs
 from rules.mirror import WIDTH, Mirror
-from rules.refusal import Refusal, refuse_if
+from rules.refusal import Refusal
 
 MOST_PLACES = 1026
 MEMORY = MOST_PLACES * WIDTH

@@ -101,7 +101,7 @@ class History:
         at = WIDTH * self.r.randrange(max(min(self.mirror.count, self.mirror.places()), 1))
         tail = self.s.pick(0, 1, 4, 255, self.r.randrange(256))
         return self.poke(*self.s.pick(
-            (at, self.s.field(4)), (at, signed_bytes(self.s.node(), 4)), (at + 4, self.s.pick(b"\x00", b"\x01", b"\x02", b"\x03", b"\xff")),
+            (at, self.s.field(4)), (at, signed_bytes(self.s.node(), 4)), (at + 4, bytes([self.s.pick(0, 1, 2, 3, 255)])),
             (at + 5, b"\x01"), (at + 6, unsigned_bytes(self.s.pick(0, 3, 4, 5, 255, 256, 257, 0x400), 2)),
             (at + 8 + tail, self.s.pick(b"\x01", b"\xff", b"\x00")), (at + 8, self.s.field(4)), (at + WIDTH, self.s.field(4))))
 

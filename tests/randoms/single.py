@@ -1,6 +1,6 @@
 """Orders that stand alone: streams, definitions, commands, packets, getters, UTF-8, states."""
 from orders.states import MOST
-from orders.words import pairs
+from orders.words import UINT32, pairs
 from rules.command import data_request, definition_request, format_id, keep_alives, meter_request, set_bytes
 from rules.definition import Definition, refusal_of
 from rules.refusal import Refusal
@@ -8,6 +8,7 @@ from rules.refusal import Refusal
 WIDE = 10**6
 # Rooms around which the code goes another way: the largest number, id, meter request and string, and the limits of the orders.
 SWITCHES = (0, 1, 9, 10, 11, 17, 18, 19, 211, 212, 213, 394, 395, 396, 511, 512, 513, 16383, 16384)
+EDGES = (0x7F, 0x80, 0x8F, 0x90, 0x9F, 0xA0, 0xBF, 0xC0, 0xC1, 0xC2, 0xDF, 0xE0, 0xED, 0xEF, 0xF0, 0xF4, 0xF5, 0xFF)
 LINE_BYTES = 8100       # the most bytes whose pairs fit a line with any order's other words
 
 
@@ -18,7 +19,8 @@ class Single:
 
     def room(self, exact):
         """Room to spare, exact and one less, and around the switches."""
-        return max(0, self.s.pick(exact, exact, exact - 1, exact - 1, exact + 1, 16384, self.r.choice(SWITCHES), self.r.randrange(513)))
+        return max(0, self.s.pick(exact, exact, exact - 1, exact - 1, exact + 1, 16384, self.r.choice(SWITCHES),
+                                  self.r.randrange(513)))
 
     def stream(self):
         return "stream " + pairs(self.s.stream()[:LINE_BYTES])
@@ -39,12 +41,9 @@ class Single:
         return "definition " + pairs(self.s.definition())
 
     def utf8(self):
-        return "utf8 " + pairs(self.s.pick(self.s.text(300), self.s.text(8), self.r.choice(list(map(bytes, self.near_characters())))))
-
-    def near_characters(self):
-        """Bytes near the edges of the grammar's rows."""
-        edge = (0x7F, 0x80, 0x8F, 0x90, 0x9F, 0xA0, 0xBF, 0xC0, 0xC1, 0xC2, 0xDF, 0xE0, 0xED, 0xEF, 0xF0, 0xF4, 0xF5, 0xFF)
-        return [[self.r.choice(edge) for _ in range(self.r.randrange(1, 7))] for _ in range(3)]
+        """A string, or bytes at the edges of the grammar's rows."""
+        near = bytes(self.r.choice(EDGES) for _ in range(self.r.randrange(1, 7)))
+        return "utf8 " + pairs(self.s.pick(self.s.text(300), self.s.text(8), near))
 
     def utf8s(self):
         return "utf8s " + pairs(self.s.text(self.s.pick(3, 255)))
@@ -128,7 +127,8 @@ class Single:
         """Mostly a number that the body has, or the one past it."""
         body = self.s.pick(self.s.definition(), self.s.definition(), self.s.enumeration(), self.s.enumeration())
         count = 0 if refusal_of(body) else Definition(body).count
-        return "item %d %s" % (self.s.pick(0, self.r.randrange(count + 1), max(count - 1, 0), count, 65535, 65536, 2**32 - 1), pairs(body))
+        number = self.s.pick(0, self.r.randrange(count + 1), max(count - 1, 0), count, 65535, 65536, UINT32)
+        return "item %d %s" % (number, pairs(body))
 
     def step(self):
         body = self.s.pick(self.s.definition(), b"".join(self.s.item(self.s.pick(5, 6)) for _ in range(3)))
