@@ -1,6 +1,7 @@
 """Orders that stand alone: streams, definitions, commands, packets, getters, UTF-8, states."""
 from orders.states import MOST
 from orders.words import UINT32, pairs
+from orders.writers import KEEP_ALIVE_ROOM
 from rules.command import data_request, definition_request, format_id, keep_alives, meter_request, set_bytes
 from rules.definition import Definition, refusal_of
 from rules.refusal import Refusal
@@ -9,6 +10,7 @@ WIDE = 10**6
 # Rooms around which the code goes another way: the largest number, id, meter request and string, and the limits of the orders.
 SWITCHES = (0, 1, 9, 10, 11, 17, 18, 19, 211, 212, 213, 394, 395, 396, 511, 512, 513, 16383, 16384)
 EDGES = (0x7F, 0x80, 0x8F, 0x90, 0x9F, 0xA0, 0xBF, 0xC0, 0xC1, 0xC2, 0xDF, 0xE0, 0xED, 0xEF, 0xF0, 0xF4, 0xF5, 0xFF)
+SOUND = (0, 5, 6, 7, 10, 11, 16, 18, 22, 23)        # the numbers of the sound states
 LINE_BYTES = 8100       # the most bytes whose pairs fit a line with any order's other words
 
 
@@ -75,8 +77,8 @@ class Single:
     def meter_words(self):
         """Port, last id, count, and the pairs of kind and index."""
         port, last = self.s.uint16(), self.s.pick(0, 1, 222, self.s.uint16())
-        meters = self.s.pick(0, 1, 3, 63, 64, 65, self.r.randrange(70))
-        count = self.s.pick(meters, meters, meters + 1, 64, 65, 255, self.r.randrange(256))
+        meters = self.s.pick(0, 1, 3, 63, 64, 65, self.r.randrange(65))
+        count = self.s.pick(meters, meters, meters, meters + 1, 64, self.r.randrange(65), self.s.pick(65, 255))
         items = b"".join(bytes([self.s.pick(self.r.randrange(16), self.r.randrange(256)), self.s.pick(0xDF, self.r.randrange(256))])
                          for _ in range(meters))
         return port, last, min(count, 255), items + (self.s.field(1) if self.s.chance(0.05) else b"")
@@ -103,7 +105,8 @@ class Single:
         if self.s.chance(0.01):
             last = self.s.pick(65535, 57311)
         exact = len(keep_alives(WIDE, last, port))
-        return "keepalive %d %d %d" % (self.s.pick(800000, self.room(exact), exact, max(exact - 1, 0), 13 * last), last, port)
+        room = self.s.pick(KEEP_ALIVE_ROOM, self.room(exact), exact, max(exact - 1, 0), 13 * last, max(13 * last - 1, 0))
+        return "keepalive %d %d %d" % (min(room, KEEP_ALIVE_ROOM), last, port)
 
     def packet(self):
         length = self.s.pick(0, 3, 4, 5, 6, 9, 80, self.r.randrange(200), self.r.randrange(LINE_BYTES))
@@ -147,7 +150,8 @@ class Single:
         data = self.s.pick(b"", b"\x05", self.s.telling(6), self.s.short_stream(30))
         if self.s.chance(0.05):
             times, data = self.s.pick(65535, 65536, 65537, 65600), self.s.pick(b"\x40", b"\xdf", b"\xd1")
-        return "state %d %d %s" % (self.r.randrange(MOST + 1), times, pairs(data))
+        number = self.s.pick(0, self.r.choice(SOUND), self.r.randrange(MOST + 1))
+        return "state %d %d %s" % (number, times, pairs(data))
 
     def splits(self):
         return "splits " + pairs(self.s.pick(self.s.telling(24), self.s.short_stream(24), self.s.stream()[:120]))

@@ -57,13 +57,14 @@ class Source:
         at, wrong = self.r.randrange(len(text) + 1), self.r.choice(BROKEN)
         return (text[:at] + wrong + text[at + len(wrong):])[:most]
 
-    def text(self, most):
+    def text(self, most, faults=0.1):
         length = min(self.pick(self.r.choice(LENGTHS), self.r.randrange(most + 1)), most)
         text = self.good_text(length)
-        return self.broken(text, most) if self.chance(0.1) else text
+        return self.broken(text, most) if self.chance(faults) else text
 
     def name(self, most=20):
-        text = self.text(most if self.chance(0.95) else 255)
+        """As it stands in a definition. A body has many of these, so faults are rare in each."""
+        text = self.text(most if self.chance(0.95) else 255, 0.02)
         return bytes([len(text)]) + text
 
     def damaged(self, data, times):
@@ -150,7 +151,8 @@ class Source:
             return self.telling(60)
         channel = bytes([0xDF, self.pick(0xD0, 0xD1, 0xD1, 0xD5, 0xDD)]) if self.chance(0.7) else b""
         data = channel + b"".join(self.token() for _ in range(self.r.randrange(1, tokens + 1)))
-        return self.damaged(data, self.pick(0, 0, 0, 0, 1, 1, 3))
+        data = self.damaged(data, self.pick(0, 0, 0, 0, 1, 1, 3))
+        return data[:self.r.randrange(len(data) + 1)] if self.chance(0.2) else data
 
     def short_stream(self, most):
         return self.stream()[:self.r.randrange(most + 1)]
