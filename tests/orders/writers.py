@@ -22,10 +22,10 @@ def written(call):
     return bits16(meter_id) + data.hex() + "1"
 
 
-def command(room, make):
+def command(room, data):
     """A command without a meter id into an output of this room."""
     room = count(room, ROOM)
-    return written(lambda: (0, into(room, make)))
+    return written(lambda: (0, into(room, data)))
 
 
 def set_order(room, node, value):
