@@ -24,11 +24,12 @@ class Orders:
 
     # Their last word is HEX, or + for the bytes held.
     LONG = {**wire.LONG, **node.LONG, **writers.LONG}
-    SUMMED = {**wire.SUMMED, **writers.SUMMED}
+    SHORT = {**wire.TABLE, **node.TABLE, **writers.TABLE}
 
     def __init__(self):
         self.held = b""
-        self.others = {**wire.TABLE, **node.TABLE, **MirrorOrders().table(), b"more": ((1,), self.more)}
+        # Orders to the mirror and to the bytes held: they have no sum.
+        self.changing = {**MirrorOrders().table(), b"more": ((1,), self.more)}
 
     def more(self, word):
         data = self.held + hex_of(word)
@@ -53,16 +54,16 @@ class Orders:
         return answer(*words)
 
     def summed_order(self, name, words):
-        """An order that may stand after sum."""
+        """An order that may also stand after sum."""
         if name in self.LONG:
             return self.long_order(name, words)
-        return self.order_in(self.SUMMED, name, words)
+        return self.order_in(self.SHORT, name, words)
 
     def order(self, name, words):
         if name == b"sum" and words:
             return summed(self.summed_order(words[0], words[1:]))
-        if name in self.others:
-            return self.order_in(self.others, name, words)
+        if name in self.changing:
+            return self.order_in(self.changing, name, words)
         return self.summed_order(name, words)
 
     def answer(self, line):

@@ -9,6 +9,7 @@ from rules.refusal import Refusal
 FRONT = 63          # the longest front that the order streams takes
 SPLIT = 4200        # the longest stream that the order splits takes
 SHORT = 24          # the longest that it cuts into three pieces
+SHORT_CUTS = 626    # the places of two cuts, 25 by 25, and byte by byte
 REPEATED = 65600    # the most bytes that the order state makes
 
 
@@ -91,11 +92,10 @@ def state(name, times, word):
 
 
 def splits(word):
-    """How many cuts there are: this decoder goes by the byte, and 01 lets no cut tell."""
-    n = len(hex_of(word))
-    demand(n <= SPLIT)
-    threes = (n + 1) * (n + 2) // 2 + 1 if n <= SHORT else 0
-    return "%d same" % (n + 1 + threes)
+    """How many cuts are tried: this decoder goes by the byte, and 01 lets no cut tell."""
+    length = len(hex_of(word))
+    demand(length <= SPLIT)
+    return "%d same" % (SHORT_CUTS if length <= SHORT else length + 1)
 
 
 def lent(word):
@@ -104,5 +104,5 @@ def lent(word):
 
 
 LONG = {b"stream": (1, stream), b"pieces": (2, pieces), b"piecelist": (2, piece_list)}
-SUMMED = {b"streams": ((1,), streams)}
-TABLE = {b"units": ((1,), units), b"state": ((3,), state), b"splits": ((1,), splits), b"lent": ((1,), lent)}
+TABLE = {b"streams": ((1,), streams), b"units": ((1,), units), b"state": ((3,), state), b"splits": ((1,), splits),
+         b"lent": ((1,), lent)}

@@ -135,7 +135,7 @@ def packet_order(room, data):
     return packet_text(count(room, READINGS), data)
 
 
-SUMMED = {
+TABLE = {
     b"setint": ((3,), set_int), b"setfloat": ((3,), set_float), b"setstring": ((3,), set_string),
     b"format": ((4,), format_order), b"askdefinition": ((2,), ask_definition), b"askdata": ((2,), ask_data),
     b"askmeters": ((5,), ask_meters), b"askmetersfill": ((6,), ask_meters_fill), b"keepalive": ((3,), keep_alive),

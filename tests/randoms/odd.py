@@ -20,7 +20,7 @@ ODD = (
     "keepalive 0 0 65536", "keepalive 0 0", "packet 4201 00000000", "packet 0", "packet", "getters 3 00", "getters 0 00",
     "getters 0 -", "getters 1 0000000000", "getters 2 " + "41" * 257, "getters 2", "getstring 65536 -",
     "getstring 1 " + "41" * 257, "getstring 1", "sum", "sum sum utf8 41", "sum feed 00", "sum cuts 00", "sum stream",
-    "sum dump", "sum units 00", "sum lent 00", "sum state 0 0 -", "sum more 00", "cuts", "cuts +", "item 4294967296 00",
+    "sum dump", "sum units 00", "sum lent", "sum state 0 0 -", "sum more 00", "cuts", "cuts +", "item 4294967296 00",
     "item 0", "item -1 00", "step 0 0 0", "step 65536 0 0 00", "step 0 65536 0 00", "step 0 0 65536 00", "walk", "walk 0",
     "walk +", "units", "units 0", "state 28 1 -", "state 0 65601 00", "state 0 1", "state -1 1 00", "state 0 4294967296 -",
     "splits", "splits " + "00" * 4201, "lent", "lent +", "more", "more +", "more 0", "mirror", "exit", "?", "? dump", "-",

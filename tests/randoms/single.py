@@ -161,7 +161,8 @@ class Single:
 
     def summed(self):
         return "sum " + self.r.choice((self.stream, self.pieces, self.definition, self.set_string, self.packet, self.ask_meters,
-                                       self.keep_alive, self.getters, self.streams, self.utf8s, self.piece_list))()
+                                       self.keep_alive, self.getters, self.streams, self.utf8s, self.piece_list, self.cuts, self.item,
+                                       self.step, self.walk, self.units, self.state, self.lent))()
 
     def order(self):
         return self.r.choice(self.kinds())()
