@@ -19,8 +19,8 @@ ODD = (
     "askmetersfill 9 0 0 0 - -", "askmetersfill 9 0 0 0 000000 -", "keepalive 800001 0 0", "keepalive 0 65536 0",
     "keepalive 0 0 65536", "keepalive 0 0", "packet 4201 00000000", "packet 0", "packet", "getters 3 00", "getters 0 00",
     "getters 0 -", "getters 1 0000000000", "getters 2 " + "41" * 257, "getters 2", "getstring 65536 -",
-    "getstring 1 " + "41" * 257, "getstring 1", "sum", "sum sum utf8 41", "sum feed 00", "sum cuts 00", "sum stream",
-    "sum dump", "sum units 00", "sum lent", "sum state 0 0 -", "sum more 00", "cuts", "cuts +", "item 4294967296 00",
+    "getstring 1 " + "41" * 257, "getstring 1", "sum", "sum sum utf8 41", "sum feed 00", "sum cuts", "sum stream",
+    "sum dump", "sum units", "sum lent", "sum state 0 0", "sum more 00", "cuts", "cuts +", "item 4294967296 00",
     "item 0", "item -1 00", "step 0 0 0", "step 65536 0 0 00", "step 0 65536 0 00", "step 0 0 65536 00", "walk", "walk 0",
     "walk +", "units", "units 0", "state 28 1 -", "state 0 65601 00", "state 0 1", "state -1 1 00", "state 0 4294967296 -",
     "splits", "splits " + "00" * 4201, "lent", "lent +", "more", "more +", "more 0", "mirror", "exit", "?", "? dump", "-",
@@ -43,7 +43,7 @@ def changed(source, line):
 
 EDGES = (
     "repeat 65600 40", "repeat 4294967295 -", "repeat 32800 4041", "peek 0 0", "poke 0 -", "count 4294967295", "count 0",
-    "streams " + "00" * 63, "utf8s " + "41" * 255, "splits " + "41" * 200, "getters 2 " + "41" * 256, "item 4294967295 00",
+    "streams " + "40" * 63, "utf8s " + "41" * 255, "splits " + "41" * 200, "getters 2 " + "41" * 256, "item 4294967295 00",
     "state 27 65600 40", "state 0 65536 40", "pieces 65535 05", "lookup -2147483648", "lookup 2147483647", "lookup -0",
     "lookup 0000000001", "record 4294967295", "keepalive 800000 1 0", "packet 4200 00000000", "packet 0 00000000", "more -",
     "stream +", "definition +", "piecelist " + ",".join(["1"] * 64) + " 0505", "piecelist " + ",".join(["1"] * 65) + " 0505",

@@ -160,9 +160,9 @@ class Single:
         return "lent " + pairs(self.s.stream()[:LINE_BYTES])
 
     def summed(self):
-        return "sum " + self.r.choice((self.stream, self.pieces, self.definition, self.set_string, self.packet, self.ask_meters,
-                                       self.keep_alive, self.getters, self.streams, self.utf8s, self.piece_list, self.cuts, self.item,
-                                       self.step, self.walk, self.units, self.state, self.lent))()
+        return "sum " + self.r.choice((
+            self.stream, self.pieces, self.piece_list, self.streams, self.definition, self.utf8s, self.set_string, self.ask_meters,
+            self.keep_alive, self.packet, self.getters, self.cuts, self.item, self.step, self.walk, self.units, self.state, self.lent))()
 
     def order(self):
         return self.r.choice(self.kinds())()
