@@ -1,0 +1,67 @@
+use borrow.Author.Needs.{needs}
+use lib.ListN.{length}
+use mathlib.Core.Path.{_≡_}
+use Prim.Native.Nat.{_-_}
+use Rattle.shell.proofs.definitions.cuts.Statement.{statement}
+use Rattle.shell.proofs.definitions.cuts.Tie as tie
+
+abbrev Inv-loop : tie.InvT-loop
+Inv-loop log₀ body r₀ len₀ log r len = length log ≡ length log₀
+
+abbrev μ-loop : tie.MeasureT-loop
+μ-loop log₀ body r₀ len₀ log r len = length body - len
+
+part-requires : tie.Need-part-requires Inv-loop μ-loop
+part-requires c κs = search needs
+
+refusal-requires : tie.Need-refusal-requires Inv-loop μ-loop
+refusal-requires c κs = search needs
+
+loop-holds : tie.Need-loop-holds Inv-loop μ-loop
+loop-holds c = search needs
+
+add-len : tie.Need-add-len Inv-loop μ-loop
+add-len c = search needs
+
+part-requires-2 : tie.Need-part-requires-2 Inv-loop μ-loop
+part-requires-2 c κs = search needs
+
+refusal-requires-2 : tie.Need-refusal-requires-2 Inv-loop μ-loop
+refusal-requires-2 c κs = search needs
+
+longer-requires : tie.Need-longer-requires Inv-loop μ-loop
+longer-requires c κs = search needs
+
+loop-less : tie.Need-loop-less Inv-loop μ-loop
+loop-less c = search needs
+
+loop-again : tie.Need-loop-again Inv-loop μ-loop
+loop-again c = search needs
+
+run-text-requires : tie.Need-run-text-requires Inv-loop μ-loop
+run-text-requires c κs = search needs
+
+same-length : tie.Need-same-length Inv-loop μ-loop
+same-length c = search needs
+
+returns : tie.Need-returns Inv-loop μ-loop
+returns c = search needs
+
+pub cuts-spec : {M : Type 1} → statement M
+cuts-spec =
+    tie.close
+    (tie.spec
+    Inv-loop
+    μ-loop
+    part-requires
+    refusal-requires
+    loop-holds
+    add-len
+    part-requires-2
+    refusal-requires-2
+    longer-requires
+    loop-less
+    loop-again
+    run-text-requires
+    same-length
+    returns)
