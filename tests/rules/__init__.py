@@ -1,0 +1,1 @@
+"""The rules of 01 in plain Python, written from that paper alone: what every call answers and leaves."""
