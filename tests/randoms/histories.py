@@ -68,7 +68,7 @@ class History:
         if kind == "int":
             number = self.s.int32()
             return kind, str(number), ("i", number)
-        data = self.s.field(4) if kind == "float" else self.s.text(self.s.pick(3, 64, 260))
+        data = self.s.field(4) if kind == "float" else self.s.text(self.s.pick(3, 64, 260, 300), 0.3)
         return kind, pairs(data), (kind[0], data)
 
     def set(self):
@@ -103,7 +103,8 @@ class History:
         return self.poke(*self.s.pick(
             (at, self.s.field(4)), (at, signed_bytes(self.s.node(), 4)), (at + 4, bytes([self.s.pick(0, 1, 2, 3, 255)])),
             (at + 5, b"\x01"), (at + 6, unsigned_bytes(self.s.pick(0, 3, 4, 5, 255, 256, 257, 0x400), 2)),
-            (at + 8 + tail, self.s.pick(b"\x01", b"\xff", b"\x00")), (at + 8, self.s.field(4)), (at + WIDTH, self.s.field(4))))
+            (at + 8 + tail, self.s.pick(b"\x01", b"\xff", b"\x00")), (at + 8, self.s.field(4)), (at + 8, b"\x80"),
+            (at + WIDTH, bytes(self.mirror.table[at:at + 4])), (at + WIDTH, self.s.field(4))))
 
     def hand_over(self, count):
         undo = "count %d" % self.mirror.count

@@ -61,7 +61,7 @@ class Single:
     def set_string(self):
         node, text = self.s.node(), self.s.text(self.s.pick(3, 64, 260, 260))
         if self.s.chance(0.1):
-            text = self.s.pick(b"\xdf\xbf" * 128, b"\xdf\xbf" * 112, b"z" * 2000, self.s.text(300))
+            text = self.s.pick(b"\xdf\xbf" * 128, b"\xdf\xbf" * 112, b"z" * 2000, b"z" * 256 + b"\xff", b"\x80" * 300)
         exact = len(set_bytes(node, ("s", text))) if len(text) <= 256 else 300
         return "setstring %d %d %s" % (self.room(exact), node, pairs(text))
 
@@ -76,7 +76,7 @@ class Single:
 
     def meter_words(self):
         """Port, last id, count, and the pairs of kind and index."""
-        port, last = self.s.uint16(), self.s.pick(0, 1, 222, self.s.uint16())
+        port, last = self.s.uint16(), self.s.pick(0, 1, 222, 65535, self.s.uint16())
         meters = self.s.pick(0, 1, 3, 63, 64, 65, self.r.randrange(65))
         count = self.s.pick(meters, meters, meters, meters + 1, 64, self.r.randrange(65), self.s.pick(65, 255))
         items = b"".join(bytes([self.s.pick(self.r.randrange(16), self.r.randrange(256)), self.s.pick(0xDF, self.r.randrange(256))])
@@ -161,8 +161,9 @@ class Single:
 
     def summed(self):
         return "sum " + self.r.choice((
-            self.stream, self.pieces, self.piece_list, self.streams, self.definition, self.utf8s, self.set_string, self.ask_meters,
-            self.keep_alive, self.packet, self.getters, self.cuts, self.item, self.step, self.walk, self.units, self.state, self.lent))()
+            self.stream, self.pieces, self.piece_list, self.streams, self.definition, self.utf8s, self.set_string,
+            self.ask_meters, self.keep_alive, self.packet, self.getters, self.cuts, self.item, self.step, self.walk, self.units,
+            self.state, self.lent))()
 
     def order(self):
         return self.r.choice(self.kinds())()

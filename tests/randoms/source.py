@@ -36,7 +36,8 @@ class Source:
         return bytes(self.r.choice(TELLING) for _ in range(self.r.randrange(most + 1)))
 
     def int32(self):
-        return self.pick(self.r.choice(INTEGERS), self.r.randrange(-2**31, 2**31), self.r.randrange(-40000, 40000))
+        return self.pick(self.r.choice(INTEGERS), self.r.choice(INTEGERS), self.r.randrange(-2**31, 2**31),
+                         self.r.randrange(-40000, 40000))
 
     def uint16(self):
         return self.pick(0, 1, 222, 223, 224, 0xDF00, 0xDFDF, 65534, 65535, self.r.randrange(65536))
