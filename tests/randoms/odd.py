@@ -45,8 +45,7 @@ EDGES = (
     "repeat 65600 40", "repeat 4294967295 -", "repeat 32800 4041", "peek 0 0", "poke 0 -", "count 4294967295", "count 0",
     "streams " + "40" * 63, "utf8s " + "41" * 255, "splits " + "41" * 200, "getters 2 " + "41" * 256, "item 4294967295 00",
     "state 27 65600 40", "state 0 65536 40", "pieces 65535 05", "lookup -2147483648", "lookup 2147483647", "lookup -0",
-    "lookup 0000000001", "record 4294967295", "keepalive 800000 1 0", "packet 4200 00000000", "packet 0 00000000", "more -",
-    "stream +", "definition +", "piecelist " + ",".join(["1"] * 64) + " 0505", "piecelist " + ",".join(["1"] * 65) + " 0505",
+    "lookup 0000000001", "record 4294967295", "keepalive 800000 1 0", "packet 4200 00000000", "packet 0 00000000",
 )
 
 

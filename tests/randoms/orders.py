@@ -1,7 +1,7 @@
 """Random lines, a block of them at a time."""
 from randoms.histories import history
 from randoms.odd import ODD, at_limit, changed, limits
-from randoms.single import Single, held
+from randoms.single import Single
 
 
 def block(source):
@@ -12,7 +12,7 @@ def block(source):
     if kind < 0.86:
         return history(source)
     if kind < 0.88:
-        return held(source) if source.chance(0.2) else [single.rare()]
+        return [single.rare()]
     if kind < 0.93:
         return [source.r.choice(ODD)]
     if kind < 0.96:

@@ -30,12 +30,6 @@ class Single:
     def pieces(self):
         return "pieces %d %s" % (self.s.pick(0, 1, 1, 2, 3, 7, 64, 65535, self.s.uint16()), pairs(self.s.stream()[:LINE_BYTES]))
 
-    def size_list(self):
-        return ",".join(str(self.s.pick(1, 1, 2, 3, 4096, 65535, self.r.randrange(1, 40))) for _ in range(self.s.pick(1, 2, 5, 64)))
-
-    def piece_list(self):
-        return "piecelist %s %s" % (self.size_list(), pairs(self.s.stream()[:LINE_BYTES]))
-
     def streams(self):
         return "streams " + pairs(self.s.short_stream(self.s.pick(3, 20, 63)))
 
@@ -94,11 +88,6 @@ class Single:
     def ask_meters(self):
         port, last, count, items = self.meter_words()
         return "askmeters %d %d %d %d %s" % (self.meter_room(port, last, count), port, last, count, pairs(items))
-
-    def ask_meters_fill(self):
-        port, last, count, items = self.meter_words()
-        room = self.meter_room(port, last, count)
-        return "askmetersfill %d %d %d %d %s %s" % (room, port, last, count, self.s.field(2).hex(), pairs(items))
 
     def keep_alive(self):
         last, port = self.s.pick(0, 1, 2, 30, 222, 223, 224, 300, self.r.randrange(1200)), self.s.uint16()
@@ -161,7 +150,7 @@ class Single:
 
     def summed(self):
         return "sum " + self.r.choice((
-            self.stream, self.pieces, self.piece_list, self.streams, self.definition, self.utf8s, self.set_string,
+            self.stream, self.pieces, self.streams, self.definition, self.utf8s, self.set_string,
             self.ask_meters, self.keep_alive, self.packet, self.getters, self.cuts, self.item, self.step, self.walk, self.units,
             self.state, self.lent))()
 
@@ -171,23 +160,10 @@ class Single:
     def kinds(self):
         """Some kinds stand more than once, so that they come more often."""
         return ((self.stream, self.definition) * 6 + (self.pieces, self.set_int, self.set_string, self.ask_meters, self.step) * 3
-                + (self.piece_list, self.utf8, self.set_float, self.packet, self.item, self.walk, self.units, self.lent,
+                + (self.utf8, self.set_float, self.packet, self.item, self.walk, self.units, self.lent,
                    self.state, self.summed, self.getters) * 2
-                + (self.format, self.ask, self.ask_meters_fill, self.keep_alive, self.get_string, self.cuts, self.splits))
+                + (self.format, self.ask, self.keep_alive, self.get_string, self.cuts, self.splits))
 
     def rare(self):
         """Orders whose answers are long."""
         return self.s.pick(self.streams, self.utf8s)()
-
-
-def held(source):
-    """Bytes over some lines, and an order that takes them."""
-    single = Single(source)
-    data = b"".join(source.stream() for _ in range(source.pick(1, 5, 40)))[:60000]
-    name = source.pick("stream +", "pieces %d +" % source.pick(1, 7, 4096), "piecelist %s +" % single.size_list(),
-                       "definition +", "packet 4200 +")
-    if name.startswith("packet"):
-        data = source.r.randbytes(source.pick(8191, 8192, 8193, source.r.randrange(9000)))
-    lines = ["more " + pairs(piece[at:at + LINE_BYTES]) for piece in source.cuts(data)
-             for at in range(0, max(len(piece), 1), LINE_BYTES)]
-    return lines + [source.pick("", "sum ") + name]
