@@ -5,7 +5,7 @@ use mathlib.Core.List.{List}
 use Rattle.wing_node.specs.Result.{Result, ok, refused}
 use Rattle.wing_node.specs.Value.{meant}
 use Rattle.wing_mirror.specs.Rows.{Found, found, nothing}
-use Rattle.wing_mirror.specs.Record.{Entry, entry}
+use Rattle.wing_mirror.specs.Entry.{Entry, entry}
 use Rattle.wing_mirror.specs.declared.answer.Counts.{Counts}
 use Rattle.wing_mirror.specs.declared.answer.Lookup.{Lookup}
 use Rattle.wing_mirror.specs.declared.answer.Lookup.the-variants.{At, None, Refused as LookupRefused}

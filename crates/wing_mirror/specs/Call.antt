@@ -9,7 +9,7 @@ use Rattle.wing_node.specs.Signed.{InBits}
 use Rattle.wing_node.specs.Utf8.{utf8}
 use Rattle.wing_node.specs.Value.{NodeValue, integer, float, string}
 use Rattle.wing_wire.specs.Range.{AreBytes}
-use Rattle.wing_mirror.specs.Record.{Typed}
+use Rattle.wing_mirror.specs.Entry.{Typed}
 use Rattle.wing_mirror.specs.declared.answer.Counts.{Counts}
 
 -- a feed by its bytes; a set by its node, its value and the bytes that its output holds before

@@ -1,4 +1,6 @@
 pub mod Rows
+pub mod Entry
+pub mod Layout
 pub mod Record
 pub mod Table
 pub mod Query

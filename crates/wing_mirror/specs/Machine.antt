@@ -7,13 +7,15 @@ use lib.IntN.{ℤ, pos, negsuc}
 use lib.ListN.{length}
 use Rattle.wing_node.specs.Bool.{if}
 use Rattle.wing_node.specs.Definition.{definitionOf}
+use Rattle.wing_node.specs.Value.{NodeValue}
 use Rattle.wing_wire.specs.State.{freshState}
 use Rattle.wing_wire.specs.Stream.{Fed, feedOf}
 use Rattle.wing_wire.specs.Reader.{Event, more, value, body, end, refused, eventOf}
 use Rattle.wing_wire.specs.Command.{setBytes}
 use Rattle.wing_wire.specs.declared.state.State.{State}
 use Rattle.wing_wire.specs.declared.unit.Answer.{Answer}
-use Rattle.wing_mirror.specs.Record.{Entry, entry}
+use Rattle.wing_mirror.specs.Entry.{Entry, entry}
+use Rattle.wing_mirror.specs.Layout.{Keeping, unlessKept}
 use Rattle.wing_mirror.specs.Table.{placesAllowed}
 use Rattle.wing_mirror.specs.Counts.{zeroCounts, tick, refusalMark, bodyMark}
 use Rattle.wing_mirror.specs.Call.{Call, feed, set, tooLong, notText, fed, sent, Step, refuse}
@@ -90,38 +92,43 @@ pub record MapTally : Type 0 where
 abbrev pub mapTally : List Entry → Counts → MapTally
 mapTally m c = record { map = m; counts = c }
 
--- 01: counts value events put, value events not put, refusals 1, bodies the parser takes, refusals 2 to 5, ends
-unfoldable pub machineEvent : ℕ → ℤ → Event → MapTally → MapTally
-machineEvent places node more h = h
-machineEvent places node (value v) h =
-    if (room places node (h .map)) (mapTally (putIn (entry node v) (h .map)) (tick Stored (h .counts)))
-    (mapTally (h .map) (tick Unplaced (h .counts)))
-machineEvent places node (body b) h = mapTally (h .map) (tick (bodyMark (definitionOf b)) (h .counts))
-machineEvent places node end h = mapTally (h .map) (tick Ended (h .counts))
-machineEvent places node (refused n) h = mapTally (h .map) (tick (refusalMark n) (h .counts))
+-- which values are kept: all, by 01
+module _ (keeping : NodeValue → Keeping) where
+  -- 01: counts value events put, value events not put, refusals 1, bodies the parser takes, refusals 2 to 5, ends; a value that is not kept
+  -- is only counted
+  unfoldable pub machineEvent : ℕ → ℤ → Event → MapTally → MapTally
+  machineEvent places node more h = h
+  machineEvent places node (value v) h =
+      unlessKept (keeping v) (λ mark number. mapTally (h .map) (tick mark (h .counts)))
+      (if (room places node (h .map)) (mapTally (putIn (entry node v) (h .map)) (tick Stored (h .counts)))
+      (mapTally (h .map) (tick Unplaced (h .counts))))
+  machineEvent places node (body b) h = mapTally (h .map) (tick (bodyMark (definitionOf b)) (h .counts))
+  machineEvent places node end h = mapTally (h .map) (tick Ended (h .counts))
+  machineEvent places node (refused n) h = mapTally (h .map) (tick (refusalMark n) (h .counts))
 
--- events one after the other
-unfoldable pub machineEvents : ℕ → List StreamEvent → MapTally → MapTally
-machineEvents places [] h = h
-machineEvents places (r ∷ rs) h = machineEvents places rs (machineEvent places (r .node) (r .event) h)
+  -- events one after the other
+  unfoldable pub machineEvents : ℕ → List StreamEvent → MapTally → MapTally
+  machineEvents places [] h = h
+  machineEvents places (r ∷ rs) h = machineEvents places rs (machineEvent places (r .node) (r .event) h)
 
--- what a feed makes of the map, with counts from 0
-abbrev pub machineFeed : ℕ → Machine → List ℕ → MapTally
-machineFeed places s bytes = machineEvents places (events (s .decoder) bytes) (mapTally (s .map) zeroCounts)
+  -- what a feed makes of the map, with counts from 0
+  abbrev pub machineFeed : ℕ → Machine → List ℕ → MapTally
+  machineFeed places s bytes = machineEvents places (events (s .decoder) bytes) (mapTally (s .map) zeroCounts)
 
--- 01: a feed meets 7 by the places alone, then 14; a set 7, 10, 1, 6 by the map, 9, else puts
-unfoldable pub machineStep : ℕ → Machine → Call → Step Machine
-machineStep places s (feed bytes) =
-    if (not (placesAllowed places)) (refuse s 7)
-    (if (ltb 65536 (length bytes)) (refuse s 14)
-    (record {
-      state = record { decoder = stateAfter (s .decoder) bytes; map = machineFeed places s bytes .map };
-      outcome = fed (machineFeed places s bytes .counts);
-    }))
-machineStep places s (set id v out) =
-    if (not (placesAllowed places)) (refuse s 7)
-    (if (tooLong v) (refuse s 10)
-    (if (notText v) (refuse s 1)
-    (if (not (room places id (s .map))) (refuse s 6)
-    (if (ltb (length out) (length (setBytes id v))) (refuse s 9)
-    (record { state = record { decoder = s .decoder; map = putIn (entry id v) (s .map) }; outcome = sent (setBytes id v) })))))
+  -- 01: a feed meets 7 by the places alone, then 14; a set 7, the number of a value that is not kept, 10, 1, 6 by the map, 9, else puts
+  unfoldable pub machineStep : ℕ → Machine → Call → Step Machine
+  machineStep places s (feed bytes) =
+      if (not (placesAllowed places)) (refuse s 7)
+      (if (ltb 65536 (length bytes)) (refuse s 14)
+      (record {
+        state = record { decoder = stateAfter (s .decoder) bytes; map = machineFeed places s bytes .map };
+        outcome = fed (machineFeed places s bytes .counts);
+      }))
+  machineStep places s (set id v out) =
+      if (not (placesAllowed places)) (refuse s 7)
+      (unlessKept (keeping v) (λ mark number. refuse s number)
+      (if (tooLong v) (refuse s 10)
+      (if (notText v) (refuse s 1)
+      (if (not (room places id (s .map))) (refuse s 6)
+      (if (ltb (length out) (length (setBytes id v))) (refuse s 9)
+      (record { state = record { decoder = s .decoder; map = putIn (entry id v) (s .map) }; outcome = sent (setBytes id v) }))))))

@@ -17,7 +17,8 @@ use Rattle.wing_wire.specs.declared.unit.Answer.{Answer}
 use Rattle.wing_wire.specs.declared.write.Written.{Written}
 use Rattle.wing_wire.specs.declared.write.Written.the-variants.{Bytes, Refused}
 use Rattle.wing_mirror.specs.Rows.{Table}
-use Rattle.wing_mirror.specs.Record.{entry}
+use Rattle.wing_mirror.specs.Entry.{entry}
+use Rattle.wing_mirror.specs.Layout.{Layout, unlessKept}
 use Rattle.wing_mirror.specs.Table.{table, usable, put, fits}
 use Rattle.wing_mirror.specs.Call.{tooLong, notText}
 use Rattle.wing_mirror.specs.Counts.{zeroCounts, tick, refusalMark, bodyMark}
@@ -37,20 +38,6 @@ pub record TableTally : Type 0 where
 abbrev pub tableTally : Table → Counts → TableTally
 tableTally t c = record { table = t; counts = c }
 
--- 01: a value is stored at its node, or has no place; a definition leaves the table alone
-unfoldable pub keepEvent : ℤ → Event → TableTally → TableTally
-keepEvent node more k = k
-keepEvent node (value v) k =
-    if (fits (entry node v) (k .table)) (tableTally (put (entry node v) (k .table)) (tick Stored (k .counts)))
-    (tableTally (k .table) (tick Unplaced (k .counts)))
-keepEvent node (body b) k = tableTally (k .table) (tick (bodyMark (definitionOf b)) (k .counts))
-keepEvent node end k = tableTally (k .table) (tick Ended (k .counts))
-keepEvent node (refused n) k = tableTally (k .table) (tick (refusalMark n) (k .counts))
-
--- the same of an answer, whose bytes stand in the decoder's store
-abbrev pub keep : ℤ → Answer → List ℕ → TableTally → TableTally
-keep node a s k = keepEvent node (eventOf a s s) k
-
 -- what a feed leaves
 pub record Feeding : Type 0 where
   pub answer : FeedAnswer
@@ -62,22 +49,9 @@ pub record Feeding : Type 0 where
 abbrev pub refusedFeed : ℕ → State → Table → Feeding
 refusedFeed why s t = record { answer = FeedRefused why; counts = zeroCounts; state = s; table = t }
 
--- 01: next until "more" (wing_wire's feedOf), each answer kept
-unfoldable pub fedAll : State → Table → List ℕ → Fed TableTally
-fedAll s t bytes = feedOf keep (record { control = s .control; store = s .store; memo = tableTally t zeroCounts }) bytes
-
 -- 01: a feed that is taken: the six counts, the state and the table
 abbrev pub takenFeed : Fed TableTally → Feeding
 takenFeed x = record { answer = Taken; counts = x .memo .counts; state = record { control = x .control; store = x .store }; table = x .memo .table }
-
--- 01: feed takes up to 65,536 bytes; 8, 7, 14
-unfoldable pub mirrorFeed : State → Table → List ℕ → Feeding
-mirrorFeed s t bytes =
-    if (soundState s)
-    (if (usable t)
-    (if (leb (length bytes) 65536) (takenFeed (fedAll s t bytes)) (refusedFeed 14 s t))
-    (refusedFeed 7 s t))
-    (refusedFeed 8 s t)
 
 -- what the call leaves, by its reply and the lent buffer
 abbrev pub feeding : FeedReply → List ℕ → Feeding
@@ -93,16 +67,48 @@ pub record Setting : Type 0 where
 abbrev pub refusedSet : ℕ → Table → List ℕ → Setting
 refusedSet why t out = record { answer = Refused why; out = out; table = t }
 
--- 01: set through the mirror writes the command and stores the value; 7, 10, 1, 6, 9
-unfoldable pub mirrorSet : ℤ → NodeValue → Table → List ℕ → Setting
-mirrorSet id v t out =
-    if (not (usable t)) (refusedSet 7 t out)
-    (if (tooLong v) (refusedSet 10 t out)
-    (if (notText v) (refusedSet 1 t out)
-    (if (not (fits (entry id v) t)) (refusedSet 6 t out)
-    (if (ltb (length out) (length (setBytes id v))) (refusedSet 9 t out)
-    (record { answer = Bytes (length (setBytes id v)); out = setBytes id v ++ drop (length (setBytes id v)) out; table = put (entry id v) t })))))
-
 -- what the call leaves, by its reply and the lent buffers
 abbrev pub setting : SetReply → List ℕ → List ℕ → Setting
 setting r out buffer = record { answer = r .answer; out = out; table = table buffer (r .count) }
+
+module _ (L : Layout) where
+  open Layout L using (keeping)
+
+  -- 01: a value is stored at its node, or has no place; a definition leaves the table alone. A value that is not kept is only counted
+  unfoldable pub keepEvent : ℤ → Event → TableTally → TableTally
+  keepEvent node more k = k
+  keepEvent node (value v) k =
+      unlessKept (keeping v) (λ mark number. tableTally (k .table) (tick mark (k .counts)))
+      (if (fits L (entry node v) (k .table)) (tableTally (put L (entry node v) (k .table)) (tick Stored (k .counts)))
+      (tableTally (k .table) (tick Unplaced (k .counts))))
+  keepEvent node (body b) k = tableTally (k .table) (tick (bodyMark (definitionOf b)) (k .counts))
+  keepEvent node end k = tableTally (k .table) (tick Ended (k .counts))
+  keepEvent node (refused n) k = tableTally (k .table) (tick (refusalMark n) (k .counts))
+
+  -- the same of an answer, whose bytes stand in the decoder's store
+  abbrev pub keep : ℤ → Answer → List ℕ → TableTally → TableTally
+  keep node a s k = keepEvent node (eventOf a s s) k
+
+  -- 01: next until "more" (wing_wire's feedOf), each answer kept
+  unfoldable pub fedAll : State → Table → List ℕ → Fed TableTally
+  fedAll s t bytes = feedOf keep (record { control = s .control; store = s .store; memo = tableTally t zeroCounts }) bytes
+
+  -- 01: feed takes up to 65,536 bytes; 8, 7, 14
+  unfoldable pub mirrorFeed : State → Table → List ℕ → Feeding
+  mirrorFeed s t bytes =
+      if (soundState s)
+      (if (usable L t)
+      (if (leb (length bytes) 65536) (takenFeed (fedAll s t bytes)) (refusedFeed 14 s t))
+      (refusedFeed 7 s t))
+      (refusedFeed 8 s t)
+
+  -- 01: set through the mirror writes the command and stores the value; 7, the number of a value that is not kept, 10, 1, 6, 9
+  unfoldable pub mirrorSet : ℤ → NodeValue → Table → List ℕ → Setting
+  mirrorSet id v t out =
+      if (not (usable L t)) (refusedSet 7 t out)
+      (unlessKept (keeping v) (λ mark number. refusedSet number t out)
+      (if (tooLong v) (refusedSet 10 t out)
+      (if (notText v) (refusedSet 1 t out)
+      (if (not (fits L (entry id v) t)) (refusedSet 6 t out)
+      (if (ltb (length out) (length (setBytes id v))) (refusedSet 9 t out)
+      (record { answer = Bytes (length (setBytes id v)); out = setBytes id v ++ drop (length (setBytes id v)) out; table = put L (entry id v) t }))))))

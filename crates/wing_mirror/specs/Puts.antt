@@ -4,7 +4,7 @@ use mathlib.Core.Bool.{Bool, true, false}
 use mathlib.Core.List.{List}
 use Rattle.wing_node.specs.Bool.{if}
 use Rattle.wing_mirror.specs.Rows.{Table, takes, store}
-use Rattle.wing_mirror.specs.Record.{width, keyOf}
+use Rattle.wing_mirror.specs.Layout.{Layout}
 use Rattle.wing_mirror.specs.Table.{table}
 use Rattle.wing_mirror.specs.declared.store.Kept.{Kept}
 
@@ -13,9 +13,12 @@ pub record PutResult : Type 0 where
   pub after : Table
   pub taken : Bool
 
--- 01: put if its node has a record or a place is free; otherwise nothing
-unfoldable pub putOf : List ℕ → Table → PutResult
-putOf r t = if (takes width keyOf r t) (record { after = store width keyOf r t; taken = true }) (record { after = t; taken = false })
+module _ (L : Layout) where
+  open Layout L using (width, keyOf)
+
+  -- 01: put if its node has a record or a place is free; otherwise nothing
+  unfoldable pub putOf : List ℕ → Table → PutResult
+  putOf r t = if (takes width keyOf r t) (record { after = store width keyOf r t; taken = true }) (record { after = t; taken = false })
 
 -- the same, by what the code returns and the lent buffer
 abbrev pub putResult : Kept → List ℕ → PutResult

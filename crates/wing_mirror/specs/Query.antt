@@ -11,7 +11,8 @@ use Rattle.wing_node.specs.declared.value.Value.{Value}
 use Rattle.wing_node.specs.declared.value.Value.the-variants.{Integer, Float, String}
 use Rattle.wing_wire.specs.Reader.{filled}
 use Rattle.wing_mirror.specs.Rows.{Table, Found, found, nothing}
-use Rattle.wing_mirror.specs.Record.{Entry, entryIn}
+use Rattle.wing_mirror.specs.Entry.{Entry}
+use Rattle.wing_mirror.specs.Layout.{Layout}
 use Rattle.wing_mirror.specs.Table.{rows, usable, lookupOf}
 use Rattle.wing_mirror.specs.declared.answer.Lookup.{Lookup}
 use Rattle.wing_mirror.specs.declared.answer.Lookup.the-variants.{At, None, Refused}
@@ -24,10 +25,6 @@ use Rattle.wing_mirror.specs.declared.answer.Same.the-variants.{Yes, No,
 unfoldable pub answerOf : Found ℕ → Lookup
 answerOf (found n) = At n
 answerOf nothing = None
-
--- 01: 7 for a table that is not usable
-unfoldable pub lookupAnswer : Table → ℤ → Lookup
-lookupAnswer t id = if (usable t) (answerOf (lookupOf id t)) (Refused 7)
 
 -- a value, with the length of a string
 unfoldable pub valueOf : NodeValue → Value
@@ -53,10 +50,6 @@ readOf e = record { answer = Record (e .id) (valueOf (e .value)); string = bytes
 abbrev pub refusedRecord : ℕ → RecordRead
 refusedRecord why = record { answer = RecordRefused why; string = replicate 256 0 }
 
--- 01: 7, then 14 for a number that is not below the count; else what the record of this number says
-unfoldable pub recordAnswer : Table → ℕ → RecordRead
-recordAnswer t number = if (usable t) (if (ltb number (t .count)) (readOf (entryIn (getD (rows t) number []))) (refusedRecord 14)) (refusedRecord 7)
-
 -- two lists of bytes are one
 unfoldable pub sameBytes : List ℕ → List ℕ → Bool
 sameBytes [] [] = true
@@ -71,10 +64,21 @@ sameRows [] (q ∷ qs) = false
 sameRows (r ∷ rs) [] = false
 sameRows (r ∷ rs) (q ∷ qs) = if (sameBytes r q) (sameRows rs qs) false
 
--- 01: two are equal if count and records are
-unfoldable pub sameTables : Table → Table → Bool
-sameTables s t = if (eqb (s .count) (t .count)) (sameRows (rows s) (rows t)) false
+module _ (L : Layout) where
+  open Layout L using (entryIn)
 
--- 01: 7 for either table
-unfoldable pub sameAnswer : Table → Table → Same
-sameAnswer s t = if (usable s) (if (usable t) (if (sameTables s t) Yes No) (SameRefused 7)) (SameRefused 7)
+  -- 01: 7 for a table that is not usable
+  unfoldable pub lookupAnswer : Table → ℤ → Lookup
+  lookupAnswer t id = if (usable L t) (answerOf (lookupOf L id t)) (Refused 7)
+
+  -- 01: 7, then 14 for a number that is not below the count; else what the record of this number says
+  unfoldable pub recordAnswer : Table → ℕ → RecordRead
+  recordAnswer t number = if (usable L t) (if (ltb number (t .count)) (readOf (entryIn (getD (rows L t) number []))) (refusedRecord 14)) (refusedRecord 7)
+
+  -- 01: two are equal if count and records are
+  unfoldable pub sameTables : Table → Table → Bool
+  sameTables s t = if (eqb (s .count) (t .count)) (sameRows (rows L s) (rows L t)) false
+
+  -- 01: 7 for either table
+  unfoldable pub sameAnswer : Table → Table → Same
+  sameAnswer s t = if (usable L s) (if (usable L t) (if (sameTables s t) Yes No) (SameRefused 7)) (SameRefused 7)

@@ -6,17 +6,21 @@ use Rattle.wing_wire.specs.Write.{Wrote, wrote, writeOf}
 use Rattle.wing_wire.specs.Command.{setBytes}
 use Rattle.wing_wire.specs.declared.write.Written.the-variants.{Refused}
 use Rattle.wing_mirror.specs.Rows.{Table, joined}
-use Rattle.wing_mirror.specs.Record.{Entry, entryIn}
+use Rattle.wing_mirror.specs.Entry.{Entry}
+use Rattle.wing_mirror.specs.Layout.{Layout}
 use Rattle.wing_mirror.specs.Table.{rows, usable}
 
 -- the set order of an entry
 abbrev pub setOf : Entry → List ℕ
 setOf e = setBytes (e .id) (e .value)
 
--- 01: df d1, then the set bytes of each record in order
-unfoldable pub recallBytes : Table → List ℕ
-recallBytes t = 0xdf ∷ 0xd1 ∷ joined (map setOf (map entryIn (rows t)))
+module _ (L : Layout) where
+  open Layout L using (entryIn)
 
--- 01: 7, then 9 with the output as it was; output bytes past what is written are not altered
-unfoldable pub recallOf : Table → List ℕ → Wrote
-recallOf t out = if (usable t) (writeOf (recallBytes t) out) (wrote (Refused 7) out)
+  -- 01: df d1, then the set bytes of each record in order
+  unfoldable pub recallBytes : Table → List ℕ
+  recallBytes t = 0xdf ∷ 0xd1 ∷ joined (map setOf (map entryIn (rows L t)))
+
+  -- 01: 7, then 9 with the output as it was; output bytes past what is written are not altered
+  unfoldable pub recallOf : Table → List ℕ → Wrote
+  recallOf t out = if (usable L t) (writeOf (recallBytes t) out) (wrote (Refused 7) out)

@@ -1,28 +1,20 @@
 -- 01: a place is 264 bytes: id (4, signed), kind (1: 0 integer, 1 float, 2 string), 00, length (2: 4 for numbers, 0 to 256 for strings), payload (256, zero-filled).
-use Prim.Native.Nat.{ℕ, _+_, _-_, _^_, _<_}
+use Prim.Native.Nat.{ℕ}
 use mathlib.Core.Bool.{Bool, true, false}
-use mathlib.Core.List.{List, [], _∷_, _++_, map}
-use lib.Dec.{ltb, leb, eqb}
+use mathlib.Core.List.{List, _∷_, _++_}
+use lib.Dec.{leb, eqb}
 use lib.IntN.{ℤ}
-use lib.Signed.{ltZ}
 use lib.ListN.{length, take, drop, getD, set}
 use lib.Seq.{sets}
 use Rattle.wing_node.specs.Bool.{if}
 use Rattle.wing_node.specs.Field.{big, bytesOf}
-use Rattle.wing_node.specs.Signed.{signed, unsigned, InBits}
+use Rattle.wing_node.specs.Signed.{signed, unsigned}
 use Rattle.wing_node.specs.Utf8.{utf8}
 use Rattle.wing_node.specs.Value.{NodeValue, integer, float, string}
 use Rattle.wing_wire.specs.State.{zeros}
 use Rattle.wing_wire.specs.Reader.{filled}
-
--- a node and its value
-pub record Entry : Type 0 where
-  pub id : ℤ
-  pub value : NodeValue
-
--- an entry by its node and value
-abbrev pub entry : ℤ → NodeValue → Entry
-entry id value = record { id = id; value = value }
+use Rattle.wing_mirror.specs.Entry.{Entry, entry, flipped}
+use Rattle.wing_mirror.specs.Layout.{Layout, kept}
 
 -- 01: a place is 264 bytes
 abbrev pub width : ℕ
@@ -49,24 +41,6 @@ recordOf e =
 -- kind, length and payload laid over the bytes of a record
 abbrev pub laidFrom : List ℕ → ℕ → List ℕ → List ℕ
 laidFrom out kind p = sets (sets (set out 4 kind) 6 (bytesOf 2 (length p))) 8 p
-
--- 01: strictly rising signed ids
-unfoldable pub risingIds : List ℤ → Bool
-risingIds [] = true
-risingIds (i ∷ []) = true
-risingIds (i ∷ j ∷ is) = if (ltZ i j) (risingIds (j ∷ is)) false
-
--- the ids of entries, in order
-abbrev pub ids : List Entry → List ℤ
-ids es = map (λ (e : Entry). e .id) es
-
--- signed order as the order of numbers: the top bit of an id's 32 bits the other way
-abbrev pub flipped : ℕ → ℕ
-flipped n = if (ltb n 0x80000000) (n + 0x80000000) (n - 0x80000000)
-
--- where an id stands in the order: rank-less (proofs/Records/Ids.antt) says that this is signed order
-abbrev pub rankOf : ℤ → ℕ
-rankOf id = flipped (unsigned 31 id)
 
 -- where a record stands in the order: its id's place
 unfoldable pub keyOf : List ℕ → ℕ
@@ -98,18 +72,6 @@ valueIn r =
 unfoldable pub entryIn : List ℕ → Entry
 entryIn r = entry (idIn r) (valueIn r)
 
--- 01: a string of at most 256 bytes, UTF-8; every number
-unfoldable pub storable : NodeValue → Bool
-storable (integer x) = true
-storable (float bits) = true
-storable (string s) = if (leb (length s) 256) (utf8 s) false
-
--- numbers of 32 bits, as the types of the code have them
-abbrev pub Typed : NodeValue → Type 0
-Typed (integer x) = InBits 31 x
-Typed (float bits) = bits < 256 ^ 4
-Typed (string s) = Unit {0}
-
 -- a string's length is 0 to 256, its bytes are UTF-8, and 0 stands after them
 unfoldable pub stringKept : ℕ → List ℕ → Bool
 stringKept n p = if (leb n 256) (if (zeros (drop n p)) (utf8 (take n p)) false) false
@@ -121,3 +83,7 @@ wellKept kind n p = if (leb kind 1) (if (eqb n 4) (zeros (drop 4 p)) false) (if 
 -- a record has 01's form
 unfoldable pub wellFormed : List ℕ → Bool
 wellFormed r = if (eqb (getD r 5 0) 0) (wellKept (kindIn r) (lengthIn r) (payloadIn r)) false
+
+-- this record as a layout: every value is kept
+abbrev pub full : Layout
+full = record { width = width; keyOf = keyOf; recordOf = recordOf; entryIn = entryIn; wellFormed = wellFormed; keeping = λ v. kept }

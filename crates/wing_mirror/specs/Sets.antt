@@ -4,6 +4,7 @@ use mathlib.Core.List.{List}
 use Rattle.wing_wire.specs.declared.write.Written.{Written}
 use Rattle.wing_wire.specs.declared.write.Written.the-variants.{Bytes, Refused}
 use Rattle.wing_mirror.specs.Rows.{Table}
+use Rattle.wing_mirror.specs.Layout.{Layout}
 use Rattle.wing_mirror.specs.Table.{table}
 use Rattle.wing_mirror.specs.Puts.{putOf}
 use Rattle.wing_mirror.specs.declared.answer.SetReply.{SetReply}
@@ -22,6 +23,6 @@ abbrev pub refusedSetReply : ℕ → ℕ → SetReply
 refusedSetReply why count = record { answer = Refused why; count = count }
 
 -- 01: the value is stored if its command is written; refused, the table is as it was
-unfoldable pub keptOf : Written → List ℕ → Table → Replied
-keptOf (Bytes n) r t = record { answer = Bytes n; after = putOf r t .after }
-keptOf (Refused why) r t = record { answer = Refused why; after = t }
+unfoldable pub keptOf : Layout → Written → List ℕ → Table → Replied
+keptOf L (Bytes n) r t = record { answer = Bytes n; after = putOf L r t .after }
+keptOf L (Refused why) r t = record { answer = Refused why; after = t }

@@ -7,6 +7,7 @@ ghost use Rattle.wing_node.specs.Definition.{definitionOf};
 ghost use Rattle.wing_node.specs.Value.{meant};
 ghost use Rattle.wing_wire.specs.Range.{Within};
 ghost use Rattle.wing_wire.specs.Reader.{value as valueEvent};
+ghost use Rattle.wing_mirror.specs.Record.{full};
 ghost use Rattle.wing_mirror.specs.Table.{table as tableOf, usable};
 ghost use Rattle.wing_mirror.specs.Counts.{total, bodyMark};
 ghost use Rattle.wing_mirror.specs.Mirror.{keepEvent, keep};
@@ -49,8 +50,8 @@ fn mark(count: usize, counts: Counts, m: Mark) -> Tally
 
 // 01: a value is stored at its node, or has no place.
 fn keep_value(table: &mut [u8], t: Tally, node: i32, value: Value, string: &[u8]) -> Tally
-    requires { ⌜ (usable (tableOf (now table) (t .count)) ≡ true) × (total (t .counts) < 4294967295) × (length (now string) ≤ 256) ⌝ }
-    ensures { λ r. ⌜ tallyOf r (now (table .exit)) ≡ keepEvent node (valueEvent (meant value (now (string .entry)))) (tallyOf t (now (table .entry))) ⌝ }
+    requires { ⌜ (usable full (tableOf (now table) (t .count)) ≡ true) × (total (t .counts) < 4294967295) × (length (now string) ≤ 256) ⌝ }
+    ensures { λ r. ⌜ tallyOf r (now (table .exit)) ≡ keepEvent full node (valueEvent (meant value (now (string .entry)))) (tallyOf t (now (table .entry))) ⌝ }
 {
     let mut rec = [0u8; State::PLACE_WIDTH];
     lay_record(&mut rec, node, value, string);
@@ -74,8 +75,8 @@ fn keep_body(t: Tally, body: &[u8]) -> Tally
 
 // The answer's string or body stands at the front of the store.
 pub(crate) fn keep_answer(table: &mut [u8], t: Tally, node: i32, a: Answer, store: &[u8]) -> Tally
-    requires { ⌜ (usable (tableOf (now table) (t .count)) ≡ true) × (total (t .counts) < 4294967295) × (length (now store) ≡ 4096) × Within a (now store) ⌝ }
-    ensures { λ r. ⌜ tallyOf r (now (table .exit)) ≡ keep node a (now (store .entry)) (tallyOf t (now (table .entry))) ⌝ }
+    requires { ⌜ (usable full (tableOf (now table) (t .count)) ≡ true) × (total (t .counts) < 4294967295) × (length (now store) ≡ 4096) × Within a (now store) ⌝ }
+    ensures { λ r. ⌜ tallyOf r (now (table .exit)) ≡ keep full node a (now (store .entry)) (tallyOf t (now (table .entry))) ⌝ }
 {
     let counts = t.counts;
     match a {

@@ -5,7 +5,8 @@ ghost use Prim.Native.Nat.{_+_, _*_, _≤_};
 ghost use lib.ListN.{length, take};
 ghost use Rattle.wing_node.specs.Value.{string as stringOf};
 ghost use Rattle.wing_mirror.specs.Rows.{records, rising, numberOf};
-ghost use Rattle.wing_mirror.specs.Record.{width, keyOf, entry, entryIn};
+ghost use Rattle.wing_mirror.specs.Entry.{entry};
+ghost use Rattle.wing_mirror.specs.Record.{width, keyOf, entryIn, full};
 ghost use Rattle.wing_mirror.specs.Table.{table as tableOf, rowAt};
 ghost use Rattle.wing_mirror.specs.Query.{lookupAnswer, answerOf, readOf, besideZeros, refusedRecord, recordAnswer, sameBytes, sameTables, sameAnswer};
 use crate::answer::Lookup;
@@ -35,7 +36,7 @@ fn number_of(table: &[u8], count: usize, key: u32) -> Lookup
 
 // 01: an id's record number, or none. 7.
 pub fn lookup(table: &[u8], count: usize, id: i32) -> Lookup
-    ensures { λ r. ⌜ r ≡ lookupAnswer (tableOf (now (table .entry)) count) id ⌝ }
+    ensures { λ r. ⌜ r ≡ lookupAnswer full (tableOf (now (table .entry)) count) id ⌝ }
 {
     if is_usable(table, count) {
         return number_of(table, count, rank(id));
@@ -108,7 +109,7 @@ fn read_at(table: &[u8], number: usize) -> RecordRead
 
 // 01: a record is read by number, from 0: its id and value, the bytes of a string beside it. 7, 14.
 pub fn record(table: &[u8], count: usize, number: usize) -> RecordRead
-    ensures { λ r. ⌜ r ≡ recordAnswer (tableOf (now (table .entry)) count) number ⌝ }
+    ensures { λ r. ⌜ r ≡ recordAnswer full (tableOf (now (table .entry)) count) number ⌝ }
 {
     if is_usable(table, count) {
         if number < count {
@@ -135,7 +136,7 @@ fn same_bytes(a: &[u8], b: &[u8]) -> bool
 
 fn same_records(a: &[u8], count_a: usize, b: &[u8], count_b: usize) -> bool
     requires { ⌜ (width * «count_a» ≤ length (now a)) × (width * «count_b» ≤ length (now b)) ⌝ }
-    ensures { λ r. ⌜ r ≡ sameTables (tableOf (now (a .entry)) «count_a») (tableOf (now (b .entry)) «count_b») ⌝ }
+    ensures { λ r. ⌜ r ≡ sameTables full (tableOf (now (a .entry)) «count_a») (tableOf (now (b .entry)) «count_b») ⌝ }
 {
     if count_a == count_b {
         let end = State::PLACE_WIDTH * count_a;
@@ -146,7 +147,7 @@ fn same_records(a: &[u8], count_a: usize, b: &[u8], count_b: usize) -> bool
 
 // 01: two mirrors are equal if count and records are. 7 for either table.
 pub fn same(a: &[u8], count_a: usize, b: &[u8], count_b: usize) -> Same
-    ensures { λ r. ⌜ r ≡ sameAnswer (tableOf (now (a .entry)) «count_a») (tableOf (now (b .entry)) «count_b») ⌝ }
+    ensures { λ r. ⌜ r ≡ sameAnswer full (tableOf (now (a .entry)) «count_a») (tableOf (now (b .entry)) «count_b») ⌝ }
 {
     if is_usable(a, count_a) {
         if is_usable(b, count_b) {

@@ -4,7 +4,7 @@ ghost use mathlib.Core.Bool.{true};
 ghost use Prim.Native.Nat.{_+_, _*_, _≤_};
 ghost use lib.ListN.{length};
 ghost use Rattle.wing_wire.specs.Write.{Laid, wrote, writeOf};
-ghost use Rattle.wing_mirror.specs.Record.{width, wellFormed};
+ghost use Rattle.wing_mirror.specs.Record.{width, wellFormed, full};
 ghost use Rattle.wing_mirror.specs.Table.{table as tableOf, rows, rowAt, usable};
 ghost use Rattle.wing_mirror.specs.Recall.{recallBytes, recallOf};
 ghost use Rattle.wing_mirror.specs.Sending.{orderIn, ordersOf, sizeIn};
@@ -50,8 +50,8 @@ fn lay_order(out: &mut [u8], table: &[u8], number: usize) -> usize
 
 // How many bytes the set orders take. The scratch buffer has room for any of them.
 fn orders_len(table: &[u8], count: usize) -> usize
-    requires { ⌜ usable (tableOf (now table) count) ≡ true ⌝ }
-    ensures { λ r. ⌜ r ≡ length (ordersOf (rows (tableOf (now (table .entry)) count))) ⌝ }
+    requires { ⌜ usable full (tableOf (now table) count) ≡ true ⌝ }
+    ensures { λ r. ⌜ r ≡ length (ordersOf (rows full (tableOf (now (table .entry)) count))) ⌝ }
 {
     let mut scratch = [0u8; 395];
     let mut total = 0;
@@ -65,8 +65,8 @@ fn orders_len(table: &[u8], count: usize) -> usize
 
 // 01: df d1, then each record's order in the part of the output after the last one.
 fn lay_recall(out: &mut [u8], table: &[u8], count: usize) -> usize
-    requires { ⌜ (usable (tableOf (now table) count) ≡ true) × (length (recallBytes (tableOf (now table) count)) ≤ length (now out)) ⌝ }
-    ensures { λ r. ⌜ Laid (recallBytes (tableOf (now (table .entry)) count)) 0 (now (out .entry)) (now (out .exit)) r ⌝ }
+    requires { ⌜ (usable full (tableOf (now table) count) ≡ true) × (length (recallBytes full (tableOf (now table) count)) ≤ length (now out)) ⌝ }
+    ensures { λ r. ⌜ Laid (recallBytes full (tableOf (now (table .entry)) count)) 0 (now (out .entry)) (now (out .exit)) r ⌝ }
 {
     out[0] = 0xdf;
     out[1] = 0xd1;
@@ -82,7 +82,7 @@ fn lay_recall(out: &mut [u8], table: &[u8], count: usize) -> usize
 
 // No set order is longer than 395 bytes: an output with room for as many such is not measured.
 pub fn recall(table: &[u8], count: usize, out: &mut [u8]) -> Written
-    ensures { λ r. ⌜ wrote r (now (out .exit)) ≡ recallOf (tableOf (now (table .entry)) count) (now (out .entry)) ⌝ }
+    ensures { λ r. ⌜ wrote r (now (out .exit)) ≡ recallOf full (tableOf (now (table .entry)) count) (now (out .entry)) ⌝ }
 {
     if is_usable(table, count) {
         if out.len() < 2 + 395 * count {

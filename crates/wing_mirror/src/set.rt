@@ -6,7 +6,8 @@ ghost use lib.ListN.{length};
 ghost use Rattle.wing_node.specs.Value.{integer, float, string as stringOf, meant};
 ghost use Rattle.wing_wire.specs.Write.{wrote, writeOf};
 ghost use Rattle.wing_wire.specs.Command.{setBytes};
-ghost use Rattle.wing_mirror.specs.Record.{width, storable};
+ghost use Rattle.wing_mirror.specs.Entry.{storable};
+ghost use Rattle.wing_mirror.specs.Record.{width, full};
 ghost use Rattle.wing_mirror.specs.Table.{table as tableOf, usable};
 ghost use Rattle.wing_mirror.specs.Mirror.{mirrorSet, setting};
 ghost use Rattle.wing_mirror.specs.Sets.{replied, keptOf, refusedSetReply};
@@ -48,8 +49,8 @@ fn send(out: &mut [u8], id: i32, value: Value, string: &[u8]) -> Written
 
 // Stored if its command was written.
 fn keep_written(table: &mut [u8], count: usize, rec: &[u8], written: Written) -> SetReply
-    requires { ⌜ (usable (tableOf (now table) count) ≡ true) × (length (now rec) ≡ width) ⌝ }
-    ensures { λ r. ⌜ replied r (now (table .exit)) ≡ keptOf written (now (rec .entry)) (tableOf (now (table .entry)) count) ⌝ }
+    requires { ⌜ (usable full (tableOf (now table) count) ≡ true) × (length (now rec) ≡ width) ⌝ }
+    ensures { λ r. ⌜ replied r (now (table .exit)) ≡ keptOf full written (now (rec .entry)) (tableOf (now (table .entry)) count) ⌝ }
 {
     match written {
         Written::Bytes(n) => {
@@ -72,8 +73,8 @@ fn set_value(
     value: Value,
     string: &[u8],
 ) -> SetReply
-    requires { ⌜ (usable (tableOf (now table) count) ≡ true) × (storable (meant value (now string)) ≡ true) × (length (now string) ≤ 256) ⌝ }
-    ensures { λ r. ⌜ setting r (now (out .exit)) (now (table .exit)) ≡ mirrorSet id (meant value (now (string .entry))) (tableOf (now (table .entry)) count) (now (out .entry)) ⌝ }
+    requires { ⌜ (usable full (tableOf (now table) count) ≡ true) × (storable (meant value (now string)) ≡ true) × (length (now string) ≤ 256) ⌝ }
+    ensures { λ r. ⌜ setting r (now (out .exit)) (now (table .exit)) ≡ mirrorSet full id (meant value (now (string .entry))) (tableOf (now (table .entry)) count) (now (out .entry)) ⌝ }
 {
     let mut rec = [0u8; State::PLACE_WIDTH];
     lay_record(&mut rec, id, value, string);
@@ -86,7 +87,7 @@ fn set_value(
 
 // 01: set through the mirror writes the command and stores the value. 7, 6, 9.
 pub fn set_int(table: &mut [u8], count: usize, out: &mut [u8], id: i32, value: i32) -> SetReply
-    ensures { λ r. ⌜ setting r (now (out .exit)) (now (table .exit)) ≡ mirrorSet id (integer value) (tableOf (now (table .entry)) count) (now (out .entry)) ⌝ }
+    ensures { λ r. ⌜ setting r (now (out .exit)) (now (table .exit)) ≡ mirrorSet full id (integer value) (tableOf (now (table .entry)) count) (now (out .entry)) ⌝ }
 {
     if is_usable(table, count) {
         let empty = [0u8; 0];
@@ -97,7 +98,7 @@ pub fn set_int(table: &mut [u8], count: usize, out: &mut [u8], id: i32, value: i
 
 // The same for a float, by its 32 bits.
 pub fn set_float(table: &mut [u8], count: usize, out: &mut [u8], id: i32, bits: u32) -> SetReply
-    ensures { λ r. ⌜ setting r (now (out .exit)) (now (table .exit)) ≡ mirrorSet id (float bits) (tableOf (now (table .entry)) count) (now (out .entry)) ⌝ }
+    ensures { λ r. ⌜ setting r (now (out .exit)) (now (table .exit)) ≡ mirrorSet full id (float bits) (tableOf (now (table .entry)) count) (now (out .entry)) ⌝ }
 {
     if is_usable(table, count) {
         let empty = [0u8; 0];
@@ -108,7 +109,7 @@ pub fn set_float(table: &mut [u8], count: usize, out: &mut [u8], id: i32, bits: 
 
 // The same for a string. 7, 10, 1, 6, 9.
 pub fn set_string(table: &mut [u8], count: usize, out: &mut [u8], id: i32, value: &[u8]) -> SetReply
-    ensures { λ r. ⌜ setting r (now (out .exit)) (now (table .exit)) ≡ mirrorSet id (stringOf (now (value .entry))) (tableOf (now (table .entry)) count) (now (out .entry)) ⌝ }
+    ensures { λ r. ⌜ setting r (now (out .exit)) (now (table .exit)) ≡ mirrorSet full id (stringOf (now (value .entry))) (tableOf (now (table .entry)) count) (now (out .entry)) ⌝ }
 {
     if is_usable(table, count) {
         if value.len() <= 256 {

@@ -3,7 +3,7 @@ ghost use mathlib.Core.Path.{_≡_};
 ghost use mathlib.Core.Bool.{true};
 ghost use lib.ListN.{length};
 ghost use Rattle.wing_mirror.specs.Rows.{takes};
-ghost use Rattle.wing_mirror.specs.Record.{width, keyOf};
+ghost use Rattle.wing_mirror.specs.Record.{width, keyOf, full};
 ghost use Rattle.wing_mirror.specs.Table.{table as tableOf, usable};
 ghost use Rattle.wing_mirror.specs.Puts.{putResult, putOf};
 use crate::bytes::lay;
@@ -22,7 +22,7 @@ pub struct Kept {
 
 // Its id has a record, or a place is free.
 pub(crate) fn has_room(table: &[u8], count: usize, rec: &[u8]) -> bool
-    requires { ⌜ (usable (tableOf (now table) count) ≡ true) × (length (now rec) ≡ width) ⌝ }
+    requires { ⌜ (usable full (tableOf (now table) count) ≡ true) × (length (now rec) ≡ width) ⌝ }
     ensures { λ r. ⌜ r ≡ takes width keyOf (now (rec .entry)) (tableOf (now (table .entry)) count) ⌝ }
 {
     let key = record::key(rec);
@@ -35,8 +35,8 @@ pub(crate) fn has_room(table: &[u8], count: usize, rec: &[u8]) -> bool
 
 // Into its place, or instead of the record with its id; not taken where its id is new and no place is free.
 pub(crate) fn put(table: &mut [u8], count: usize, rec: &[u8]) -> Kept
-    requires { ⌜ (usable (tableOf (now table) count) ≡ true) × (length (now rec) ≡ width) ⌝ }
-    ensures { λ r. ⌜ putResult r (now (table .exit)) ≡ putOf (now (rec .entry)) (tableOf (now (table .entry)) count) ⌝ }
+    requires { ⌜ (usable full (tableOf (now table) count) ≡ true) × (length (now rec) ≡ width) ⌝ }
+    ensures { λ r. ⌜ putResult r (now (table .exit)) ≡ putOf full (now (rec .entry)) (tableOf (now (table .entry)) count) ⌝ }
 {
     let key = record::key(rec);
     let number = search(table, count, key);

@@ -3,7 +3,7 @@ ghost use mathlib.Core.Path.{_≡_};
 ghost use Prim.Native.Nat.{_+_, _*_, _/_, _≤_, _<_};
 ghost use lib.ListN.{length};
 ghost use Rattle.wing_mirror.specs.Rows.{records};
-ghost use Rattle.wing_mirror.specs.Record.{width, wellFormed};
+ghost use Rattle.wing_mirror.specs.Record.{width, wellFormed, full};
 ghost use Rattle.wing_mirror.specs.Table.{table as tableOf, rowAt, belowNext, passesAt, checked, soundTable, usable};
 use crate::order::key_at;
 use crate::record;
@@ -48,7 +48,7 @@ fn passes(table: &[u8], count: usize, number: usize) -> bool
 // The records have 01's form and order.
 fn all_pass(table: &[u8], count: usize) -> bool
     requires { ⌜ width * count ≤ length (now table) ⌝ }
-    ensures { λ r. ⌜ r ≡ checked (records width count (now (table .entry))) ⌝ }
+    ensures { λ r. ⌜ r ≡ checked full (records width count (now (table .entry))) ⌝ }
 {
     let mut i = 0;
     while i < count {
@@ -63,7 +63,7 @@ fn all_pass(table: &[u8], count: usize) -> bool
 
 // 01: the count is at most the places, the records have their form and order, and strings are UTF-8.
 pub fn is_sound(table: &[u8], count: usize) -> bool
-    ensures { λ r. ⌜ r ≡ soundTable (tableOf (now (table .entry)) count) ⌝ }
+    ensures { λ r. ⌜ r ≡ soundTable full (tableOf (now (table .entry)) count) ⌝ }
 {
     if count <= places(table) {
         return all_pass(table, count);
@@ -73,7 +73,7 @@ pub fn is_sound(table: &[u8], count: usize) -> bool
 
 // The tables that the calls take; any other is refused (refusal 7).
 pub fn is_usable(table: &[u8], count: usize) -> bool
-    ensures { λ r. ⌜ r ≡ usable (tableOf (now (table .entry)) count) ⌝ }
+    ensures { λ r. ⌜ r ≡ usable full (tableOf (now (table .entry)) count) ⌝ }
 {
     let n = places(table);
     if 1 <= n {

@@ -15,7 +15,8 @@ use Rattle.wing_wire.specs.Command.{setBytes}
 use Rattle.wing_wire.specs.declared.state.State.{State}
 use Rattle.wing_wire.specs.declared.write.Written.the-variants.{Bytes}
 use Rattle.wing_mirror.specs.Rows.{Table}
-use Rattle.wing_mirror.specs.Record.{entry, storable}
+use Rattle.wing_mirror.specs.Entry.{entry, storable}
+use Rattle.wing_mirror.specs.Record.{full}
 use Rattle.wing_mirror.specs.Table.{usable, put, fits}
 use Rattle.wing_mirror.specs.Call.{tooLong, notText}
 use Rattle.wing_mirror.specs.Counts.{zeroCounts}
@@ -25,30 +26,30 @@ use Rattle.wing_mirror.proofs.Histories.Along.{foldEvents, feed-events}
 
 module _ (s : State) (t : Table) (bytes : List ℕ) where
   -- 01: state unsound
-  pub feed-8 : soundState s ≡ false → mirrorFeed s t bytes ≡ refusedFeed 8 s t
+  pub feed-8 : soundState s ≡ false → mirrorFeed full s t bytes ≡ refusedFeed 8 s t
   unfolding mirrorFeed
   feed-8 g = rw g
 
   module _ (g : soundState s ≡ true) where
     -- 01: table unsound or places outside 1–1,024
-    pub feed-7 : usable t ≡ false → mirrorFeed s t bytes ≡ refusedFeed 7 s t
+    pub feed-7 : usable full t ≡ false → mirrorFeed full s t bytes ≡ refusedFeed 7 s t
     unfolding mirrorFeed
     feed-7 u = rw (g, u)
 
     -- 01: feed over 65,536 bytes
-    pub feed-14 : usable t ≡ true → 65536 < length bytes → mirrorFeed s t bytes ≡ refusedFeed 14 s t
+    pub feed-14 : usable full t ≡ true → 65536 < length bytes → mirrorFeed full s t bytes ≡ refusedFeed 14 s t
     unfolding mirrorFeed
     feed-14 u l = rw (g, u, lt-leb (length bytes) 65536 l)
 
     -- otherwise every answer is kept
-    pub feed-taken : usable t ≡ true → length bytes ≤ 65536 → mirrorFeed s t bytes ≡ takenFeed (fedAll s t bytes)
+    pub feed-taken : usable full t ≡ true → length bytes ≤ 65536 → mirrorFeed full s t bytes ≡ takenFeed (fedAll full s t bytes)
     unfolding mirrorFeed
     feed-taken u l = rw (g, u, le-leb (length bytes) 65536 l)
 
   -- the mirror keeps what the machine reads
-  pub fed-events : fedAll s t bytes ≡ record { control = decodeAll s bytes .control; store = decodeAll s bytes .store; memo = foldEvents keepEvent (events s bytes) (tableTally t zeroCounts) }
+  pub fed-events : fedAll full s t bytes ≡ record { control = decodeAll s bytes .control; store = decodeAll s bytes .store; memo = foldEvents (keepEvent full) (events s bytes) (tableTally t zeroCounts) }
   unfolding fedAll
-  fed-events = feed-events keepEvent s (tableTally t zeroCounts) bytes
+  fed-events = feed-events (keepEvent full) s (tableTally t zeroCounts) bytes
 
 -- what passes both tests may be kept
 pub text-storable : (v : NodeValue) → tooLong v ≡ false → notText v ≡ false → storable v ≡ true
@@ -64,36 +65,36 @@ text-storable (string s) p q = go (leb (length s) 256) (utf8 s) p q
 
 module _ (id : ℤ) (v : NodeValue) (t : Table) (out : List ℕ) where
   -- 01: table unsound or places outside 1–1,024
-  pub set-7 : usable t ≡ false → mirrorSet id v t out ≡ refusedSet 7 t out
+  pub set-7 : usable full t ≡ false → mirrorSet full id v t out ≡ refusedSet 7 t out
   unfolding mirrorSet
   set-7 u = rw u
 
-  module _ (u : usable t ≡ true) where
+  module _ (u : usable full t ≡ true) where
     -- 01: string over 256
-    pub set-10 : tooLong v ≡ true → mirrorSet id v t out ≡ refusedSet 10 t out
+    pub set-10 : tooLong v ≡ true → mirrorSet full id v t out ≡ refusedSet 10 t out
     unfolding mirrorSet
     set-10 a = rw (u, a)
 
     module _ (a : tooLong v ≡ false) where
       -- 01: string not UTF-8
-      pub set-1 : notText v ≡ true → mirrorSet id v t out ≡ refusedSet 1 t out
+      pub set-1 : notText v ≡ true → mirrorSet full id v t out ≡ refusedSet 1 t out
       unfolding mirrorSet
       set-1 b = rw (u, a, b)
 
       module _ (b : notText v ≡ false) where
         -- 01: new node, no place left
-        pub set-6 : fits (entry id v) t ≡ false → mirrorSet id v t out ≡ refusedSet 6 t out
+        pub set-6 : fits full (entry id v) t ≡ false → mirrorSet full id v t out ≡ refusedSet 6 t out
         unfolding mirrorSet
         set-6 c = rw (u, a, b, c)
 
         -- 01: output too short for the whole
-        pub set-9 : fits (entry id v) t ≡ true → ltb (length out) (length (setBytes id v)) ≡ true → mirrorSet id v t out ≡ refusedSet 9 t out
+        pub set-9 : fits full (entry id v) t ≡ true → ltb (length out) (length (setBytes id v)) ≡ true → mirrorSet full id v t out ≡ refusedSet 9 t out
         unfolding mirrorSet
         set-9 c d = rw (u, a, b, c, d)
 
         -- otherwise the command is written and the value stored
-        pub set-sent : fits (entry id v) t ≡ true → ltb (length out) (length (setBytes id v)) ≡ false →
-            mirrorSet id v t out
-            ≡ record { answer = Bytes (length (setBytes id v)); out = setBytes id v ++ drop (length (setBytes id v)) out; table = put (entry id v) t }
+        pub set-sent : fits full (entry id v) t ≡ true → ltb (length out) (length (setBytes id v)) ≡ false →
+            mirrorSet full id v t out
+            ≡ record { answer = Bytes (length (setBytes id v)); out = setBytes id v ++ drop (length (setBytes id v)) out; table = put full (entry id v) t }
         unfolding mirrorSet
         set-sent c d = rw (u, a, b, c, d)

@@ -23,7 +23,8 @@ use Rattle.wing_wire.specs.declared.write.Written.{Written}
 use Rattle.wing_wire.specs.declared.write.Written.the-variants.{Bytes, Refused}
 use Rattle.wing_wire.proofs.Laws.{writer-laws}
 use Rattle.wing_mirror.specs.Rows.{Table, records, joined}
-use Rattle.wing_mirror.specs.Record.{Entry, kindIn, lengthIn, payloadIn, idIn, valueIn, entryIn, stringKept, wellKept, wellFormed}
+use Rattle.wing_mirror.specs.Entry.{Entry}
+use Rattle.wing_mirror.specs.Record.{kindIn, lengthIn, payloadIn, idIn, valueIn, entryIn, stringKept, wellKept, wellFormed, full}
 use Rattle.wing_mirror.specs.Table.{rows, every, rowAt, placesAllowed, usable}
 use Rattle.wing_mirror.specs.Recall.{setOf, recallBytes, recallOf}
 use Rattle.wing_mirror.specs.Sending.{orderIn, ordersOf, sizeIn}
@@ -105,7 +106,7 @@ every-at p [] i d h e = absurd (omega arith)
 every-at p (x ∷ xs) zero d h e = both (p x) (every p xs) e .0
 every-at p (x ∷ xs) (suc i) d h e = every-at p xs i d (omega arith) (both (p x) (every p xs) e .1)
 
-module _ (t : Table) (u : usable t ≡ true) where
+module _ (t : Table) (u : usable full t ≡ true) where
   -- 01: at most 1,024 places
   pub few-records : t .count ≤ 1024
   unfolding placesAllowed
@@ -115,7 +116,7 @@ module _ (t : Table) (u : usable t ≡ true) where
 
   pub row-formed : (i : ℕ) → i < t .count → wellFormed (rowAt i (t .buffer)) ≡ true
   row-formed i h =
-      rw (row-of 264 (t .count) i (t .buffer) h) at (every-at wellFormed (rows t) i [] (omega (arith, length-records 264 (t .count) (t .buffer))) (formed t u))
+      rw (row-of 264 (t .count) i (t .buffer) h) at (every-at wellFormed (rows full t) i [] (omega (arith, length-records 264 (t .count) (t .buffer))) (formed t u))
 
   pub row-le : (i : ℕ) → i < t .count → length (orderIn (rowAt i (t .buffer))) ≤ 395
   row-le i h =
@@ -126,21 +127,21 @@ module _ (t : Table) (u : usable t ≡ true) where
   left-le (suc k) i e = omega (arith, left-less (t .count) i (t .buffer) (omega arith), row-le i (omega arith), left-le k (i + 1) (omega arith))
 
   -- no more than 395 bytes for each record
-  pub orders-le : length (ordersOf (rows t)) ≤ 395 * t .count
+  pub orders-le : length (ordersOf (rows full t)) ≤ 395 * t .count
   orders-le = omega (arith, left-le (t .count) 0 (omega arith), ap length (left-all (t .count) (t .buffer)))
 
 -- ---- the whole
 
 module _ (t : Table) where
   -- 01: df d1, then the orders
-  pub recall-size : length (recallBytes t) ≡ 2 + length (ordersOf (rows t))
+  pub recall-size : length (recallBytes full t) ≡ 2 + length (ordersOf (rows full t))
   unfolding recallBytes
   recall-size = omega arith
 
-  pub recalled : (out : List ℕ) → usable t ≡ true → writeOf (recallBytes t) out ≡ recallOf t out
+  pub recalled : (out : List ℕ) → usable full t ≡ true → writeOf (recallBytes full t) out ≡ recallOf full t out
   unfolding recallOf
   recalled out u = rw u
 
-  pub unusable : (out : List ℕ) → usable t ≡ false → wrote (Refused 7) out ≡ recallOf t out
+  pub unusable : (out : List ℕ) → usable full t ≡ false → wrote (Refused 7) out ≡ recallOf full t out
   unfolding recallOf
   unusable out u = rw u

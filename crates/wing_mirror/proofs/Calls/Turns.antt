@@ -23,7 +23,8 @@ use Rattle.wing_wire.specs.declared.unit.Answer.{Answer}
 use Rattle.wing_wire.specs.declared.unit.Answer.the-variants.{More, Integer, Float, String, Body, End, Refused}
 use Rattle.wing_wire.proofs.Laws.{decoder-laws}
 use Rattle.wing_mirror.specs.Rows.{Table, takes, store}
-use Rattle.wing_mirror.specs.Record.{keyOf, recordOf, entry, storable}
+use Rattle.wing_mirror.specs.Entry.{entry, storable}
+use Rattle.wing_mirror.specs.Record.{keyOf, recordOf, full}
 use Rattle.wing_mirror.specs.Table.{table, usable, fits, put}
 use Rattle.wing_mirror.specs.Puts.{PutResult, putOf, putResult}
 use Rattle.wing_mirror.specs.Counts.{zeroCounts, tick, total}
@@ -52,15 +53,15 @@ smaller c s bytes p =
 -- ---- what is kept of an answer
 
 -- a put of a value's record, and the mark that says whether it was taken
-module _ (node : ℤ) (v : NodeValue) (t : Table) (counts : Counts) (r : List ℕ) (p : Placed) (buffer : List ℕ) (e : r ≡ recordOf (entry node v)) (d : putResult p buffer ≡ putOf r t) where
+module _ (node : ℤ) (v : NodeValue) (t : Table) (counts : Counts) (r : List ℕ) (p : Placed) (buffer : List ℕ) (e : r ≡ recordOf (entry node v)) (d : putResult p buffer ≡ putOf full r t) where
   abbrev Chosen : Bool → PutResult
   Chosen b = if b (record { after = store 264 keyOf (recordOf (entry node v)) t; taken = true }) (record { after = t; taken = false })
 
   chosen : putResult p buffer ≡ Chosen (takes 264 keyOf (recordOf (entry node v)) t)
   unfolding putOf
-  chosen = d ∙ ap (λ (x : List ℕ). putOf x t) e
+  chosen = d ∙ ap (λ (x : List ℕ). putOf full x t) e
 
-  pub stored-kept : p .taken ≡ true → tableTally (table buffer (p .count)) (tick Stored counts) ≡ keepEvent node (value v) (tableTally t counts)
+  pub stored-kept : p .taken ≡ true → tableTally (table buffer (p .count)) (tick Stored counts) ≡ keepEvent full node (value v) (tableTally t counts)
   unfolding keepEvent put fits
   stored-kept m = go (takes 264 keyOf (recordOf (entry node v)) t) chosen
     where
@@ -69,7 +70,7 @@ module _ (node : ℤ) (v : NodeValue) (t : Table) (counts : Counts) (r : List �
       go true q = ap (λ (x : PutResult). tableTally (x .after) (tick Stored counts)) q
       go false q = absurd (false≢true (sym (ap (λ (x : PutResult). x .taken) q) ∙ m))
 
-  pub unplaced-kept : p .taken ≡ false → tableTally (table buffer (p .count)) (tick Unplaced counts) ≡ keepEvent node (value v) (tableTally t counts)
+  pub unplaced-kept : p .taken ≡ false → tableTally (table buffer (p .count)) (tick Unplaced counts) ≡ keepEvent full node (value v) (tableTally t counts)
   unfolding keepEvent put fits
   unplaced-kept m = go (takes 264 keyOf (recordOf (entry node v)) t) chosen
     where
@@ -79,13 +80,13 @@ module _ (node : ℤ) (v : NodeValue) (t : Table) (counts : Counts) (r : List �
       go false q = ap (λ (x : PutResult). tableTally (x .after) (tick Unplaced counts)) q
 
 -- a value that may be kept leaves the table usable
-pub value-usable : (node : ℤ) (v : NodeValue) (k : TableTally) → storable v ≡ true → usable (k .table) ≡ true → usable (keepEvent node (value v) k .table) ≡ true
+pub value-usable : (node : ℤ) (v : NodeValue) (k : TableTally) → storable v ≡ true → usable full (k .table) ≡ true → usable full (keepEvent full node (value v) k .table) ≡ true
 unfolding keepEvent
 value-usable node v k h u =
-    branch (λ (x : TableTally). usable (x .table) ≡ true) (fits (entry node v) (k .table)) (tableTally (put (entry node v) (k .table)) (tick Stored (k .counts))) (tableTally (k .table) (tick Unplaced (k .counts))) (λ f. entry-usable (entry node v) (k .table) h u f) (λ _. u)
+    branch (λ (x : TableTally). usable full (x .table) ≡ true) (fits full (entry node v) (k .table)) (tableTally (put full (entry node v) (k .table)) (tick Stored (k .counts))) (tableTally (k .table) (tick Unplaced (k .counts))) (λ f. entry-usable (entry node v) (k .table) h u f) (λ _. u)
 
 -- what is kept of an answer within its bounds leaves the table usable
-pub kept-usable : (node : ℤ) (a : Answer) (s : List ℕ) (k : TableTally) → Within a s → usable (k .table) ≡ true → usable (keep node a s k .table) ≡ true
+pub kept-usable : (node : ℤ) (a : Answer) (s : List ℕ) (k : TableTally) → Within a s → usable full (k .table) ≡ true → usable full (keep full node a s k .table) ≡ true
 unfolding eventOf keepEvent storable
 kept-usable node More s k w u = u
 kept-usable node (Integer x) s k w u = value-usable node (integer x) k refl u
@@ -107,17 +108,17 @@ fed c s k = record { control = c; store = s; memo = k }
 -- where a feed stands: the bytes up to i are taken
 pub record FeedInvariant (bytes : List ℕ) (start : Fed TableTally) (c : Control) (s : List ℕ) (k : TableTally) (i : ℕ) : Type 0 where
   pub within : i ≤ length bytes
-  pub same : feedOf keep (fed c s k) (drop i bytes) ≡ feedOf keep start bytes
+  pub same : feedOf (keep full) (fed c s k) (drop i bytes) ≡ feedOf (keep full) start bytes
   pub bounded : TokenWithin (c .token)
-  pub ready : usable (k .table) ≡ true
+  pub ready : usable full (k .table) ≡ true
   pub few : total (k .counts) + left bytes c i ≤ 131073
 
-pub begun : (bytes : List ℕ) (c : Control) (s : List ℕ) (t : Table) (counts : Counts) → counts ≡ zeroCounts → length bytes ≤ 65536 → TokenWithin (c .token) → usable t ≡ true →
+pub begun : (bytes : List ℕ) (c : Control) (s : List ℕ) (t : Table) (counts : Counts) → counts ≡ zeroCounts → length bytes ≤ 65536 → TokenWithin (c .token) → usable full t ≡ true →
     FeedInvariant bytes (fed c s (tableTally t zeroCounts)) c s (tableTally t counts) 0
 begun bytes c s t counts e h g u =
     record {
       within = omega arith;
-      same = ap (λ (x : Counts). feedOf keep (fed c s (tableTally t x)) bytes) e;
+      same = ap (λ (x : Counts). feedOf (keep full) (fed c s (tableTally t x)) bytes) e;
       bounded = g;
       ready = u;
       few = omega (arith, ap (λ (x : Counts). total x) e, waiting-one (c .escape .pending));
@@ -136,10 +137,10 @@ module _ {bytes : List ℕ} {start : Fed TableTally} {c : Control} {s : List ℕ
       omega (arith, decoder-laws .next .within c s (drop i bytes), length-drop i bytes)
 
   -- the call that answers more is the last
-  pub ended : isMore (r .answer) ≡ true → fed (r .control) t k ≡ feedOf keep start bytes
+  pub ended : isMore (r .answer) ≡ true → fed (r .control) t k ≡ feedOf (keep full) start bytes
   ended m =
       let h : isMore (advanceOf c s (drop i bytes) .heard .told .answer) ≡ true = ap (λ (x : Run). isMore (x .heard .told .answer)) (sym said) ∙ m in
-      ap (λ (x : Run). fed (x .heard .told .control) (x .heard .store) k) said ∙ sym (decoder-laws .feed .ends keep (fed c s k) (drop i bytes) h) ∙ g .same
+      ap (λ (x : Run). fed (x .heard .told .control) (x .heard .store) k) said ∙ sym (decoder-laws .feed .ends (keep full) (fed c s k) (drop i bytes) h) ∙ g .same
 
   pub less-left : isMore (r .answer) ≡ false → left bytes (r .control) (i + r .taken) + 1 ≤ left bytes c i
   less-left m =
@@ -154,23 +155,23 @@ module _ {bytes : List ℕ} {start : Fed TableTally} {c : Control} {s : List ℕ
 
   -- after a turn, with what was kept and released
   turn : isMore (r .answer) ≡ false →
-      FeedInvariant bytes start (r .control) (released (r .answer) t) (keep (r .control .node) (r .answer) t k) (i + r .taken)
+      FeedInvariant bytes start (r .control) (released (r .answer) t) (keep full (r .control .node) (r .answer) t k) (i + r .taken)
   turn m =
       let h : isMore (advanceOf c s (drop i bytes) .heard .told .answer) ≡ false = ap (λ (x : Run). isMore (x .heard .told .answer)) (sym said) ∙ m in
       let w = answer-bounded in
       record {
         within = inside;
         same =
-            ap (λ (b : List ℕ). feedOf keep (fed (r .control) (released (r .answer) t) (keep (r .control .node) (r .answer) t k)) b) (sym (drop-drop (r .taken) i bytes))
-            ∙ ap (λ (x : Run). feedOf keep (fed (x .heard .told .control) (released (x .heard .told .answer) (x .heard .store)) (keep (x .heard .told .control .node) (x .heard .told .answer) (x .heard .store) k)) (drop (x .taken) (drop i bytes))) said
-            ∙ sym (decoder-laws .feed .again keep (fed c s k) (drop i bytes) h)
+            ap (λ (b : List ℕ). feedOf (keep full) (fed (r .control) (released (r .answer) t) (keep full (r .control .node) (r .answer) t k)) b) (sym (drop-drop (r .taken) i bytes))
+            ∙ ap (λ (x : Run). feedOf (keep full) (fed (x .heard .told .control) (released (x .heard .told .answer) (x .heard .store)) (keep full (x .heard .told .control .node) (x .heard .told .answer) (x .heard .store) k)) (drop (x .taken) (drop i bytes))) said
+            ∙ sym (decoder-laws .feed .again (keep full) (fed c s k) (drop i bytes) h)
             ∙ g .same;
         bounded = w .token;
         ready = kept-usable (r .control .node) (r .answer) t k (w .within) (g .ready);
         few = let f = g .few in omega (arith, less-left m, keep-total (r .control .node) (eventOf (r .answer) t t) k);
       }
 
-  pub again : isMore (r .answer) ≡ false → (t′ : List ℕ) → t′ ≡ released (r .answer) t → (k′ : TableTally) → k′ ≡ keep (r .control .node) (r .answer) t k →
+  pub again : isMore (r .answer) ≡ false → (t′ : List ℕ) → t′ ≡ released (r .answer) t → (k′ : TableTally) → k′ ≡ keep full (r .control .node) (r .answer) t k →
       FeedInvariant bytes start (r .control) t′ k′ (i + r .taken)
   again m t′ et k′ ek =
       subst (λ (x : List ℕ). FeedInvariant bytes start (r .control) x k′ (i + r .taken)) (sym et)

@@ -7,7 +7,8 @@ use mathlib.Core.List.{List, map}
 use lib.ListN.{length}
 use Rattle.wing_node.specs.Signed.{InBits}
 use Rattle.wing_mirror.specs.Rows.{In, All}
-use Rattle.wing_mirror.specs.Record.{Entry, risingIds, ids, recordOf, entryIn}
+use Rattle.wing_mirror.specs.Entry.{Entry, risingIds, ids}
+use Rattle.wing_mirror.specs.Record.{recordOf, entryIn, full}
 use Rattle.wing_mirror.specs.Call.{Call, TypedCall}
 use Rattle.wing_mirror.specs.Machine.{newMachine}
 use Rattle.wing_mirror.specs.History.{rank, inOrder, mirrorRun, machineRun, placesIn, Agree, Equal, SameMap}
@@ -21,30 +22,30 @@ use Rattle.wing_mirror.proofs.Histories.Invariant.{invariant-new, invar
 use Rattle.wing_mirror.proofs.Histories.Simulates.{whole-image}
 
 -- the map that a history leaves is valid
-pub map-valid : (places : ℕ) (calls : List Call) → All TypedCall calls → ValidMap places (machineRun places calls .state .map)
+pub map-valid : (places : ℕ) (calls : List Call) → All TypedCall calls → ValidMap places (machineRun full places calls .state .map)
 map-valid places calls t = invariant-run places newMachine calls t (invariant-new places) .map
 
 -- the mirror and the machine agree
-pub run-agrees : (buffer : List ℕ) (calls : List Call) → All TypedCall calls → Agree buffer (mirrorRun buffer calls) (machineRun (placesIn buffer) calls)
+pub run-agrees : (buffer : List ℕ) (calls : List Call) → All TypedCall calls → Agree full buffer (mirrorRun full buffer calls) (machineRun full (placesIn full buffer) calls)
 run-agrees buffer calls t =
-    let m : List Entry = machineRun (placesIn buffer) calls .state .map in
-    let g : ValidMap (placesIn buffer) m = map-valid (placesIn buffer) calls t in
+    let m : List Entry = machineRun full (placesIn full buffer) calls .state .map in
+    let g : ValidMap (placesIn full buffer) m = map-valid (placesIn full buffer) calls t in
     rw (whole-image buffer calls t) (record {
       outcomes = refl;
       decoders = refl;
       counts = refl;
       records = rows-image buffer m g;
-      entries = ap (map entryIn) (rows-image buffer m g) ∙ recs-back (placesIn buffer) m g;
+      entries = ap (map entryIn) (rows-image buffer m g) ∙ recs-back (placesIn full buffer) m g;
       rest = rest-image buffer m g;
       size = size-image buffer m g;
     })
 
 -- in rising id order, exactly the entries of the map
 pub run-order : (places : ℕ) (calls : List Call) → All TypedCall calls →
-    (risingIds (ids (inOrder (machineRun places calls .state .map))) ≡ true)
-    × SameMap (inOrder (machineRun places calls .state .map)) (machineRun places calls .state .map)
+    (risingIds (ids (inOrder (machineRun full places calls .state .map))) ≡ true)
+    × SameMap (inOrder (machineRun full places calls .state .map)) (machineRun full places calls .state .map)
 run-order places calls t =
-    let m : List Entry = machineRun places calls .state .map in
+    let m : List Entry = machineRun full places calls .state .map in
     let f : ValidMap places m = map-valid places calls t in
     let typed : All (λ (e : Entry). InBits 31 (e .id)) (inOrder m) =
     all-also ValidEntry (λ (e : Entry). InBits 31 (e .id)) (inOrder m) (λ e p. p .node) (all-order ValidEntry m (f .valid)) in
@@ -52,23 +53,23 @@ run-order places calls t =
 
 -- two mirrors are equal exactly if their machines' maps hold the same
 pub run-equal : (b c : List ℕ) (xs ys : List Call) → All TypedCall xs → All TypedCall ys →
-    (Equal (mirrorRun b xs .state .table) (mirrorRun c ys .state .table)
-    ↔ SameMap (machineRun (placesIn b) xs .state .map) (machineRun (placesIn c) ys .state .map))
+    (Equal full (mirrorRun full b xs .state .table) (mirrorRun full c ys .state .table)
+    ↔ SameMap (machineRun full (placesIn full b) xs .state .map) (machineRun full (placesIn full c) ys .state .map))
 run-equal b c xs ys tx ty = (there, back)
   where
     m : List Entry
-    m = machineRun (placesIn b) xs .state .map
+    m = machineRun full (placesIn full b) xs .state .map
 
     n : List Entry
-    n = machineRun (placesIn c) ys .state .map
+    n = machineRun full (placesIn full c) ys .state .map
 
-    fm : ValidMap (placesIn b) m
-    fm = map-valid (placesIn b) xs tx
+    fm : ValidMap (placesIn full b) m
+    fm = map-valid (placesIn full b) xs tx
 
-    fn : ValidMap (placesIn c) n
-    fn = map-valid (placesIn c) ys ty
+    fn : ValidMap (placesIn full c) n
+    fn = map-valid (placesIn full c) ys ty
 
-    there : Equal (mirrorRun b xs .state .table) (mirrorRun c ys .state .table) → SameMap m n
+    there : Equal full (mirrorRun full b xs .state .table) (mirrorRun full c ys .state .table) → SameMap m n
     there q e = (
       λ i. order-in e n (subst (λ (l : List Entry). In e l) p (in-order e m (fm .apart) i)),
       λ i. order-in e m (subst (λ (l : List Entry). In e l) (sym p) (in-order e n (fn .apart) i)),
@@ -77,7 +78,7 @@ run-equal b c xs ys tx ty = (there, back)
         p : inOrder m ≡ inOrder n
         p = sym (run-agrees b xs tx .entries) ∙ ap (map entryIn) (q .records) ∙ run-agrees c ys ty .entries
 
-    back : SameMap m n → Equal (mirrorRun b xs .state .table) (mirrorRun c ys .state .table)
+    back : SameMap m n → Equal full (mirrorRun full b xs .state .table) (mirrorRun full c ys .state .table)
     back q = record {
       counts = run-agrees b xs tx .counts ∙ sym (fm .apart) ∙ ap length p ∙ fn .apart ∙ sym (run-agrees c ys ty .counts);
       records = run-agrees b xs tx .records ∙ ap (map recordOf) p ∙ sym (run-agrees c ys ty .records);

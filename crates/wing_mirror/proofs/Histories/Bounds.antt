@@ -13,7 +13,8 @@ use Rattle.wing_wire.specs.Command.{setBytes}
 use Rattle.wing_wire.specs.declared.write.Written.{Written}
 use Rattle.wing_wire.specs.declared.write.Written.the-variants.{Bytes, Refused}
 use Rattle.wing_mirror.specs.Rows.{Table}
-use Rattle.wing_mirror.specs.Record.{entry}
+use Rattle.wing_mirror.specs.Entry.{entry}
+use Rattle.wing_mirror.specs.Record.{full}
 use Rattle.wing_mirror.specs.Table.{usable, fits}
 use Rattle.wing_mirror.specs.Counts.{total}
 use Rattle.wing_mirror.specs.Call.{Call, feed, set, tooLong, notText, runAll}
@@ -25,11 +26,11 @@ use Rattle.wing_mirror.proofs.Calls.Outcomes.{set-7, set-10, set-1, set
 use Rattle.wing_mirror.proofs.Calls.Feeds.{feed-counts}
 
 -- a set keeps the length of its output
-set-length : (id : ℤ) (v : NodeValue) (t : Table) (out : List ℕ) → length (mirrorSet id v t out .out) ≡ length out
-set-length id v t out = go (usable t) refl (tooLong v) refl (notText v) refl (fits (entry id v) t) refl (ltb (length out) (length (setBytes id v))) refl
+set-length : (id : ℤ) (v : NodeValue) (t : Table) (out : List ℕ) → length (mirrorSet full id v t out .out) ≡ length out
+set-length id v t out = go (usable full t) refl (tooLong v) refl (notText v) refl (fits full (entry id v) t) refl (ltb (length out) (length (setBytes id v))) refl
   where
-    go : (a : Bool) → usable t ≡ a → (b : Bool) → tooLong v ≡ b → (c : Bool) → notText v ≡ c → (d : Bool) → fits (entry id v) t ≡ d →
-        (l : Bool) → ltb (length out) (length (setBytes id v)) ≡ l → length (mirrorSet id v t out .out) ≡ length out
+    go : (a : Bool) → usable full t ≡ a → (b : Bool) → tooLong v ≡ b → (c : Bool) → notText v ≡ c → (d : Bool) → fits full (entry id v) t ≡ d →
+        (l : Bool) → ltb (length out) (length (setBytes id v)) ≡ l → length (mirrorSet full id v t out .out) ≡ length out
     go false u b q c r d e l f = rw (set-7 id v t out u)
     go true u true q c r d e l f = rw (set-10 id v t out u q)
     go true u false q true r d e l f = rw (set-1 id v t out u q r)
@@ -40,21 +41,21 @@ set-length id v t out = go (usable t) refl (tooLong v) refl (notText v) refl (fi
         (omega (arith, length-append (setBytes id v) (drop (length (setBytes id v)) out), length-drop (length (setBytes id v)) out, ltb-false (length out) (length (setBytes id v)) f))
 
 -- of one call on any mirror
-step-bounded : (m : Mirror) (c : Call) → Bounded c (mirrorStep m c .outcome)
+step-bounded : (m : Mirror) (c : Call) → Bounded c (mirrorStep full m c .outcome)
 unfolding mirrorStep
-step-bounded m (feed bytes) = go (mirrorFeed (m .decoder) (m .table) bytes .answer) (feed-counts (m .decoder) (m .table) bytes)
+step-bounded m (feed bytes) = go (mirrorFeed full (m .decoder) (m .table) bytes .answer) (feed-counts (m .decoder) (m .table) bytes)
   where
-    go : (a : FeedAnswer) → total (mirrorFeed (m .decoder) (m .table) bytes .counts) ≤ length bytes + 1 → Bounded (feed bytes) (feedOutcome a (mirrorFeed (m .decoder) (m .table) bytes .counts))
+    go : (a : FeedAnswer) → total (mirrorFeed full (m .decoder) (m .table) bytes .counts) ≤ length bytes + 1 → Bounded (feed bytes) (feedOutcome a (mirrorFeed full (m .decoder) (m .table) bytes .counts))
     go Taken h = h
     go (FeedRefused n) h = tt
-step-bounded m (set id v out) = go (mirrorSet id v (m .table) out .answer) (mirrorSet id v (m .table) out .out) (set-length id v (m .table) out)
+step-bounded m (set id v out) = go (mirrorSet full id v (m .table) out .answer) (mirrorSet full id v (m .table) out .out) (set-length id v (m .table) out)
   where
     go : (a : Written) (left : List ℕ) → length left ≡ length out → Bounded (set id v out) (setOutcome a left)
     go (Bytes n) left h = omega (arith, length-take n left)
     go (Refused n) left h = tt
 
 -- of every call of a history
-pub run-bounded : (m : Mirror) (cs : List Call) → Each Bounded cs (runAll mirrorStep m cs .outcomes)
+pub run-bounded : (m : Mirror) (cs : List Call) → Each Bounded cs (runAll (mirrorStep full) m cs .outcomes)
 unfolding runAll
 run-bounded m [] = tt
-run-bounded m (c ∷ cs) = (step-bounded m c, run-bounded (mirrorStep m c .state) cs)
+run-bounded m (c ∷ cs) = (step-bounded m c, run-bounded (mirrorStep full m c .state) cs)

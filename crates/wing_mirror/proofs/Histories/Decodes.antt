@@ -18,7 +18,7 @@ use Rattle.wing_wire.specs.declared.unit.Answer.{Answer}
 use Rattle.wing_wire.specs.declared.unit.Answer.the-variants.{More, Integer, Float, String, Body, End, Refused}
 use Rattle.wing_wire.proofs.Laws.{decoder-laws}
 use Rattle.wing_mirror.specs.Rows.{All}
-use Rattle.wing_mirror.specs.Record.{entry, storable}
+use Rattle.wing_mirror.specs.Entry.{entry, storable}
 use Rattle.wing_mirror.specs.Machine.{StreamEvent, streamEvent, appendEvent, decodeAll, stateAfter, events}
 use Rattle.wing_mirror.proofs.Tables.Images.{all-last}
 use Rattle.wing_mirror.proofs.Histories.Maps.{ValidEntry}

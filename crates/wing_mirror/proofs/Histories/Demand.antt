@@ -11,7 +11,8 @@ use Rattle.wing_node.specs.Bool.{if}
 use Rattle.wing_wire.specs.Write.{Wrote, wrote, writeOf}
 use Rattle.wing_wire.specs.declared.write.Written.the-variants.{Bytes, Refused}
 use Rattle.wing_mirror.specs.Rows.{Table, All, rising}
-use Rattle.wing_mirror.specs.Record.{Entry, width, recordOf, entryIn}
+use Rattle.wing_mirror.specs.Entry.{Entry}
+use Rattle.wing_mirror.specs.Record.{width, recordOf, entryIn, full}
 use Rattle.wing_mirror.specs.Table.{rows, usable}
 use Rattle.wing_mirror.specs.Call.{feed}
 use Rattle.wing_mirror.specs.Recall.{recallBytes, recallOf}
@@ -25,27 +26,27 @@ use Rattle.wing_mirror.proofs.Histories.Asked.{comparing, recalling}
 use Rattle.wing_mirror.proofs.Histories.Bounds.{run-bounded}
 
 -- a recall that says that n bytes were written was of a usable table, and these are its bytes
-recall-wrote : (t : Table) (out : List ℕ) (n : ℕ) → recallOf t out .answer ≡ Bytes n → (usable t ≡ true) × (take n (recallOf t out .out) ≡ recallBytes t)
+recall-wrote : (t : Table) (out : List ℕ) (n : ℕ) → recallOf full t out .answer ≡ Bytes n → (usable full t ≡ true) × (take n (recallOf full t out .out) ≡ recallBytes full t)
 unfolding recallOf writeOf
-recall-wrote t out n = go (usable t) refl (ltb (length out) (length (recallBytes t)))
+recall-wrote t out n = go (usable full t) refl (ltb (length out) (length (recallBytes full t)))
   where
     bytes : List ℕ
-    bytes = recallBytes t
+    bytes = recallBytes full t
 
-    go : (u : Bool) → usable t ≡ u → (s : Bool) → let x : Wrote = if u (if s (wrote (Refused 9) out) (wrote (Bytes (length bytes)) (bytes ++ drop (length bytes) out))) (wrote (Refused 7) out) in
+    go : (u : Bool) → usable full t ≡ u → (s : Bool) → let x : Wrote = if u (if s (wrote (Refused 9) out) (wrote (Bytes (length bytes)) (bytes ++ drop (length bytes) out))) (wrote (Refused 7) out) in
         x .answer ≡ Bytes n → (u ≡ true) × (take n (x .out) ≡ bytes)
     go true q true e = absurd (let z : _≡_ {A = ℕ} 0 1 = cc in omega arith)
     go true q false e = let k : length bytes ≡ n = cc in (refl, rw (← k) (take-append-seam bytes (drop (length bytes) out)))
     go false q s e = absurd (let z : _≡_ {A = ℕ} 0 1 = cc in omega arith)
 
 -- a table whose records say valid entries in rising order, and are the records of these
-module _ (t : Table) (valid : All ValidEntry (map entryIn (rows t))) (up : rising rank (map entryIn (rows t)) ≡ true) (back : map recordOf (map entryIn (rows t)) ≡ rows t) where
-  rebuilds : RebuiltBy (recallBytes t) t
+module _ (t : Table) (valid : All ValidEntry (map entryIn (rows full t))) (up : rising rank (map entryIn (rows full t)) ≡ true) (back : map recordOf (map entryIn (rows full t)) ≡ rows full t) where
+  rebuilds : RebuiltBy full (recallBytes full t) t
   unfolding recallBytes
   rebuilds buffer n l pieces typed short q =
-      let es : List Entry = map entryIn (rows t) in
-      let k : length es ≡ t .count = length-map (rows t) entryIn ∙ length-records width (t .count) (t .buffer) in
-      let m = map-rebuilt (placesIn buffer) es valid up (omega arith) n pieces short q in
+      let es : List Entry = map entryIn (rows full t) in
+      let k : length es ≡ t .count = length-map (rows full t) entryIn ∙ length-records width (t .count) (t .buffer) in
+      let m = map-rebuilt (placesIn full buffer) es valid up (omega arith) n pieces short q in
       let g = run-agrees buffer (map feed pieces) typed in
       record {
         counts = g .counts ∙ ap length m ∙ k;
@@ -53,22 +54,22 @@ module _ (t : Table) (valid : All ValidEntry (map entryIn (rows t))) (up : risin
       }
 
 -- of any table
-rebuilding-tables : RebuildingTables
+rebuilding-tables : RebuildingTables full
 rebuilding-tables t b out n e =
     let w = recall-wrote t out n e in
     rw (w .1) (rebuilds t (rows-valid t b (w .0)) (rows-rise t b (w .0)) (rows-back t b (w .0)))
 
 -- of any mirror after any history
-rebuilding : Rebuilding
+rebuilding : Rebuilding full
 rebuilding b calls typed out n e =
     let g = run-agrees b calls typed in
-    let t : Table = mirrorRun b calls .state .table in
-    let m : List Entry = machineRun (placesIn b) calls .state .map in
-    let f = map-valid (placesIn b) calls typed in
+    let t : Table = mirrorRun full b calls .state .table in
+    let m : List Entry = machineRun full (placesIn full b) calls .state .map in
+    let f = map-valid (placesIn full b) calls typed in
     rw (recall-wrote t out n e .1)
     (rebuilds t (rw (g .entries) (all-order ValidEntry m (f .valid))) (rw (g .entries) (order-rising m)) (ap (map recordOf) (g .entries) ∙ sym (g .records)))
 
-pub histories : Histories
+pub histories : Histories full
 histories =
     record {
       agreement = run-agrees;

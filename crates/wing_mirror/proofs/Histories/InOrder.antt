@@ -8,7 +8,7 @@ use native.Mathlib.Omega.{arith}
 use lib.ListN.{length}
 use Rattle.wing_node.specs.Bool.{if}
 use Rattle.wing_mirror.specs.Rows.{holds, insert, In}
-use Rattle.wing_mirror.specs.Record.{Entry}
+use Rattle.wing_mirror.specs.Entry.{Entry}
 use Rattle.wing_mirror.specs.History.{rank, inOrder}
 use Rattle.wing_mirror.proofs.Tables.Ordered.{length-insert}
 use Rattle.wing_mirror.proofs.Tables.Members.{in-insert, insert-in}

@@ -10,7 +10,7 @@ use lib.ListN.{length}
 use Rattle.wing_node.specs.Bool.{if}
 use Rattle.wing_node.specs.Signed.{InBits}
 use Rattle.wing_mirror.specs.Rows.{holds, rising, insert, All}
-use Rattle.wing_mirror.specs.Record.{Entry, Typed, storable}
+use Rattle.wing_mirror.specs.Entry.{Entry, Typed, storable}
 use Rattle.wing_mirror.specs.Machine.{sameId, has, putIn, room}
 use Rattle.wing_mirror.specs.History.{rank, inOrder}
 use Rattle.wing_mirror.proofs.Tables.Ordered.{all-insert, insert-again, insert-swap, rising-insert, holds-insert, length-insert}

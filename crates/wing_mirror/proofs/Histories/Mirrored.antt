@@ -9,7 +9,8 @@ use borrow.Author.Tests.{le-leb}
 use lib.ListN.{length, drop, length-map}
 use Rattle.wing_node.specs.Bool.{if}
 use Rattle.wing_mirror.specs.Rows.{Table, records, laid, holds, insert, takes, store, All}
-use Rattle.wing_mirror.specs.Record.{Entry, width, keyOf, recordOf, entryIn, wellFormed}
+use Rattle.wing_mirror.specs.Entry.{Entry}
+use Rattle.wing_mirror.specs.Record.{width, keyOf, recordOf, entryIn, wellFormed, full}
 use Rattle.wing_mirror.specs.Table.{table, rows, checked, soundTable, placesAllowed, usable, put, fits}
 use Rattle.wing_mirror.specs.Machine.{has, putIn, room}
 use Rattle.wing_mirror.specs.History.{rank, inOrder, placesIn}
@@ -45,7 +46,7 @@ module _ (places : ℕ) (m : List Entry) (g : ValidMap places m) where
       go (e ∷ es) a = rw (entry-back (e .id) (e .value) (a .0 .node) (a .0 .typed) (a .0 .text), go es (a .1))
 
   -- the records have 01's form and order
-  recs-checked : checked (recs m) ≡ true
+  recs-checked : checked full (recs m) ≡ true
   unfolding checked
   recs-checked =
       rw (
@@ -68,43 +69,43 @@ module _ (places : ℕ) (m : List Entry) (g : ValidMap places m) where
 abbrev pub tableOf : List ℕ → List Entry → Table
 tableOf buffer m = table (laid width (recs m) buffer) (length m)
 
-module _ (buffer : List ℕ) (m : List Entry) (g : ValidMap (placesIn buffer) m) where
+module _ (buffer : List ℕ) (m : List Entry) (g : ValidMap (placesIn full buffer) m) where
   -- the records that stand in the buffer
-  pub rows-image : rows (tableOf buffer m) ≡ recs m
+  pub rows-image : rows full (tableOf buffer m) ≡ recs m
   unfolding laid
   rows-image =
-      ap (λ (n : ℕ). records width n (laid width (recs m) buffer)) (sym (length-recs (placesIn buffer) m g)) ∙ records-laid width (recs m) _ (wide (placesIn buffer) m g)
+      ap (λ (n : ℕ). records width n (laid width (recs m) buffer)) (sym (length-recs (placesIn full buffer) m g)) ∙ records-laid width (recs m) _ (wide (placesIn full buffer) m g)
 
   -- the buffer's length stays
   pub size-image : length (tableOf buffer m .buffer) ≡ length buffer
   size-image =
-      length-laid width (recs m) buffer (wide (placesIn buffer) m g)
-      (omega (arith, length-recs (placesIn buffer) m g, g .few, mul-div-le (length buffer) width))
+      length-laid width (recs m) buffer (wide (placesIn full buffer) m g)
+      (omega (arith, length-recs (placesIn full buffer) m g, g .few, mul-div-le (length buffer) width))
 
   -- the bytes after the last record are as they were at first
   pub rest-image : drop (width * length m) (tableOf buffer m .buffer) ≡ drop (width * length m) buffer
-  rest-image = drop-laid width (recs m) buffer (width * length m) (wide (placesIn buffer) m g) (omega (arith, length-recs (placesIn buffer) m g))
+  rest-image = drop-laid width (recs m) buffer (width * length m) (wide (placesIn full buffer) m g) (omega (arith, length-recs (placesIn full buffer) m g))
 
   -- 7 by the places alone
-  pub usable-image : usable (tableOf buffer m) ≡ placesAllowed (placesIn buffer)
+  pub usable-image : usable full (tableOf buffer m) ≡ placesAllowed (placesIn full buffer)
   unfolding usable soundTable
   usable-image =
-      rw (size-image, le-leb (length m) (placesIn buffer) (g .few), rows-image, recs-checked (placesIn buffer) m g) (go (placesAllowed (placesIn buffer)))
+      rw (size-image, le-leb (length m) (placesIn full buffer) (g .few), rows-image, recs-checked (placesIn full buffer) m g) (go (placesAllowed (placesIn full buffer)))
     where
       go : (t : Bool) → if t true false ≡ t
       go true = refl
       go false = refl
 
   -- 6 by the map
-  pub fits-image : (e : Entry) → ValidEntry e → fits e (tableOf buffer m) ≡ room (placesIn buffer) (e .id) m
+  pub fits-image : (e : Entry) → ValidEntry e → fits full e (tableOf buffer m) ≡ room (placesIn full buffer) (e .id) m
   unfolding fits takes room
-  fits-image e p = rw (rows-image, size-image, holds-recs (placesIn buffer) m g e p)
+  fits-image e p = rw (rows-image, size-image, holds-recs (placesIn full buffer) m g e p)
 
   -- a put into the table is a put into the map
-  pub put-image : (e : Entry) → ValidEntry e → put e (tableOf buffer m) ≡ tableOf buffer (putIn e m)
+  pub put-image : (e : Entry) → ValidEntry e → put full e (tableOf buffer m) ≡ tableOf buffer (putIn e m)
   unfolding put store
   put-image e p =
-      let n : length (recs (putIn e m)) ≡ length (putIn e m) = length-map (inOrder (putIn e m)) recordOf ∙ apart-put (placesIn buffer) e m g p in
-      let l : length (recs m) ≤ length (recs (putIn e m)) = omega (arith, length-recs (placesIn buffer) m g, put-grows e m) in
-      rw (rows-image, insert-recs (placesIn buffer) m g e p, laid-again width (recs m) (recs (putIn e m)) buffer (wide (placesIn buffer) m g) l)
+      let n : length (recs (putIn e m)) ≡ length (putIn e m) = length-map (inOrder (putIn e m)) recordOf ∙ apart-put (placesIn full buffer) e m g p in
+      let l : length (recs m) ≤ length (recs (putIn e m)) = omega (arith, length-recs (placesIn full buffer) m g, put-grows e m) in
+      rw (rows-image, insert-recs (placesIn full buffer) m g e p, laid-again width (recs m) (recs (putIn e m)) buffer (wide (placesIn full buffer) m g) l)
       (ap (table (laid width (recs (putIn e m)) buffer)) n)

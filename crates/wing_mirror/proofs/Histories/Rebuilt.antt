@@ -12,7 +12,8 @@ use Rattle.wing_node.specs.Bool.{if}
 use Rattle.wing_wire.specs.Reader.{Event, more, value, body, end, refused}
 use Rattle.wing_wire.specs.State.{freshState}
 use Rattle.wing_mirror.specs.Rows.{joined, rising, In, All}
-use Rattle.wing_mirror.specs.Record.{Entry, entry}
+use Rattle.wing_mirror.specs.Entry.{Entry, entry}
+use Rattle.wing_mirror.specs.Record.{full}
 use Rattle.wing_mirror.specs.Table.{placesAllowed}
 use Rattle.wing_mirror.specs.Counts.{zeroCounts}
 use Rattle.wing_mirror.specs.Call.{feed, runAll}
@@ -78,7 +79,7 @@ module _ (places : ℕ) where
   if-map true x y = refl
   if-map false x y = refl
 
-  machine-event-map : (node : ℤ) (e : Event) (h : MapTally) → machineEvent places node e h .map ≡ mapEvent node e (h .map)
+  machine-event-map : (node : ℤ) (e : Event) (h : MapTally) → machineEvent (full .keeping) places node e h .map ≡ mapEvent node e (h .map)
   unfolding machineEvent mapEvent
   machine-event-map node more h = refl
   machine-event-map node (value v) h = if-map (room places node (h .map)) _ _
@@ -86,16 +87,16 @@ module _ (places : ℕ) where
   machine-event-map node end h = refl
   machine-event-map node (refused n) h = refl
 
-  machine-events-map : (rs : List StreamEvent) (h : MapTally) → machineEvents places rs h .map ≡ foldEvents mapEvent rs (h .map)
+  machine-events-map : (rs : List StreamEvent) (h : MapTally) → machineEvents (full .keeping) places rs h .map ≡ foldEvents mapEvent rs (h .map)
   unfolding machineEvents foldEvents
   machine-events-map [] h = refl
-  machine-events-map (r ∷ rs) h = machine-events-map rs (machineEvent places (r .node) (r .event) h) ∙ ap (foldEvents mapEvent rs) (machine-event-map (r .node) (r .event) h)
+  machine-events-map (r ∷ rs) h = machine-events-map rs (machineEvent (full .keeping) places (r .node) (r .event) h) ∙ ap (foldEvents mapEvent rs) (machine-event-map (r .node) (r .event) h)
 
   -- the machine after an accepted feed
   abbrev fedTo : Machine → List ℕ → Machine
   fedTo s p = record { decoder = stateAfter (s .decoder) p; map = foldEvents mapEvent (events (s .decoder) p) (s .map) }
 
-  one-feed : placesAllowed places ≡ true → (s : Machine) (p : List ℕ) → length p ≤ 65536 → machineStep places s (feed p) .state ≡ fedTo s p
+  one-feed : placesAllowed places ≡ true → (s : Machine) (p : List ℕ) → length p ≤ 65536 → machineStep (full .keeping) places s (feed p) .state ≡ fedTo s p
   unfolding machineStep
   one-feed r s p a =
       rw (r, le-ltb 65536 (length p) a)
@@ -103,11 +104,11 @@ module _ (places : ℕ) where
 
   -- feeds in a row are one feed of their bytes joined
   feeds : placesAllowed places ≡ true → (s : Machine) (p : List ℕ) (ps : List (List ℕ)) → All (λ (q : List ℕ). length q ≤ 65536) (p ∷ ps) →
-      runAll (machineStep places) s (map feed (p ∷ ps)) .state .map ≡ foldEvents mapEvent (events (s .decoder) (joined (p ∷ ps))) (s .map)
+      runAll (machineStep (full .keeping) places) s (map feed (p ∷ ps)) .state .map ≡ foldEvents mapEvent (events (s .decoder) (joined (p ∷ ps))) (s .map)
   unfolding runAll joined
   feeds r s p [] a = ap (λ (x : Machine). x .map) (one-feed r s p (a .0)) ∙ rw (append-nil p)
   feeds r s p (q ∷ ps) a =
-      ap (λ (x : Machine). runAll (machineStep places) x (map feed (q ∷ ps)) .state .map) (one-feed r s p (a .0))
+      ap (λ (x : Machine). runAll (machineStep (full .keeping) places) x (map feed (q ∷ ps)) .state .map) (one-feed r s p (a .0))
       ∙ feeds r (fedTo s p) q ps (a .1)
       ∙ sym (ap (λ (rs : List StreamEvent). foldEvents mapEvent rs (s .map)) (events-pieces (s .decoder) p (joined (q ∷ ps))) ∙ fold-append mapEvent (events (s .decoder) p) _ (s .map))
 
@@ -127,7 +128,7 @@ module _ (places : ℕ) where
   -- the machine that is fed it, in any pieces
   pub map-rebuilt : (es : List Entry) → All ValidEntry es → rising rank es ≡ true → length es ≤ places → placesAllowed places ≡ true →
       (pieces : List (List ℕ)) → All (λ (q : List ℕ). length q ≤ 65536) pieces → joined pieces ≡ 0xdf ∷ 0xd1 ∷ joined (map setOf es) →
-      machineRun places (map feed pieces) .state .map ≡ es
+      machineRun full places (map feed pieces) .state .map ≡ es
   unfolding joined
   map-rebuilt es p r l n [] a q = cc
   map-rebuilt es p r l n (x ∷ xs) a q =

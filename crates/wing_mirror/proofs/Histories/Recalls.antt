@@ -17,7 +17,7 @@ use Rattle.wing_wire.specs.RoundTrip.{Settable, calmState}
 use Rattle.wing_wire.specs.declared.state.State.{State}
 use Rattle.wing_wire.proofs.Laws.{decoder-laws}
 use Rattle.wing_mirror.specs.Rows.{joined, All}
-use Rattle.wing_mirror.specs.Record.{Entry, storable, Typed}
+use Rattle.wing_mirror.specs.Entry.{Entry, storable, Typed}
 use Rattle.wing_mirror.specs.Machine.{StreamEvent, streamEvent, appendEvent, decodeAll, stateAfter, events}
 use Rattle.wing_mirror.specs.Recall.{setOf}
 use Rattle.wing_mirror.proofs.Records.Usables.{both}

@@ -17,7 +17,8 @@ use Rattle.wing_node.proofs.Branches.{branch}
 use Rattle.wing_node.proofs.Numerals.Signs.{unsigned-signed, signed-in}
 use Rattle.wing_wire.specs.Range.{AreBytes, noBytes, byteThen}
 use Rattle.wing_mirror.specs.Rows.{Table, places, records, rising, All}
-use Rattle.wing_mirror.specs.Record.{Entry, width, risingIds, ids, flipped, keyOf, recordOf, entryIn, valueIn, kindIn, lengthIn, payloadIn, Typed, wellFormed}
+use Rattle.wing_mirror.specs.Entry.{Entry, risingIds, ids, flipped, Typed}
+use Rattle.wing_mirror.specs.Record.{width, keyOf, recordOf, entryIn, valueIn, kindIn, lengthIn, payloadIn, wellFormed, full}
 use Rattle.wing_mirror.specs.Table.{rows, every, checked, soundTable, usable}
 use Rattle.wing_mirror.specs.History.{rank}
 use Rattle.wing_mirror.proofs.Tables.Images.{Stands, rising-map, all-also}
@@ -88,25 +89,25 @@ records-same [] a = refl
 records-same (r ∷ rs) a =
     ap₂ {C = List (List ℕ)} (λ x l. x ∷ l) (record-back r (a .0 .wide) (a .0 .bytes) (a .0 .form)) (records-same rs (a .1))
 
-module _ (t : Table) (b : AreBytes (t .buffer)) (u : usable t ≡ true) where
+module _ (t : Table) (b : AreBytes (t .buffer)) (u : usable full t ≡ true) where
   -- each of its records
-  pub each : All Row (rows t)
+  pub each : All Row (rows full t)
   each = all-rows (t .count) (t .buffer) (room t u) (are-digits (t .buffer) b) (formed t u)
 
-  pub rows-valid : All ValidEntry (map entryIn (rows t))
-  rows-valid = entries-valid (rows t) each
+  pub rows-valid : All ValidEntry (map entryIn (rows full t))
+  rows-valid = entries-valid (rows full t) each
 
-  pub rows-back : map recordOf (map entryIn (rows t)) ≡ rows t
-  rows-back = records-same (rows t) each
+  pub rows-back : map recordOf (map entryIn (rows full t)) ≡ rows full t
+  rows-back = records-same (rows full t) each
 
-  pub rows-rise : rising rank (map entryIn (rows t)) ≡ true
-  rows-rise = rising-map rank keyOf entryIn (rows t) (entries-stand (rows t) each) ∙ up t u
+  pub rows-rise : rising rank (map entryIn (rows full t)) ≡ true
+  rows-rise = rising-map rank keyOf entryIn (rows full t) (entries-stand (rows full t) each) ∙ up t u
 
 -- where the records are there and have 01's form, a table is sound exactly if their signed ids rise
-pub rows-signed : (t : Table) → AreBytes (t .buffer) → t .count ≤ places width t → every wellFormed (rows t) ≡ true → soundTable t ≡ risingIds (ids (map entryIn (rows t)))
+pub rows-signed : (t : Table) → AreBytes (t .buffer) → t .count ≤ places width t → every wellFormed (rows full t) ≡ true → soundTable full t ≡ risingIds (ids (map entryIn (rows full t)))
 unfolding soundTable checked
 rows-signed t b h e =
-    let each : All Row (rows t) = all-rows (t .count) (t .buffer) (omega (arith, h, mul-div-le (length (t .buffer)) width)) (are-digits (t .buffer) b) e in
-    let stand = rising-map rank keyOf entryIn (rows t) (entries-stand (rows t) each) in
+    let each : All Row (rows full t) = all-rows (t .count) (t .buffer) (omega (arith, h, mul-div-le (length (t .buffer)) width)) (are-digits (t .buffer) b) e in
+    let stand = rising-map rank keyOf entryIn (rows full t) (entries-stand (rows full t) each) in
     rw (le-leb (t .count) (places width t) h, e)
-    (sym stand ∙ rising-ids (map entryIn (rows t)) (all-also ValidEntry (λ (x : Entry). InBits 31 (x .id)) (map entryIn (rows t)) (λ x p. p .node) (entries-valid (rows t) each)))
+    (sym stand ∙ rising-ids (map entryIn (rows full t)) (all-also ValidEntry (λ (x : Entry). InBits 31 (x .id)) (map entryIn (rows full t)) (λ x p. p .node) (entries-valid (rows full t) each)))

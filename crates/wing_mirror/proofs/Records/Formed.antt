@@ -18,7 +18,8 @@ use Rattle.wing_node.proofs.Numerals.Numbers.{number-digits, length-digitsIn}
 use Rattle.wing_wire.specs.State.{zeros}
 use Rattle.wing_wire.specs.Reader.{over, filled}
 use Rattle.wing_wire.proofs.Laws.{decoder-laws}
-use Rattle.wing_mirror.specs.Record.{Entry, kindOf, payloadOf, recordOf, flipped, rankOf, keyOf, stringKept, wellKept, wellFormed, storable}
+use Rattle.wing_mirror.specs.Entry.{Entry, flipped, rankOf, storable}
+use Rattle.wing_mirror.specs.Record.{kindOf, payloadOf, recordOf, keyOf, stringKept, wellKept, wellFormed}
 use Rattle.wing_mirror.proofs.Records.Usables.{both}
 
 length-filled : (p : List ℕ) → length (filled 256 p) ≡ 256

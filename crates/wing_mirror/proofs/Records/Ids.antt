@@ -10,7 +10,7 @@ use lib.IntN.{ℤ, pos, negsuc}
 use lib.Signed.{ltZ}
 use Rattle.wing_node.specs.Signed.{InBits}
 use Rattle.wing_mirror.specs.Rows.{All, over, rising}
-use Rattle.wing_mirror.specs.Record.{Entry, ids, risingIds, flipped, rankOf}
+use Rattle.wing_mirror.specs.Entry.{Entry, ids, risingIds, flipped, rankOf}
 use Rattle.wing_mirror.specs.Machine.{sameId}
 use Rattle.wing_mirror.specs.History.{rank}
 use Rattle.wing_mirror.proofs.Tables.Ordered.{Cmp, cmp, low, same, high}

@@ -16,7 +16,8 @@ use Rattle.wing_node.specs.Utf8.{utf8}
 use Rattle.wing_node.specs.Value.{NodeValue, integer, float, string, meant}
 use Rattle.wing_wire.specs.Range.{AreBytes}
 use Rattle.wing_mirror.specs.Rows.{Table, found, nothing, holds, below, numberOf, All}
-use Rattle.wing_mirror.specs.Record.{Entry, entry, rankOf, keyOf, entryIn, storable}
+use Rattle.wing_mirror.specs.Entry.{Entry, entry, rankOf, storable}
+use Rattle.wing_mirror.specs.Record.{keyOf, entryIn, full}
 use Rattle.wing_mirror.specs.Table.{rows, usable, lookupOf}
 use Rattle.wing_mirror.specs.Query.{answerOf, lookupAnswer, valueOf, bytesBeside, readOf, recordAnswer}
 use Rattle.wing_mirror.specs.Answers.{lookupResult, entryResult, recordResult}
@@ -51,26 +52,26 @@ all-at P default (x ∷ xs) (suc n) a l = all-at P default xs n (a .1) (omega ar
 no-value : {A : Type 0} (n : ℕ) (a : A) → refused n ≡ ok a → ⊥
 no-value n a e = let z : _≡_ {A = ℕ} 0 1 = cc in omega arith
 
-lookup-refused : (t : Table) (id : ℤ) → usable t ≡ false → lookupResult (lookupAnswer t id) ≡ refused 7
+lookup-refused : (t : Table) (id : ℤ) → usable full t ≡ false → lookupResult (lookupAnswer full t id) ≡ refused 7
 unfolding lookupAnswer lookupResult
 lookup-refused t id q = rw q
 
-record-refused : (t : Table) (n : ℕ) → usable t ≡ false → recordResult (recordAnswer t n) ≡ refused 7
+record-refused : (t : Table) (n : ℕ) → usable full t ≡ false → recordResult (recordAnswer full t n) ≡ refused 7
 unfolding recordAnswer entryResult
 record-refused t n q = rw q
 
-module _ (t : Table) (b : AreBytes (t .buffer)) (u : usable t ≡ true) where
+module _ (t : Table) (b : AreBytes (t .buffer)) (u : usable full t ≡ true) where
   abbrev row : ℕ → List ℕ
-  row n = getD (rows t) n []
+  row n = getD (rows full t) n []
 
-  counted : length (rows t) ≡ t .count
+  counted : length (rows full t) ≡ t .count
   counted = length-records 264 (t .count) (t .buffer)
 
   formed : (n : ℕ) → n < t .count → Row (row n)
-  formed n l = all-at Row [] (rows t) n (each t b u) (omega (arith, counted))
+  formed n l = all-at Row [] (rows full t) n (each t b u) (omega (arith, counted))
 
   -- a record that is there is read whole
-  pub read-row : (n : ℕ) → n < t .count → recordResult (recordAnswer t n) ≡ ok (entryIn (row n))
+  pub read-row : (n : ℕ) → n < t .count → recordResult (recordAnswer full t n) ≡ ok (entryIn (row n))
   unfolding recordAnswer
   read-row n l =
       rw (u, lt-ltb n (t .count) l) (value-read (entryIn (row n) .id) (entryIn (row n) .value) (row-valid (row n) (formed n l) .text))
@@ -80,75 +81,75 @@ module _ (t : Table) (b : AreBytes (t .buffer)) (u : usable t ≡ true) where
   key-row n l = sym (row-stands (row n) (formed n l))
 
   -- a number that is not below the count
-  past : (n : ℕ) → ltb n (t .count) ≡ false → recordResult (recordAnswer t n) ≡ refused 14
+  past : (n : ℕ) → ltb n (t .count) ≡ false → recordResult (recordAnswer full t n) ≡ refused 14
   unfolding recordAnswer entryResult
   past n q = rw (u, q)
 
   module _ (id : ℤ) (i : InBits 31 id) where
     -- lookup by the list of rows
-    looked : lookupResult (lookupAnswer t id) ≡ ok (if (holds keyOf (rankOf id) (rows t)) (found (below keyOf (rankOf id) (rows t))) nothing)
+    looked : lookupResult (lookupAnswer full t id) ≡ ok (if (holds keyOf (rankOf id) (rows full t)) (found (below keyOf (rankOf id) (rows full t))) nothing)
     unfolding lookupAnswer lookupOf numberOf answerOf lookupResult
-    looked = rw u (go (holds keyOf (rankOf id) (rows t)))
+    looked = rw u (go (holds keyOf (rankOf id) (rows full t)))
       where
-        go : (h : Bool) → lookupResult (answerOf (if h (found (below keyOf (rankOf id) (rows t))) nothing)) ≡ ok (if h (found (below keyOf (rankOf id) (rows t))) nothing)
+        go : (h : Bool) → lookupResult (answerOf (if h (found (below keyOf (rankOf id) (rows full t))) nothing)) ≡ ok (if h (found (below keyOf (rankOf id) (rows full t))) nothing)
         go true = refl
         go false = refl
 
     -- the record at the place that was found
-    there : holds keyOf (rankOf id) (rows t) ≡ true → RecordOf t (below keyOf (rankOf id) (rows t)) id
+    there : holds keyOf (rankOf id) (rows full t) ≡ true → RecordOf full t (below keyOf (rankOf id) (rows full t)) id
     there h =
-        let n = below keyOf (rankOf id) (rows t) in
-        let p = placed keyOf [] (rankOf id) (rows t) (up t u) h in
+        let n = below keyOf (rankOf id) (rows full t) in
+        let p = placed keyOf [] (rankOf id) (rows full t) (up t u) h in
         let l : n < t .count = omega (arith, p .0, counted) in
         let e = entryIn (row n) in
         let k : rankOf (e .id) ≡ rankOf id = sym (key-row n l) ∙ p .1 in
         record { value = e .value; read = read-row n l ∙ ap (λ (j : ℤ). ok (entry j (e .value))) (rank-one (e .id) id (row-valid (row n) (formed n l) .node) i k) }
 
     -- a record of this id is found
-    id-found : (n : ℕ) → RecordOf t n id → (holds keyOf (rankOf id) (rows t) ≡ true) × (below keyOf (rankOf id) (rows t) ≡ n)
+    id-found : (n : ℕ) → RecordOf full t n id → (holds keyOf (rankOf id) (rows full t) ≡ true) × (below keyOf (rankOf id) (rows full t) ≡ n)
     id-found n r = go (ltb n (t .count)) refl
       where
-        go : (x : Bool) → ltb n (t .count) ≡ x → (holds keyOf (rankOf id) (rows t) ≡ true) × (below keyOf (rankOf id) (rows t) ≡ n)
+        go : (x : Bool) → ltb n (t .count) ≡ x → (holds keyOf (rankOf id) (rows full t) ≡ true) × (below keyOf (rankOf id) (rows full t) ≡ n)
         go true q =
             let l : n < t .count = ltb-true n (t .count) q in
             let same : _≡_ {A = Result Entry} (ok (entryIn (row n))) (ok (entry id (r .value))) = sym (read-row n l) ∙ r .read in
             let w : _≡_ {A = Entry} (entryIn (row n)) (entry id (r .value)) = cc in
             let e : entryIn (row n) .id ≡ id = ap (λ (x : Entry). x .id) w in
-            found-at keyOf [] (rankOf id) n (rows t) (up t u) (omega (arith, l, counted)) (key-row n l ∙ ap rankOf e)
+            found-at keyOf [] (rankOf id) n (rows full t) (up t u) (omega (arith, l, counted)) (key-row n l ∙ ap rankOf e)
         go false q = absurd (no-value 14 (entry id (r .value)) (sym (past n q) ∙ r .read))
 
     -- lookup and record read, both ways
-    pub at-row : (n : ℕ) → (lookupResult (lookupAnswer t id) ≡ ok (found n) ↔ RecordOf t n id)
-    at-row n = (λ e. from (holds keyOf (rankOf id) (rows t)) refl (sym looked ∙ e), λ r. looked ∙ rw (id-found n r .0, id-found n r .1))
+    pub at-row : (n : ℕ) → (lookupResult (lookupAnswer full t id) ≡ ok (found n) ↔ RecordOf full t n id)
+    at-row n = (λ e. from (holds keyOf (rankOf id) (rows full t)) refl (sym looked ∙ e), λ r. looked ∙ rw (id-found n r .0, id-found n r .1))
       where
-        from : (h : Bool) → holds keyOf (rankOf id) (rows t) ≡ h → ok (if h (found (below keyOf (rankOf id) (rows t))) nothing) ≡ ok (found n) → RecordOf t n id
-        from true q e = let z : below keyOf (rankOf id) (rows t) ≡ n = cc in rw z at (there q)
+        from : (h : Bool) → holds keyOf (rankOf id) (rows full t) ≡ h → ok (if h (found (below keyOf (rankOf id) (rows full t))) nothing) ≡ ok (found n) → RecordOf full t n id
+        from true q e = let z : below keyOf (rankOf id) (rows full t) ≡ n = cc in rw z at (there q)
         from false q e = absurd (let z : nothing ≡ found n = cc in let w : _≡_ {A = ℕ} 0 1 = cc in omega arith)
 
-    pub none-row : lookupResult (lookupAnswer t id) ≡ ok nothing ↔ ((n : ℕ) → RecordOf t n id → ⊥)
-    none-row = (λ e. from (holds keyOf (rankOf id) (rows t)) refl (sym looked ∙ e), λ f. looked ∙ back (holds keyOf (rankOf id) (rows t)) refl f)
+    pub none-row : lookupResult (lookupAnswer full t id) ≡ ok nothing ↔ ((n : ℕ) → RecordOf full t n id → ⊥)
+    none-row = (λ e. from (holds keyOf (rankOf id) (rows full t)) refl (sym looked ∙ e), λ f. looked ∙ back (holds keyOf (rankOf id) (rows full t)) refl f)
       where
-        from : (h : Bool) → holds keyOf (rankOf id) (rows t) ≡ h → ok (if h (found (below keyOf (rankOf id) (rows t))) nothing) ≡ ok nothing → (n : ℕ) → RecordOf t n id → ⊥
-        from true q e n r = let z : found (below keyOf (rankOf id) (rows t)) ≡ nothing = cc in let w : _≡_ {A = ℕ} 0 1 = cc in omega arith
+        from : (h : Bool) → holds keyOf (rankOf id) (rows full t) ≡ h → ok (if h (found (below keyOf (rankOf id) (rows full t))) nothing) ≡ ok nothing → (n : ℕ) → RecordOf full t n id → ⊥
+        from true q e n r = let z : found (below keyOf (rankOf id) (rows full t)) ≡ nothing = cc in let w : _≡_ {A = ℕ} 0 1 = cc in omega arith
         from false q e n r = let z : _≡_ {A = Bool} true false = sym (id-found n r .0) ∙ q in let w : _≡_ {A = ℕ} 0 1 = cc in omega arith
 
-        back : (h : Bool) → holds keyOf (rankOf id) (rows t) ≡ h → ((n : ℕ) → RecordOf t n id → ⊥) → ok (if h (found (below keyOf (rankOf id) (rows t))) nothing) ≡ ok nothing
-        back true q f = absurd (f (below keyOf (rankOf id) (rows t)) (there q))
+        back : (h : Bool) → holds keyOf (rankOf id) (rows full t) ≡ h → ((n : ℕ) → RecordOf full t n id → ⊥) → ok (if h (found (below keyOf (rankOf id) (rows full t))) nothing) ≡ ok nothing
+        back true q f = absurd (f (below keyOf (rankOf id) (rows full t)) (there q))
         back false q f = refl
 
 -- a table that is not usable is refused by both
-unusable : (t : Table) (id : ℤ) (n : ℕ) → usable t ≡ false → (lookupResult (lookupAnswer t id) ≡ ok (found n) ↔ RecordOf t n id)
+unusable : (t : Table) (id : ℤ) (n : ℕ) → usable full t ≡ false → (lookupResult (lookupAnswer full t id) ≡ ok (found n) ↔ RecordOf full t n id)
 unusable t id n q = (λ e. absurd (no-value 7 (found n) (sym looks ∙ e)), λ r. absurd (no-value 7 (entry id (r .value)) (sym reads ∙ r .read)))
   where
-    looks : lookupResult (lookupAnswer t id) ≡ refused 7
+    looks : lookupResult (lookupAnswer full t id) ≡ refused 7
     looks = lookup-refused t id q
 
-    reads : recordResult (recordAnswer t n) ≡ refused 7
+    reads : recordResult (recordAnswer full t n) ≡ refused 7
     reads = record-refused t n q
 
-pub lookups : Lookups
-lookups = record { at = λ t id n b i. go t id n b i (usable t) refl; none = λ t id b i u. none-row t b u id i }
+pub lookups : Lookups full
+lookups = record { at = λ t id n b i. go t id n b i (usable full t) refl; none = λ t id b i u. none-row t b u id i }
   where
-    go : (t : Table) (id : ℤ) (n : ℕ) → AreBytes (t .buffer) → InBits 31 id → (u : Bool) → usable t ≡ u → (lookupResult (lookupAnswer t id) ≡ ok (found n) ↔ RecordOf t n id)
+    go : (t : Table) (id : ℤ) (n : ℕ) → AreBytes (t .buffer) → InBits 31 id → (u : Bool) → usable full t ≡ u → (lookupResult (lookupAnswer full t id) ≡ ok (found n) ↔ RecordOf full t n id)
     go t id n b i true q = at-row t b q id i n
     go t id n b i false q = unusable t id n q

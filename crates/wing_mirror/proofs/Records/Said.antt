@@ -15,7 +15,8 @@ use Rattle.wing_node.specs.declared.value.Value.the-variants.{Integer, Float, S
 use Rattle.wing_node.proofs.Numerals.Placed.{field-whole}
 use Rattle.wing_wire.specs.Reader.{filled}
 use Rattle.wing_mirror.specs.Rows.{records}
-use Rattle.wing_mirror.specs.Record.{entry, idIn, valueIn, entryIn}
+use Rattle.wing_mirror.specs.Entry.{entry}
+use Rattle.wing_mirror.specs.Record.{idIn, valueIn, entryIn}
 use Rattle.wing_mirror.specs.Query.{valueOf, bytesBeside, besideZeros, readOf}
 use Rattle.wing_mirror.specs.declared.answer.RecordAnswer.the-variants.{Record}
 use Rattle.wing_mirror.proofs.Tables.Laying.{take-least, sets-over}

@@ -19,7 +19,8 @@ use Rattle.wing_node.proofs.Numerals.Numbers.{Digits, digits-take, digits-drop,
 use Rattle.wing_node.proofs.Numerals.Signs.{signed-unsigned, unsigned-signed}
 use Rattle.wing_wire.specs.State.{zeros, and}
 use Rattle.wing_wire.specs.Reader.{over, filled}
-use Rattle.wing_mirror.specs.Record.{entry, kindOf, payloadOf, recordOf, kindIn, lengthIn, payloadIn, valueIn, entryIn, storable, Typed, stringKept, wellKept, wellFormed}
+use Rattle.wing_mirror.specs.Entry.{entry, storable, Typed}
+use Rattle.wing_mirror.specs.Record.{kindOf, payloadOf, recordOf, kindIn, lengthIn, payloadIn, valueIn, entryIn, stringKept, wellKept, wellFormed}
 use Rattle.wing_mirror.proofs.Records.Usables.{both}
 use Rattle.wing_mirror.proofs.Records.Formed.{unsigned-below, take-over}
 

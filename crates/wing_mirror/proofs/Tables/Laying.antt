@@ -16,7 +16,8 @@ use Rattle.wing_node.specs.Field.{bytesOf, put, putAt}
 use Rattle.wing_node.proofs.Numerals.Numbers.{length-digitsIn}
 use Rattle.wing_node.proofs.Numerals.Placed.{put-whole}
 use Rattle.wing_wire.specs.Reader.{over, filled}
-use Rattle.wing_mirror.specs.Record.{entry, kindOf, payloadOf, recordOf, laidFrom}
+use Rattle.wing_mirror.specs.Entry.{entry}
+use Rattle.wing_mirror.specs.Record.{kindOf, payloadOf, recordOf, laidFrom}
 
 pub sets-append : (vs ws l : List ℕ) (i : ℕ) → sets (sets l i vs) (i + length vs) ws ≡ sets l i (vs ++ ws)
 sets-append [] ws l i = rw (add-zero i)

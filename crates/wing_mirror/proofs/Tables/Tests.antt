@@ -10,7 +10,7 @@ use lib.ListN.{drop}
 use lib.Seq.{drop-drop}
 use Rattle.wing_node.specs.Bool.{if}
 use Rattle.wing_mirror.specs.Rows.{records, over, rising}
-use Rattle.wing_mirror.specs.Record.{keyOf, wellFormed}
+use Rattle.wing_mirror.specs.Record.{keyOf, wellFormed, full}
 use Rattle.wing_mirror.specs.Table.{every, rowAt, belowNext, passesAt, checked}
 
 -- the records from the i-th on
@@ -40,7 +40,7 @@ over-from k n i b = go (ltb i n) refl
     go true q = ap (over keyOf k) (from-next n i b (ltb-true i n q))
     go false q = ap (over keyOf k) (from-none n i b (ltb-false i n q))
 
-checked-cons : (x : List ℕ) (xs : List (List ℕ)) → checked (x ∷ xs) ≡ if (if (wellFormed x) (over keyOf (keyOf x) xs) false) (checked xs) false
+checked-cons : (x : List ℕ) (xs : List (List ℕ)) → checked full (x ∷ xs) ≡ if (if (wellFormed x) (over keyOf (keyOf x) xs) false) (checked full xs) false
 unfolding checked every rising
 checked-cons x xs = go (wellFormed x) (over keyOf (keyOf x) xs) (every wellFormed xs) (rising keyOf xs)
   where
@@ -52,12 +52,12 @@ checked-cons x xs = go (wellFormed x) (over keyOf (keyOf x) xs) (every wellForme
     go false o e r = refl
 
 -- one record more
-pub turn : (n i : ℕ) (b : List ℕ) → i < n → checked (from n i b) ≡ if (passesAt b n i) (checked (from n (i + 1) b)) false
+pub turn : (n i : ℕ) (b : List ℕ) → i < n → checked full (from n i b) ≡ if (passesAt b n i) (checked full (from n (i + 1) b)) false
 unfolding passesAt belowNext
 turn n i b h =
-    ap checked (from-next n i b h) ∙ checked-cons (rowAt i b) (from n (i + 1) b)
-    ∙ ap (λ (t : Bool). if (if (wellFormed (rowAt i b)) t false) (checked (from n (i + 1) b)) false) (over-from (keyOf (rowAt i b)) n (i + 1) b)
+    ap (checked full) (from-next n i b h) ∙ checked-cons (rowAt i b) (from n (i + 1) b)
+    ∙ ap (λ (t : Bool). if (if (wellFormed (rowAt i b)) t false) (checked full (from n (i + 1) b)) false) (over-from (keyOf (rowAt i b)) n (i + 1) b)
 
-pub all-passed : (n i : ℕ) (b : List ℕ) → n ≤ i → checked (from n i b) ≡ true
+pub all-passed : (n i : ℕ) (b : List ℕ) → n ≤ i → checked full (from n i b) ≡ true
 unfolding checked every rising
-all-passed n i b h = ap checked (from-none n i b h)
+all-passed n i b h = ap (checked full) (from-none n i b h)

@@ -4,7 +4,8 @@ use mathlib.Core.Path.{_∙_, ap}
 use lib.IntN.{ℤ}
 use mir.Facts.{toZ-ofZ}
 use Rattle.wing_node.specs.Value.{meant}
-use Rattle.wing_mirror.specs.Record.{recordOf, entry}
+use Rattle.wing_mirror.specs.Entry.{entry}
+use Rattle.wing_mirror.specs.Record.{recordOf}
 use Rattle.wing_mirror.specs.Table.{table}
 use Rattle.wing_mirror.proofs.Calls.Turns.{stored-kept, unplaced-kept}
 use borrow.Author.Needs.{needs}

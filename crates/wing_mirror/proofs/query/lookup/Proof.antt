@@ -5,7 +5,8 @@ use mathlib.Core.Path.{_≡_, sym, _∙_, ap}
 use mir.Facts.{toZ-ofZ}
 use borrow.Author.Needs.{needs}
 use Rattle.wing_mirror.specs.Rows.{records, numberOf}
-use Rattle.wing_mirror.specs.Record.{keyOf, rankOf}
+use Rattle.wing_mirror.specs.Entry.{rankOf}
+use Rattle.wing_mirror.specs.Record.{keyOf, full}
 use Rattle.wing_mirror.specs.Table.{table, usable, lookupOf}
 use Rattle.wing_mirror.specs.Query.{answerOf, lookupAnswer}
 use Rattle.wing_mirror.proofs.Records.Usables.{room, up}
@@ -21,7 +22,7 @@ rank-requires c κs = search needs
 number-of-requires : tie.Need-number-of-requires
 number-of-requires c κs =
     let t = table (c .before .before .before .before .args .table .now) (c .before .before .before .before .args .count) in
-    let u : usable t ≡ true = sym (c .before .before .is-usable .ensures) ∙ c .before .if1 .taken in
+    let u : usable full t ≡ true = sym (c .before .before .is-usable .ensures) ∙ c .before .if1 .taken in
     (room t u, up t u)
 
 returns : tie.Need-returns

@@ -7,6 +7,7 @@ use borrow.Author.Needs.{needs}
 use lib.ListN.{length, set, length-set}
 use lib.Seq.{sets, length-sets}
 use Rattle.wing_wire.proofs.Laws.{writer-laws}
+use Rattle.wing_mirror.specs.Record.{full}
 use Rattle.wing_mirror.specs.Table.{table as tableOf, rowAt}
 use Rattle.wing_mirror.specs.Recall.{recallBytes}
 use Rattle.wing_mirror.specs.Sending.{orderIn}
@@ -17,7 +18,7 @@ use Rattle.wing_mirror.proofs.recall.lay_recall.Tie as tie
 
 abbrev Inv-loop : tie.InvT-loop
 Inv-loop out₀ table count at₀ number₀ out at number =
-    (length out ≡ length out₀) × (at + length (left count number table) ≡ length (recallBytes (tableOf table count))) × (length (recallBytes (tableOf table count)) ≤ length out) × (sets out at (left count number table) ≡ sets out₀ 2 (left count 0 table))
+    (length out ≡ length out₀) × (at + length (left count number table) ≡ length (recallBytes full (tableOf table count))) × (length (recallBytes full (tableOf table count)) ≤ length out) × (sets out at (left count number table) ≡ sets out₀ 2 (left count 0 table))
 
 abbrev μ-loop : tie.MeasureT-loop
 μ-loop out₀ table count at₀ number₀ out at number = count - number

@@ -5,6 +5,7 @@ use mathlib.Core.Path.{_≡_, ap}
 use native.Mathlib.Omega.{arith}
 use borrow.Author.Needs.{needs}
 use lib.ListN.{length}
+use Rattle.wing_mirror.specs.Record.{full}
 use Rattle.wing_mirror.specs.Table.{table as tableOf, rows}
 use Rattle.wing_mirror.specs.Sending.{ordersOf}
 use Rattle.wing_mirror.proofs.Records.Usables.{room}
@@ -14,7 +15,7 @@ use Rattle.wing_mirror.proofs.recall.orders_len.Tie as tie
 
 abbrev Inv-loop : tie.InvT-loop
 Inv-loop table count scratch₀ total₀ i₀ scratch total i =
-    (length scratch ≡ 395) × (i ≤ count) × (total ≤ 395 * i) × (total + length (left count i table) ≡ length (ordersOf (rows (tableOf table count))))
+    (length scratch ≡ 395) × (i ≤ count) × (total ≤ 395 * i) × (total + length (left count i table) ≡ length (ordersOf (rows full (tableOf table count))))
 
 abbrev μ-loop : tie.MeasureT-loop
 μ-loop table count scratch₀ total₀ i₀ scratch total i = count - i

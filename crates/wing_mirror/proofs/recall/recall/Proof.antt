@@ -4,6 +4,7 @@ use mathlib.Core.Path.{sym, _∙_}
 use mathlib.Core.Logic.{⊎-elim}
 use native.Mathlib.Omega.{arith}
 use Rattle.wing_wire.proofs.Laws.{writer-laws}
+use Rattle.wing_mirror.specs.Record.{full}
 use Rattle.wing_mirror.specs.Table.{table as tableOf}
 use Rattle.wing_mirror.specs.Recall.{recallBytes}
 use Rattle.wing_mirror.proofs.Calls.Sends.{few-records, orders-le, recall-size, recalled, unusable}
@@ -44,7 +45,7 @@ returns c =
     let a = c .before .before .before .before .before .before .before .args in
     let t = tableOf (a .table .now) (a .count) in
     let u = sym (c .before .before .before .before .is-usable .ensures) ∙ c .before .before .before .if1 .taken in
-    writer-laws .short (recallBytes t) (a .out .now) (omega (arith, recall-size t, c .before .orders-len .ensures, c .if3 .taken)) ∙ recalled t (a .out .now) u
+    writer-laws .short (recallBytes full t) (a .out .now) (omega (arith, recall-size t, c .before .orders-len .ensures, c .if3 .taken)) ∙ recalled t (a .out .now) u
 
 lay-recall-requires : tie.Need-lay-recall-requires
 lay-recall-requires c κs =

@@ -6,7 +6,7 @@ use mir.Val.{toZ, ofZ}
 use native.Mathlib.Omega.{arith}
 use Rattle.wing_node.proofs.Numerals.Placed.{field-whole}
 use Rattle.wing_wire.specs.Write.{writeOf}
-use Rattle.wing_mirror.specs.Record.{Entry}
+use Rattle.wing_mirror.specs.Entry.{Entry}
 use Rattle.wing_mirror.specs.Recall.{setOf}
 use Rattle.wing_mirror.proofs.Records.Said.{integer-entry, float-entry}
 use Rattle.wing_mirror.proofs.Calls.Sends.{text, string-order}

@@ -2,7 +2,8 @@
 use mathlib.Core.Path.{_∙_, ap}
 use native.Mathlib.Omega.{arith}
 use Rattle.wing_node.proofs.Numerals.Placed.{field-whole}
-use Rattle.wing_mirror.specs.Record.{flipped, keyOf}
+use Rattle.wing_mirror.specs.Entry.{flipped}
+use Rattle.wing_mirror.specs.Record.{keyOf}
 use borrow.Author.Needs.{needs}
 use Rattle.wing_mirror.proofs.record.key.Statement.{statement}
 use Rattle.wing_mirror.proofs.record.key.Tie as tie

@@ -12,7 +12,8 @@ use lib.Seq.{sets}
 use Rattle.wing_node.specs.Field.{bytesOf, putAt}
 use Rattle.wing_node.specs.Signed.{unsigned}
 use Rattle.wing_node.specs.Value.{NodeValue, integer, float, string, meant}
-use Rattle.wing_mirror.specs.Record.{entry, kindOf, payloadOf, recordOf, laidFrom}
+use Rattle.wing_mirror.specs.Entry.{entry}
+use Rattle.wing_mirror.specs.Record.{kindOf, payloadOf, recordOf, laidFrom}
 use Rattle.wing_mirror.proofs.Tables.Laying.{field-sets, record-laid}
 use borrow.Author.Needs.{needs}
 use Rattle.wing_mirror.proofs.record.lay_record.Statement.{statement}

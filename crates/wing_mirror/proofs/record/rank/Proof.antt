@@ -2,7 +2,7 @@
 use mir.Facts.{toZ-ofZ}
 use Rattle.wing_node.specs.Signed.{unsigned}
 use mathlib.Core.Path.{_∙_, ap}
-use Rattle.wing_mirror.specs.Record.{flipped}
+use Rattle.wing_mirror.specs.Entry.{flipped}
 use borrow.Author.Needs.{needs}
 use Rattle.wing_mirror.proofs.record.rank.Statement.{statement}
 use Rattle.wing_mirror.proofs.record.rank.Tie as tie

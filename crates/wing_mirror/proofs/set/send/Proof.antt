@@ -11,7 +11,7 @@ use lib.Seq.{length-take-le}
 use Rattle.wing_node.specs.Value.{NodeValue, string, meant}
 use Rattle.wing_wire.specs.Write.{writeOf}
 use Rattle.wing_wire.specs.Command.{setBytes}
-use Rattle.wing_mirror.specs.Record.{storable}
+use Rattle.wing_mirror.specs.Entry.{storable}
 use Rattle.wing_mirror.proofs.Calls.Orders.{string-sent}
 use borrow.Author.Needs.{needs}
 use Rattle.wing_mirror.proofs.set.send.Statement.{statement}

@@ -3,7 +3,7 @@ use mathlib.Core.Path.{refl, sym, _∙_}
 use mir.Facts.{toZ-ofZ}
 use native.Mathlib.Omega.{arith}
 use Rattle.wing_node.specs.Value.{integer, meant}
-use Rattle.wing_mirror.specs.Record.{storable}
+use Rattle.wing_mirror.specs.Entry.{storable}
 use Rattle.wing_mirror.specs.Table.{table}
 use Rattle.wing_mirror.proofs.Calls.Orders.{unusable}
 use borrow.Author.Needs.{needs}

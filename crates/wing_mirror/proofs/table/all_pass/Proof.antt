@@ -3,19 +3,20 @@ use Prim.Native.Nat.{_-_}
 use mathlib.Core.Path.{_≡_, sym, _∙_, ap}
 use borrow.Author.Needs.{needs}
 use Rattle.wing_mirror.specs.Rows.{records}
+use Rattle.wing_mirror.specs.Record.{full}
 use Rattle.wing_mirror.specs.Table.{checked}
 use Rattle.wing_mirror.proofs.Tables.Tests.{from, from-all, turn, all-passed}
 use Rattle.wing_mirror.proofs.table.all_pass.Statement.{statement}
 use Rattle.wing_mirror.proofs.table.all_pass.Tie as tie
 
 abbrev Inv-loop : tie.InvT-loop
-Inv-loop table count i₀ i = checked (records 264 count table) ≡ checked (from count i table)
+Inv-loop table count i₀ i = checked full (records 264 count table) ≡ checked full (from count i table)
 
 abbrev μ-loop : tie.MeasureT-loop
 μ-loop table count i₀ i = count - i
 
 loop-holds : tie.Need-loop-holds Inv-loop μ-loop
-loop-holds c = ap checked (from-all (c .before .args .count) (c .before .args .table .now))
+loop-holds c = ap (checked full) (from-all (c .before .args .count) (c .before .args .table .now))
 
 passes-requires : tie.Need-passes-requires Inv-loop μ-loop
 passes-requires c κs = search needs
