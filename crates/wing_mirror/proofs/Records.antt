@@ -1,4 +1,5 @@
 -- Records of 264 bytes and tables of them.
+pub mod Choices
 pub mod Usables
 pub mod Placing
 pub mod Formed
@@ -7,5 +8,6 @@ pub mod Said
 pub mod Equals
 pub mod Trips
 pub mod Ids
+pub mod Full
 pub mod Entries
 pub mod Lookups

@@ -15,7 +15,7 @@ use Rattle.wing_wire.specs.declared.write.Written.{Written}
 use Rattle.wing_wire.proofs.Laws.{writer-laws}
 use Rattle.wing_mirror.specs.Rows.{Table, takes}
 use Rattle.wing_mirror.specs.Entry.{entry, storable}
-use Rattle.wing_mirror.specs.Record.{keyOf, recordOf, full}
+use Rattle.wing_mirror.specs.Layout.{kept, Layout}
 use Rattle.wing_mirror.specs.Table.{usable, put, fits}
 use Rattle.wing_mirror.specs.Puts.{putOf}
 use Rattle.wing_mirror.specs.Call.{tooLong, notText}
@@ -56,42 +56,44 @@ string-sent id n len s out l h =
 abbrev settled : Replied → List ℕ → Setting
 settled k out = record { answer = k .answer; out = out; table = k .after }
 
-module _ (id : ℤ) (v : NodeValue) (t : Table) (out : List ℕ) where
-  pub unusable : usable full t ≡ false → refusedSet 7 t out ≡ mirrorSet full id v t out
+module _ (L : Layout) (id : ℤ) (v : NodeValue) (t : Table) (out : List ℕ) where
+  open Layout L using (width, keyOf, recordOf, keeping)
+
+  pub unusable : usable L t ≡ false → refusedSet 7 t out ≡ mirrorSet L id v t out
   unfolding mirrorSet
   unusable u = rw u
 
   -- of a value that may be stored
-  module _ (u : usable full t ≡ true) (s : storable v ≡ true) (rec : List ℕ) (er : rec ≡ recordOf (entry id v)) (h : Bool) (eh : h ≡ takes 264 keyOf rec t) where
-    takes-is : takes 264 keyOf (recordOf (entry id v)) t ≡ h
-    takes-is = ap (λ (r : List ℕ). takes 264 keyOf r t) (sym er) ∙ sym eh
+  module _ (u : usable L t ≡ true) (o : keeping v ≡ kept) (s : storable v ≡ true) (rec : List ℕ) (er : rec ≡ recordOf (entry id v)) (h : Bool) (eh : h ≡ takes width keyOf rec t) where
+    takes-is : takes width keyOf (recordOf (entry id v)) t ≡ h
+    takes-is = ap (λ (r : List ℕ). takes width keyOf r t) (sym er) ∙ sym eh
 
-    pub no-room : h ≡ false → refusedSet 6 t out ≡ mirrorSet full id v t out
+    pub no-room : h ≡ false → refusedSet 6 t out ≡ mirrorSet L id v t out
     unfolding mirrorSet fits
-    no-room q = rw (u, not-long v s, is-text v s, takes-is, q)
+    no-room q = rw (u, o, not-long v s, is-text v s, takes-is, q)
 
     after : Wrote → Setting
-    after x = settled (keptOf full (x .answer) (recordOf (entry id v)) t) (x .out)
+    after x = settled (keptOf L (x .answer) (recordOf (entry id v)) t) (x .out)
 
     -- 6 is met already: what is left is 9
-    written : h ≡ true → (b : Bool) → ltb (length out) (length (setBytes id v)) ≡ b → after (writeOf (setBytes id v) out) ≡ mirrorSet full id v t out
+    written : h ≡ true → (b : Bool) → ltb (length out) (length (setBytes id v)) ≡ b → after (writeOf (setBytes id v) out) ≡ mirrorSet L id v t out
     unfolding mirrorSet after writeOf keptOf putOf put fits
-    written q true e = rw (u, not-long v s, is-text v s, e, takes-is, q)
-    written q false e = rw (u, not-long v s, is-text v s, e, takes-is, q)
+    written q true e = rw (u, o, not-long v s, is-text v s, e, takes-is, q)
+    written q false e = rw (u, o, not-long v s, is-text v s, e, takes-is, q)
 
     pub kept-so : h ≡ true → (w : Written) (o : List ℕ) → wrote w o ≡ writeOf (setBytes id v) out →
-        (r : SetReply) (b : List ℕ) → replied r b ≡ keptOf full w rec t → setting r o b ≡ mirrorSet full id v t out
+        (r : SetReply) (b : List ℕ) → replied r b ≡ keptOf L w rec t → setting r o b ≡ mirrorSet L id v t out
     unfolding after
     kept-so q w o ew r b ek =
-        ap (λ (k : Replied). settled k o) (ek ∙ ap (λ (x : List ℕ). keptOf full w x t) er) ∙ ap after ew
+        ap (λ (k : Replied). settled k o) (ek ∙ ap (λ (x : List ℕ). keptOf L w x t) er) ∙ ap after ew
         ∙ written q (ltb (length out) (length (setBytes id v))) refl
 
 -- of a string
-module _ (id : ℤ) (s : List ℕ) (t : Table) (out : List ℕ) (u : usable full t ≡ true) where
-  pub long-string : 256 < length s → refusedSet 10 t out ≡ mirrorSet full id (string s) t out
+module _ (L : Layout) (id : ℤ) (s : List ℕ) (t : Table) (out : List ℕ) (u : usable L t ≡ true) (o : L .keeping (string s) ≡ kept) where
+  pub long-string : 256 < length s → refusedSet 10 t out ≡ mirrorSet L id (string s) t out
   unfolding mirrorSet tooLong
-  long-string h = rw (u, lt-leb (length s) 256 h)
+  long-string h = rw (u, o, lt-leb (length s) 256 h)
 
-  pub bad-string : length s ≤ 256 → utf8 s ≡ false → refusedSet 1 t out ≡ mirrorSet full id (string s) t out
+  pub bad-string : length s ≤ 256 → utf8 s ≡ false → refusedSet 1 t out ≡ mirrorSet L id (string s) t out
   unfolding mirrorSet tooLong notText
-  bad-string h q = rw (u, le-leb (length s) 256 h, q)
+  bad-string h q = rw (u, o, le-leb (length s) 256 h, q)

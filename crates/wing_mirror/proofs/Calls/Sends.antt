@@ -112,15 +112,15 @@ module _ (t : Table) (u : usable full t ≡ true) where
   unfolding placesAllowed
   few-records =
       let n : ℕ = length (t .buffer) / 264 in
-      omega (arith, few t u, leb-true n 1024 (both (leb 1 n) (leb n 1024) (in-range t u) .1))
+      omega (arith, few full t u, leb-true n 1024 (both (leb 1 n) (leb n 1024) (in-range full t u) .1))
 
   pub row-formed : (i : ℕ) → i < t .count → wellFormed (rowAt i (t .buffer)) ≡ true
   row-formed i h =
-      rw (row-of 264 (t .count) i (t .buffer) h) at (every-at wellFormed (rows full t) i [] (omega (arith, length-records 264 (t .count) (t .buffer))) (formed t u))
+      rw (row-of 264 (t .count) i (t .buffer) h) at (every-at wellFormed (rows full t) i [] (omega (arith, length-records 264 (t .count) (t .buffer))) (formed full t u))
 
   pub row-le : (i : ℕ) → i < t .count → length (orderIn (rowAt i (t .buffer))) ≤ 395
   row-le i h =
-      order-le (rowAt i (t .buffer)) (length-take-le 264 (drop (264 * i) (t .buffer)) (omega (arith, room t u, length-drop (264 * i) (t .buffer)))) (row-formed i h)
+      order-le (rowAt i (t .buffer)) (length-take-le 264 (drop (264 * i) (t .buffer)) (omega (arith, room full t u, length-drop (264 * i) (t .buffer)))) (row-formed i h)
 
   left-le : (k i : ℕ) → i + k ≡ t .count → length (left (t .count) i (t .buffer)) ≤ 395 * k
   left-le zero i e = rw (left-none (t .count) i (t .buffer) (omega arith)) (omega arith)

@@ -9,9 +9,11 @@ use lib.IntN.{ℤ}
 use lib.ListN.{length}
 use Rattle.wing_node.specs.Bool.{if}
 use Rattle.wing_node.specs.Definition.{definitionOf}
+use Rattle.wing_node.proofs.Branches.{branch}
 use Rattle.wing_wire.specs.Reader.{Event, more, value, body, end, refused}
+use Rattle.wing_mirror.specs.Rows.{Table}
 use Rattle.wing_mirror.specs.Entry.{entry}
-use Rattle.wing_mirror.specs.Record.{full}
+use Rattle.wing_mirror.specs.Layout.{Keeping, kept, unkept, unlessKept, Layout}
 use Rattle.wing_mirror.specs.Table.{put, fits}
 use Rattle.wing_mirror.specs.Counts.{zeroCounts, markNumber, one, tick, refusalMark, bodyMark, total, addCounts}
 use Rattle.wing_mirror.specs.Mirror.{TableTally, tableTally, keepEvent}
@@ -19,6 +21,7 @@ use Rattle.wing_mirror.specs.Machine.{StreamEvent}
 use Rattle.wing_mirror.specs.declared.answer.Counts.{Counts}
 use Rattle.wing_mirror.specs.declared.counts.Mark.{Mark}
 use Rattle.wing_mirror.specs.declared.counts.Mark.the-variants.{Stored, Unplaced, StringRefused, DefinitionRead, DefinitionRefused, Ended, Uncounted}
+use Rattle.wing_mirror.proofs.Records.Choices.{keeping-cases}
 use Rattle.wing_mirror.proofs.Histories.Along.{foldEvents}
 
 -- a mark is at most one more in all
@@ -36,24 +39,24 @@ tick-total : (m : Mark) (c : Counts) → total (tick m c) ≤ suc (total c)
 tick-total m c = omega (arith, one-total m)
 
 -- each event counts at most once
-pub keep-total : (node : ℤ) (e : Event) (k : TableTally) → total (keepEvent full node e k .counts) ≤ suc (total (k .counts))
+pub keep-total : (L : Layout) (node : ℤ) (e : Event) (k : TableTally) → total (keepEvent L node e k .counts) ≤ suc (total (k .counts))
 unfolding keepEvent
-keep-total node more k = omega arith
-keep-total node (value v) k = go (fits full (entry node v) (k .table))
+keep-total L node more k = omega arith
+keep-total L node (value v) k =
+    keeping-cases P (L .keeping v) _ _ (λ mark number. tick-total mark (k .counts))
+    (λ _. branch P (fits L (entry node v) (k .table)) _ _ (λ _. tick-total Stored (k .counts)) (λ _. tick-total Unplaced (k .counts)))
   where
-    go : (t : Bool) →
-        total ((if {A = TableTally} t (tableTally (put full (entry node v) (k .table)) (tick Stored (k .counts))) (tableTally (k .table) (tick Unplaced (k .counts)))) .counts) ≤ suc (total (k .counts))
-    go true = tick-total Stored (k .counts)
-    go false = tick-total Unplaced (k .counts)
-keep-total node (body b) k = tick-total (bodyMark (definitionOf b)) (k .counts)
-keep-total node end k = tick-total Ended (k .counts)
-keep-total node (refused n) k = tick-total (refusalMark n) (k .counts)
+    P : TableTally → Type 0
+    P x = total (x .counts) ≤ suc (total (k .counts))
+keep-total L node (body b) k = tick-total (bodyMark (definitionOf b)) (k .counts)
+keep-total L node end k = tick-total Ended (k .counts)
+keep-total L node (refused n) k = tick-total (refusalMark n) (k .counts)
 
 -- so the counts sum to at most the events
-pub fold-total : (rs : List StreamEvent) (k : TableTally) → total (foldEvents (keepEvent full) rs k .counts) ≤ total (k .counts) + length rs
+pub fold-total : (L : Layout) (rs : List StreamEvent) (k : TableTally) → total (foldEvents (keepEvent L) rs k .counts) ≤ total (k .counts) + length rs
 unfolding foldEvents
-fold-total [] k = omega arith
-fold-total (r ∷ rs) k = omega (arith, fold-total rs (keepEvent full (r .node) (r .event) k), keep-total (r .node) (r .event) k)
+fold-total L [] k = omega arith
+fold-total L (r ∷ rs) k = omega (arith, fold-total L rs (keepEvent L (r .node) (r .event) k), keep-total L (r .node) (r .event) k)
 
 -- counts c, and those of k
 abbrev pub atop : Counts → TableTally → TableTally
@@ -68,16 +71,21 @@ pub add-zero-counts : (c : Counts) → addCounts c zeroCounts ≡ c
 add-zero-counts c = simp add-zero
 
 -- what is kept does not look at the counts before
-pub keep-adds : (c : Counts) (node : ℤ) (e : Event) (k : TableTally) → atop c (keepEvent full node e k) ≡ keepEvent full node e (atop c k)
+pub keep-adds : (L : Layout) (c : Counts) (node : ℤ) (e : Event) (k : TableTally) → atop c (keepEvent L node e k) ≡ keepEvent L node e (atop c k)
 unfolding keepEvent
-keep-adds c node more k = refl
-keep-adds c node (value v) k = go (fits full (entry node v) (k .table))
+keep-adds L c node more k = refl
+keep-adds L c node (value v) k = go (L .keeping v) (fits L (entry node v) (k .table))
   where
-    go : (t : Bool) →
-        atop c (if t (tableTally (put full (entry node v) (k .table)) (tick Stored (k .counts))) (tableTally (k .table) (tick Unplaced (k .counts))))
-        ≡ if t (tableTally (put full (entry node v) (k .table)) (tick Stored (addCounts c (k .counts)))) (tableTally (k .table) (tick Unplaced (addCounts c (k .counts))))
-    go true = ap (tableTally (put full (entry node v) (k .table))) (tick-adds Stored c (k .counts))
-    go false = ap (tableTally (k .table)) (tick-adds Unplaced c (k .counts))
-keep-adds c node (body b) k = ap (tableTally (k .table)) (tick-adds (bodyMark (definitionOf b)) c (k .counts))
-keep-adds c node end k = ap (tableTally (k .table)) (tick-adds Ended c (k .counts))
-keep-adds c node (refused n) k = ap (tableTally (k .table)) (tick-adds (refusalMark n) c (k .counts))
+    t : Table
+    t = put L (entry node v) (k .table)
+
+    go : (o : Keeping) (b : Bool) →
+        atop c (unlessKept o (λ mark number. tableTally (k .table) (tick mark (k .counts))) (if b (tableTally t (tick Stored (k .counts))) (tableTally (k .table) (tick Unplaced (k .counts)))))
+        ≡ unlessKept o (λ mark number. tableTally (k .table) (tick mark (addCounts c (k .counts))))
+        (if b (tableTally t (tick Stored (addCounts c (k .counts)))) (tableTally (k .table) (tick Unplaced (addCounts c (k .counts)))))
+    go (unkept mark number) b = ap (tableTally (k .table)) (tick-adds mark c (k .counts))
+    go kept true = ap (tableTally t) (tick-adds Stored c (k .counts))
+    go kept false = ap (tableTally (k .table)) (tick-adds Unplaced c (k .counts))
+keep-adds L c node (body b) k = ap (tableTally (k .table)) (tick-adds (bodyMark (definitionOf b)) c (k .counts))
+keep-adds L c node end k = ap (tableTally (k .table)) (tick-adds Ended c (k .counts))
+keep-adds L c node (refused n) k = ap (tableTally (k .table)) (tick-adds (refusalMark n) c (k .counts))

@@ -24,7 +24,7 @@ use Rattle.wing_wire.specs.declared.unit.Answer.the-variants.{More, Integer, Fl
 use Rattle.wing_wire.proofs.Laws.{decoder-laws}
 use Rattle.wing_mirror.specs.Rows.{Table, takes, store}
 use Rattle.wing_mirror.specs.Entry.{entry, storable}
-use Rattle.wing_mirror.specs.Record.{keyOf, recordOf, full}
+use Rattle.wing_mirror.specs.Layout.{kept, Layout, Lawful}
 use Rattle.wing_mirror.specs.Table.{table, usable, fits, put}
 use Rattle.wing_mirror.specs.Puts.{PutResult, putOf, putResult}
 use Rattle.wing_mirror.specs.Counts.{zeroCounts, tick, total}
@@ -32,6 +32,7 @@ use Rattle.wing_mirror.specs.Mirror.{TableTally, tableTally, keep, keepE
 use Rattle.wing_mirror.specs.declared.answer.Counts.{Counts}
 use Rattle.wing_mirror.specs.declared.store.Kept.{Kept as Placed}
 use Rattle.wing_mirror.specs.declared.counts.Mark.the-variants.{Stored, Unplaced}
+use Rattle.wing_mirror.proofs.Records.Choices.{keeping-cases}
 use Rattle.wing_mirror.proofs.Records.Lasting.{entry-usable}
 use Rattle.wing_mirror.proofs.Calls.Tallies.{keep-total}
 use Rattle.wing_mirror.proofs.Histories.Decodes.{string-text}
@@ -53,48 +54,55 @@ smaller c s bytes p =
 -- ---- what is kept of an answer
 
 -- a put of a value's record, and the mark that says whether it was taken
-module _ (node : ℤ) (v : NodeValue) (t : Table) (counts : Counts) (r : List ℕ) (p : Placed) (buffer : List ℕ) (e : r ≡ recordOf (entry node v)) (d : putResult p buffer ≡ putOf full r t) where
+module _ (L : Layout) (node : ℤ) (v : NodeValue) (t : Table) (counts : Counts) (r : List ℕ) (p : Placed) (buffer : List ℕ)
+    (o : L .keeping v ≡ kept) (e : r ≡ L .recordOf (entry node v)) (d : putResult p buffer ≡ putOf L r t) where
+  open Layout L using (width, keyOf, recordOf)
+
   abbrev Chosen : Bool → PutResult
-  Chosen b = if b (record { after = store 264 keyOf (recordOf (entry node v)) t; taken = true }) (record { after = t; taken = false })
+  Chosen b = if b (record { after = store width keyOf (recordOf (entry node v)) t; taken = true }) (record { after = t; taken = false })
 
-  chosen : putResult p buffer ≡ Chosen (takes 264 keyOf (recordOf (entry node v)) t)
+  chosen : putResult p buffer ≡ Chosen (takes width keyOf (recordOf (entry node v)) t)
   unfolding putOf
-  chosen = d ∙ ap (λ (x : List ℕ). putOf full x t) e
+  chosen = d ∙ ap (λ (x : List ℕ). putOf L x t) e
 
-  pub stored-kept : p .taken ≡ true → tableTally (table buffer (p .count)) (tick Stored counts) ≡ keepEvent full node (value v) (tableTally t counts)
+  pub stored-kept : p .taken ≡ true → tableTally (table buffer (p .count)) (tick Stored counts) ≡ keepEvent L node (value v) (tableTally t counts)
   unfolding keepEvent put fits
-  stored-kept m = go (takes 264 keyOf (recordOf (entry node v)) t) chosen
+  stored-kept m = rw o (go (takes width keyOf (recordOf (entry node v)) t) chosen)
     where
       go : (b : Bool) → putResult p buffer ≡ Chosen b →
-          tableTally (table buffer (p .count)) (tick Stored counts) ≡ if b (tableTally (store 264 keyOf (recordOf (entry node v)) t) (tick Stored counts)) (tableTally t (tick Unplaced counts))
+          tableTally (table buffer (p .count)) (tick Stored counts) ≡ if b (tableTally (store width keyOf (recordOf (entry node v)) t) (tick Stored counts)) (tableTally t (tick Unplaced counts))
       go true q = ap (λ (x : PutResult). tableTally (x .after) (tick Stored counts)) q
       go false q = absurd (false≢true (sym (ap (λ (x : PutResult). x .taken) q) ∙ m))
 
-  pub unplaced-kept : p .taken ≡ false → tableTally (table buffer (p .count)) (tick Unplaced counts) ≡ keepEvent full node (value v) (tableTally t counts)
+  pub unplaced-kept : p .taken ≡ false → tableTally (table buffer (p .count)) (tick Unplaced counts) ≡ keepEvent L node (value v) (tableTally t counts)
   unfolding keepEvent put fits
-  unplaced-kept m = go (takes 264 keyOf (recordOf (entry node v)) t) chosen
+  unplaced-kept m = rw o (go (takes width keyOf (recordOf (entry node v)) t) chosen)
     where
       go : (b : Bool) → putResult p buffer ≡ Chosen b →
-          tableTally (table buffer (p .count)) (tick Unplaced counts) ≡ if b (tableTally (store 264 keyOf (recordOf (entry node v)) t) (tick Stored counts)) (tableTally t (tick Unplaced counts))
+          tableTally (table buffer (p .count)) (tick Unplaced counts) ≡ if b (tableTally (store width keyOf (recordOf (entry node v)) t) (tick Stored counts)) (tableTally t (tick Unplaced counts))
       go true q = absurd (false≢true (sym m ∙ ap (λ (x : PutResult). x .taken) q))
       go false q = ap (λ (x : PutResult). tableTally (x .after) (tick Unplaced counts)) q
 
 -- a value that may be kept leaves the table usable
-pub value-usable : (node : ℤ) (v : NodeValue) (k : TableTally) → storable v ≡ true → usable full (k .table) ≡ true → usable full (keepEvent full node (value v) k .table) ≡ true
+pub value-usable : {L : Layout} → Lawful L → (node : ℤ) (v : NodeValue) (k : TableTally) → (L .keeping v ≡ kept → storable v ≡ true) → usable L (k .table) ≡ true → usable L (keepEvent L node (value v) k .table) ≡ true
 unfolding keepEvent
-value-usable node v k h u =
-    branch (λ (x : TableTally). usable full (x .table) ≡ true) (fits full (entry node v) (k .table)) (tableTally (put full (entry node v) (k .table)) (tick Stored (k .counts))) (tableTally (k .table) (tick Unplaced (k .counts))) (λ f. entry-usable (entry node v) (k .table) h u f) (λ _. u)
+value-usable {L} laws node v k h u =
+    keeping-cases P (L .keeping v) _ _ (λ mark number. u)
+    (λ o. branch P (fits L (entry node v) (k .table)) _ _ (λ f. entry-usable laws (entry node v) (k .table) (h o) o u f) (λ _. u))
+  where
+    P : TableTally → Type 0
+    P x = usable L (x .table) ≡ true
 
 -- what is kept of an answer within its bounds leaves the table usable
-pub kept-usable : (node : ℤ) (a : Answer) (s : List ℕ) (k : TableTally) → Within a s → usable full (k .table) ≡ true → usable full (keep full node a s k .table) ≡ true
+pub kept-usable : {L : Layout} → Lawful L → (node : ℤ) (a : Answer) (s : List ℕ) (k : TableTally) → Within a s → usable L (k .table) ≡ true → usable L (keep L node a s k .table) ≡ true
 unfolding eventOf keepEvent storable
-kept-usable node More s k w u = u
-kept-usable node (Integer x) s k w u = value-usable node (integer x) k refl u
-kept-usable node (Float bits) s k w u = value-usable node (float bits) k refl u
-kept-usable node (String n) s k w u = value-usable node (string (take n s)) k (string-text n s (w .0) (w .1)) u
-kept-usable node (Body n) s k w u = u
-kept-usable node End s k w u = u
-kept-usable node (Refused n) s k w u = u
+kept-usable laws node More s k w u = u
+kept-usable laws node (Integer x) s k w u = value-usable laws node (integer x) k (λ _. refl) u
+kept-usable laws node (Float bits) s k w u = value-usable laws node (float bits) k (λ _. refl) u
+kept-usable laws node (String n) s k w u = value-usable laws node (string (take n s)) k (λ _. string-text n s (w .0) (w .1)) u
+kept-usable laws node (Body n) s k w u = u
+kept-usable laws node End s k w u = u
+kept-usable laws node (Refused n) s k w u = u
 
 -- ---- a turn
 
@@ -106,25 +114,25 @@ abbrev pub fed : Control → List ℕ → TableTally → Fed TableTally
 fed c s k = record { control = c; store = s; memo = k }
 
 -- where a feed stands: the bytes up to i are taken
-pub record FeedInvariant (bytes : List ℕ) (start : Fed TableTally) (c : Control) (s : List ℕ) (k : TableTally) (i : ℕ) : Type 0 where
+pub record FeedInvariant (L : Layout) (bytes : List ℕ) (start : Fed TableTally) (c : Control) (s : List ℕ) (k : TableTally) (i : ℕ) : Type 0 where
   pub within : i ≤ length bytes
-  pub same : feedOf (keep full) (fed c s k) (drop i bytes) ≡ feedOf (keep full) start bytes
+  pub same : feedOf (keep L) (fed c s k) (drop i bytes) ≡ feedOf (keep L) start bytes
   pub bounded : TokenWithin (c .token)
-  pub ready : usable full (k .table) ≡ true
+  pub ready : usable L (k .table) ≡ true
   pub few : total (k .counts) + left bytes c i ≤ 131073
 
-pub begun : (bytes : List ℕ) (c : Control) (s : List ℕ) (t : Table) (counts : Counts) → counts ≡ zeroCounts → length bytes ≤ 65536 → TokenWithin (c .token) → usable full t ≡ true →
-    FeedInvariant bytes (fed c s (tableTally t zeroCounts)) c s (tableTally t counts) 0
-begun bytes c s t counts e h g u =
+pub begun : (L : Layout) (bytes : List ℕ) (c : Control) (s : List ℕ) (t : Table) (counts : Counts) → counts ≡ zeroCounts → length bytes ≤ 65536 → TokenWithin (c .token) → usable L t ≡ true →
+    FeedInvariant L bytes (fed c s (tableTally t zeroCounts)) c s (tableTally t counts) 0
+begun L bytes c s t counts e h g u =
     record {
       within = omega arith;
-      same = ap (λ (x : Counts). feedOf (keep full) (fed c s (tableTally t x)) bytes) e;
+      same = ap (λ (x : Counts). feedOf (keep L) (fed c s (tableTally t x)) bytes) e;
       bounded = g;
       ready = u;
       few = omega (arith, ap (λ (x : Counts). total x) e, waiting-one (c .escape .pending));
     }
 
-module _ {bytes : List ℕ} {start : Fed TableTally} {c : Control} {s : List ℕ} {k : TableTally} {i : ℕ} (g : FeedInvariant bytes start c s k i)
+module _ {L : Layout} (laws : Lawful L) {bytes : List ℕ} {start : Fed TableTally} {c : Control} {s : List ℕ} {k : TableTally} {i : ℕ} (g : FeedInvariant L bytes start c s k i)
     (r : Advanced) (t : List ℕ) (e : run r t ≡ advanceOf c s (take (length bytes - i) (drop i bytes))) where
   -- the bytes lent are those not taken yet
   said : run r t ≡ advanceOf c s (drop i bytes)
@@ -137,10 +145,10 @@ module _ {bytes : List ℕ} {start : Fed TableTally} {c : Control} {s : List ℕ
       omega (arith, decoder-laws .next .within c s (drop i bytes), length-drop i bytes)
 
   -- the call that answers more is the last
-  pub ended : isMore (r .answer) ≡ true → fed (r .control) t k ≡ feedOf (keep full) start bytes
+  pub ended : isMore (r .answer) ≡ true → fed (r .control) t k ≡ feedOf (keep L) start bytes
   ended m =
       let h : isMore (advanceOf c s (drop i bytes) .heard .told .answer) ≡ true = ap (λ (x : Run). isMore (x .heard .told .answer)) (sym said) ∙ m in
-      ap (λ (x : Run). fed (x .heard .told .control) (x .heard .store) k) said ∙ sym (decoder-laws .feed .ends (keep full) (fed c s k) (drop i bytes) h) ∙ g .same
+      ap (λ (x : Run). fed (x .heard .told .control) (x .heard .store) k) said ∙ sym (decoder-laws .feed .ends (keep L) (fed c s k) (drop i bytes) h) ∙ g .same
 
   pub less-left : isMore (r .answer) ≡ false → left bytes (r .control) (i + r .taken) + 1 ≤ left bytes c i
   less-left m =
@@ -155,24 +163,24 @@ module _ {bytes : List ℕ} {start : Fed TableTally} {c : Control} {s : List ℕ
 
   -- after a turn, with what was kept and released
   turn : isMore (r .answer) ≡ false →
-      FeedInvariant bytes start (r .control) (released (r .answer) t) (keep full (r .control .node) (r .answer) t k) (i + r .taken)
+      FeedInvariant L bytes start (r .control) (released (r .answer) t) (keep L (r .control .node) (r .answer) t k) (i + r .taken)
   turn m =
       let h : isMore (advanceOf c s (drop i bytes) .heard .told .answer) ≡ false = ap (λ (x : Run). isMore (x .heard .told .answer)) (sym said) ∙ m in
       let w = answer-bounded in
       record {
         within = inside;
         same =
-            ap (λ (b : List ℕ). feedOf (keep full) (fed (r .control) (released (r .answer) t) (keep full (r .control .node) (r .answer) t k)) b) (sym (drop-drop (r .taken) i bytes))
-            ∙ ap (λ (x : Run). feedOf (keep full) (fed (x .heard .told .control) (released (x .heard .told .answer) (x .heard .store)) (keep full (x .heard .told .control .node) (x .heard .told .answer) (x .heard .store) k)) (drop (x .taken) (drop i bytes))) said
-            ∙ sym (decoder-laws .feed .again (keep full) (fed c s k) (drop i bytes) h)
+            ap (λ (b : List ℕ). feedOf (keep L) (fed (r .control) (released (r .answer) t) (keep L (r .control .node) (r .answer) t k)) b) (sym (drop-drop (r .taken) i bytes))
+            ∙ ap (λ (x : Run). feedOf (keep L) (fed (x .heard .told .control) (released (x .heard .told .answer) (x .heard .store)) (keep L (x .heard .told .control .node) (x .heard .told .answer) (x .heard .store) k)) (drop (x .taken) (drop i bytes))) said
+            ∙ sym (decoder-laws .feed .again (keep L) (fed c s k) (drop i bytes) h)
             ∙ g .same;
         bounded = w .token;
-        ready = kept-usable (r .control .node) (r .answer) t k (w .within) (g .ready);
-        few = let f = g .few in omega (arith, less-left m, keep-total (r .control .node) (eventOf (r .answer) t t) k);
+        ready = kept-usable laws (r .control .node) (r .answer) t k (w .within) (g .ready);
+        few = let f = g .few in omega (arith, less-left m, keep-total L (r .control .node) (eventOf (r .answer) t t) k);
       }
 
-  pub again : isMore (r .answer) ≡ false → (t′ : List ℕ) → t′ ≡ released (r .answer) t → (k′ : TableTally) → k′ ≡ keep full (r .control .node) (r .answer) t k →
-      FeedInvariant bytes start (r .control) t′ k′ (i + r .taken)
+  pub again : isMore (r .answer) ≡ false → (t′ : List ℕ) → t′ ≡ released (r .answer) t → (k′ : TableTally) → k′ ≡ keep L (r .control .node) (r .answer) t k →
+      FeedInvariant L bytes start (r .control) t′ k′ (i + r .taken)
   again m t′ et k′ ek =
-      subst (λ (x : List ℕ). FeedInvariant bytes start (r .control) x k′ (i + r .taken)) (sym et)
-      (subst (λ (x : TableTally). FeedInvariant bytes start (r .control) (released (r .answer) t) x (i + r .taken)) (sym ek) (turn m))
+      subst (λ (x : List ℕ). FeedInvariant L bytes start (r .control) x k′ (i + r .taken)) (sym et)
+      (subst (λ (x : TableTally). FeedInvariant L bytes start (r .control) (released (r .answer) t) x (i + r .taken)) (sym ek) (turn m))

@@ -13,18 +13,18 @@ use Rattle.wing_wire.specs.Reader.{Event, more, value, body, end, refused}
 use Rattle.wing_wire.specs.State.{freshState}
 use Rattle.wing_mirror.specs.Rows.{joined, rising, In, All}
 use Rattle.wing_mirror.specs.Entry.{Entry, entry}
-use Rattle.wing_mirror.specs.Record.{full}
+use Rattle.wing_mirror.specs.Layout.{Keeping, kept, unkept, unlessKept, Layout, ValidEntry}
 use Rattle.wing_mirror.specs.Table.{placesAllowed}
 use Rattle.wing_mirror.specs.Counts.{zeroCounts}
 use Rattle.wing_mirror.specs.Call.{feed, runAll}
 use Rattle.wing_mirror.specs.Machine.{StreamEvent, sameId, has, putIn, room, Machine, newMachine, MapTally, mapTally, machineEvent, machineEvents, stateAfter, events, machineStep}
 use Rattle.wing_mirror.specs.Recall.{setOf}
 use Rattle.wing_mirror.specs.History.{rank, inOrder, machineRun}
+use Rattle.wing_mirror.specs.declared.counts.Mark.{Mark}
 use Rattle.wing_mirror.proofs.Tables.Ordered.{insert-front, rising-head, rising-tail}
 use Rattle.wing_mirror.proofs.Tables.Members.{above}
 use Rattle.wing_mirror.proofs.Records.Ids.{same-id}
 use Rattle.wing_mirror.proofs.Histories.Along.{foldEvents}
-use Rattle.wing_mirror.proofs.Histories.Maps.{ValidEntry}
 use Rattle.wing_mirror.proofs.Histories.Recalls.{events-pieces, entryEvent, recall-events}
 
 -- events handed on in two lists
@@ -66,37 +66,40 @@ unfolding inOrder
 order-own [] r = refl
 order-own (e ∷ es) r = rw (order-own es (rising-tail rank e es r)) (insert-front rank e es (rising-head rank e es r))
 
-module _ (places : ℕ) where
+module _ (L : Layout) (places : ℕ) where
+  open Layout L using (keeping)
+
   -- what an event makes of the map alone
   unfoldable mapEvent : ℤ → Event → List Entry → List Entry
   mapEvent node more m = m
-  mapEvent node (value v) m = if (room places node m) (putIn (entry node v) m) m
+  mapEvent node (value v) m = unlessKept (keeping v) (λ mark number. m) (if (room places node m) (putIn (entry node v) m) m)
   mapEvent node (body b) m = m
   mapEvent node end m = m
   mapEvent node (refused n) m = m
 
-  if-map : (t : Bool) (x y : MapTally) → (if t x y) .map ≡ if t (x .map) (y .map)
-  if-map true x y = refl
-  if-map false x y = refl
+  kept-map : (k : Keeping) (t : Bool) (f : Mark → ℕ → MapTally) (x y : MapTally) → (unlessKept k f (if t x y)) .map ≡ unlessKept k (λ mark number. f mark number .map) (if t (x .map) (y .map))
+  kept-map (unkept mark number) t f x y = refl
+  kept-map kept true f x y = refl
+  kept-map kept false f x y = refl
 
-  machine-event-map : (node : ℤ) (e : Event) (h : MapTally) → machineEvent (full .keeping) places node e h .map ≡ mapEvent node e (h .map)
+  machine-event-map : (node : ℤ) (e : Event) (h : MapTally) → machineEvent keeping places node e h .map ≡ mapEvent node e (h .map)
   unfolding machineEvent mapEvent
   machine-event-map node more h = refl
-  machine-event-map node (value v) h = if-map (room places node (h .map)) _ _
+  machine-event-map node (value v) h = kept-map (keeping v) (room places node (h .map)) _ _ _
   machine-event-map node (body b) h = refl
   machine-event-map node end h = refl
   machine-event-map node (refused n) h = refl
 
-  machine-events-map : (rs : List StreamEvent) (h : MapTally) → machineEvents (full .keeping) places rs h .map ≡ foldEvents mapEvent rs (h .map)
+  machine-events-map : (rs : List StreamEvent) (h : MapTally) → machineEvents keeping places rs h .map ≡ foldEvents mapEvent rs (h .map)
   unfolding machineEvents foldEvents
   machine-events-map [] h = refl
-  machine-events-map (r ∷ rs) h = machine-events-map rs (machineEvent (full .keeping) places (r .node) (r .event) h) ∙ ap (foldEvents mapEvent rs) (machine-event-map (r .node) (r .event) h)
+  machine-events-map (r ∷ rs) h = machine-events-map rs (machineEvent keeping places (r .node) (r .event) h) ∙ ap (foldEvents mapEvent rs) (machine-event-map (r .node) (r .event) h)
 
   -- the machine after an accepted feed
   abbrev fedTo : Machine → List ℕ → Machine
   fedTo s p = record { decoder = stateAfter (s .decoder) p; map = foldEvents mapEvent (events (s .decoder) p) (s .map) }
 
-  one-feed : placesAllowed places ≡ true → (s : Machine) (p : List ℕ) → length p ≤ 65536 → machineStep (full .keeping) places s (feed p) .state ≡ fedTo s p
+  one-feed : placesAllowed places ≡ true → (s : Machine) (p : List ℕ) → length p ≤ 65536 → machineStep keeping places s (feed p) .state ≡ fedTo s p
   unfolding machineStep
   one-feed r s p a =
       rw (r, le-ltb 65536 (length p) a)
@@ -104,35 +107,35 @@ module _ (places : ℕ) where
 
   -- feeds in a row are one feed of their bytes joined
   feeds : placesAllowed places ≡ true → (s : Machine) (p : List ℕ) (ps : List (List ℕ)) → All (λ (q : List ℕ). length q ≤ 65536) (p ∷ ps) →
-      runAll (machineStep (full .keeping) places) s (map feed (p ∷ ps)) .state .map ≡ foldEvents mapEvent (events (s .decoder) (joined (p ∷ ps))) (s .map)
+      runAll (machineStep keeping places) s (map feed (p ∷ ps)) .state .map ≡ foldEvents mapEvent (events (s .decoder) (joined (p ∷ ps))) (s .map)
   unfolding runAll joined
   feeds r s p [] a = ap (λ (x : Machine). x .map) (one-feed r s p (a .0)) ∙ rw (append-nil p)
   feeds r s p (q ∷ ps) a =
-      ap (λ (x : Machine). runAll (machineStep (full .keeping) places) x (map feed (q ∷ ps)) .state .map) (one-feed r s p (a .0))
+      ap (λ (x : Machine). runAll (machineStep keeping places) x (map feed (q ∷ ps)) .state .map) (one-feed r s p (a .0))
       ∙ feeds r (fedTo s p) q ps (a .1)
       ∙ sym (ap (λ (rs : List StreamEvent). foldEvents mapEvent rs (s .map)) (events-pieces (s .decoder) p (joined (q ∷ ps))) ∙ fold-append mapEvent (events (s .decoder) p) _ (s .map))
 
-  map-event-new : (e : Entry) (m : List Entry) → has (e .id) m ≡ false → length m < places → mapEvent (e .id) (value (e .value)) m ≡ m ++ (e ∷ [])
+  map-event-new : (e : Entry) (m : List Entry) → keeping (e .value) ≡ kept → has (e .id) m ≡ false → length m < places → mapEvent (e .id) (value (e .value)) m ≡ m ++ (e ∷ [])
   unfolding mapEvent room
-  map-event-new e m h l = rw (h, lt-ltb (length m) places l) (put-last e m h)
+  map-event-new e m k h l = rw (k, h, lt-ltb (length m) places l) (put-last e m h)
 
   -- rising entries, put into the map one after the other
-  map-events : (es m : List Entry) → rising rank (m ++ es) ≡ true → length m + length es ≤ places → foldEvents mapEvent (map entryEvent es) m ≡ m ++ es
+  map-events : (es m : List Entry) → All (ValidEntry L) es → rising rank (m ++ es) ≡ true → length m + length es ≤ places → foldEvents mapEvent (map entryEvent es) m ≡ m ++ es
   unfolding foldEvents
-  map-events [] m r l = sym (append-nil m)
-  map-events (e ∷ es) m r l =
+  map-events [] m p r l = sym (append-nil m)
+  map-events (e ∷ es) m p r l =
       let n = length-append m (e ∷ []) in
-      ap (foldEvents mapEvent (map entryEvent es)) (map-event-new e m (has-not e m es r) (omega arith))
-      ∙ map-events es (m ++ (e ∷ [])) (rw (append-assoc m (e ∷ []) es) r) (omega arith) ∙ append-assoc m (e ∷ []) es
+      ap (foldEvents mapEvent (map entryEvent es)) (map-event-new e m (p .0 .isKept) (has-not e m es r) (omega arith))
+      ∙ map-events es (m ++ (e ∷ [])) (p .1) (rw (append-assoc m (e ∷ []) es) r) (omega arith) ∙ append-assoc m (e ∷ []) es
 
   -- the machine that is fed it, in any pieces
-  pub map-rebuilt : (es : List Entry) → All ValidEntry es → rising rank es ≡ true → length es ≤ places → placesAllowed places ≡ true →
+  pub map-rebuilt : (es : List Entry) → All (ValidEntry L) es → rising rank es ≡ true → length es ≤ places → placesAllowed places ≡ true →
       (pieces : List (List ℕ)) → All (λ (q : List ℕ). length q ≤ 65536) pieces → joined pieces ≡ 0xdf ∷ 0xd1 ∷ joined (map setOf es) →
-      machineRun full places (map feed pieces) .state .map ≡ es
+      machineRun L places (map feed pieces) .state .map ≡ es
   unfolding joined
   map-rebuilt es p r l n [] a q = cc
   map-rebuilt es p r l n (x ∷ xs) a q =
       feeds n newMachine x xs a
       ∙ ap (λ (bytes : List ℕ). foldEvents mapEvent (events freshState bytes) []) q
-      ∙ ap (λ (rs : List StreamEvent). foldEvents mapEvent rs []) (recall-events es p)
-      ∙ map-events es [] r (omega arith)
+      ∙ ap (λ (rs : List StreamEvent). foldEvents mapEvent rs []) (recall-events L es p)
+      ∙ map-events es [] p r (omega arith)

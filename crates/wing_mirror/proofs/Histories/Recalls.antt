@@ -18,10 +18,10 @@ use Rattle.wing_wire.specs.declared.state.State.{State}
 use Rattle.wing_wire.proofs.Laws.{decoder-laws}
 use Rattle.wing_mirror.specs.Rows.{joined, All}
 use Rattle.wing_mirror.specs.Entry.{Entry, storable, Typed}
+use Rattle.wing_mirror.specs.Layout.{Layout, ValidEntry}
 use Rattle.wing_mirror.specs.Machine.{StreamEvent, streamEvent, appendEvent, decodeAll, stateAfter, events}
 use Rattle.wing_mirror.specs.Recall.{setOf}
 use Rattle.wing_mirror.proofs.Records.Usables.{both}
-use Rattle.wing_mirror.proofs.Histories.Maps.{ValidEntry}
 
 -- the events of bytes that come in two pieces are those of each, one after the other
 pub decode-pieces : (s : State) (a b : List ℕ) →
@@ -68,22 +68,22 @@ abbrev pub entryEvent : Entry → StreamEvent
 entryEvent e = streamEvent (e .id) (value (e .value))
 
 -- a set order is its value at its node
-set-event : (node : ℤ) (e : Entry) → ValidEntry e → decodeAll (rest node) (setOf e) ≡ record { control = rest (e .id) .control; store = rest (e .id) .store; memo = entryEvent e ∷ [] }
+set-event : {L : Layout} (node : ℤ) (e : Entry) → ValidEntry L e → decodeAll (rest node) (setOf e) ≡ record { control = rest (e .id) .control; store = rest (e .id) .store; memo = entryEvent e ∷ [] }
 unfolding decodeAll
 set-event node e h =
     decoder-laws .feed .order (λ n x rs. rs ++ (streamEvent n x ∷ [])) (pos 1) node (e .id) (replicate 4096 0) (e .value) [] (setOf e ∷ []) (h .node) (settable (e .value) (h .typed) (h .text))
     (length-replicate {A = ℕ} 4096 0) (rest-sound node) (append-nil (setOf e))
 
 -- set orders one after the other are their values in order
-set-events : (es : List Entry) (node : ℤ) → All ValidEntry es → events (rest node) (joined (map setOf es)) ≡ map entryEvent es
+set-events : (L : Layout) (es : List Entry) (node : ℤ) → All (ValidEntry L) es → events (rest node) (joined (map setOf es)) ≡ map entryEvent es
 unfolding joined
-set-events [] node h = no-bytes
+set-events L [] node h = no-bytes
   where
     no-bytes : events (rest node) [] ≡ []
     no-bytes = unfold decodeAll in ap (λ (x : Fed (List StreamEvent)). x .memo) (decoder-laws .feed .none appendEvent (record { control = rest node .control; store = rest node .store; memo = [] }) refl)
-set-events (e ∷ es) node h =
-    onward (rest node) (setOf e) (joined (map setOf es)) _ (set-event node e (h .0)) ∙ ap (λ (l : List StreamEvent). entryEvent e ∷ l) (set-events es (e .id) (h .1))
+set-events L (e ∷ es) node h =
+    onward (rest node) (setOf e) (joined (map setOf es)) _ (set-event node e (h .0)) ∙ ap (λ (l : List StreamEvent). entryEvent e ∷ l) (set-events L es (e .id) (h .1))
 
 -- what recall writes
-pub recall-events : (es : List Entry) → All ValidEntry es → events freshState (0xdf ∷ 0xd1 ∷ joined (map setOf es)) ≡ map entryEvent es
-recall-events es h = onward freshState (0xdf ∷ 0xd1 ∷ []) (joined (map setOf es)) _ opened ∙ set-events es (pos 0) h
+pub recall-events : (L : Layout) (es : List Entry) → All (ValidEntry L) es → events freshState (0xdf ∷ 0xd1 ∷ joined (map setOf es)) ≡ map entryEvent es
+recall-events L es h = onward freshState (0xdf ∷ 0xd1 ∷ []) (joined (map setOf es)) _ opened ∙ set-events L es (pos 0) h

@@ -15,7 +15,7 @@ use Rattle.wing_wire.specs.Range.{AreBytes}
 use Rattle.wing_wire.specs.Command.{setBytes}
 use Rattle.wing_mirror.specs.Rows.{Table, All}
 use Rattle.wing_mirror.specs.Entry.{entry}
-use Rattle.wing_mirror.specs.Record.{full}
+use Rattle.wing_mirror.specs.Layout.{Keeping, kept, unkept, Layout, ValidEntry, Lawful}
 use Rattle.wing_mirror.specs.Table.{placesAllowed, usable, put, fits}
 use Rattle.wing_mirror.specs.Counts.{zeroCounts}
 use Rattle.wing_mirror.specs.Call.{Call, feed, set, tooLong, notText, fed, sent, Step, History, runAll, TypedCall}
@@ -24,21 +24,27 @@ use Rattle.wing_mirror.specs.Machine.{Machine, newMachine, mapTally, roo
 use Rattle.wing_mirror.specs.History.{Mirror, newMirror, feedOutcome, setOutcome, mirrorStep, placesIn, inOrder}
 use Rattle.wing_mirror.proofs.Tables.Chunks.{laid-nil}
 use Rattle.wing_mirror.proofs.Histories.Along.{foldEvents}
-use Rattle.wing_mirror.proofs.Histories.Maps.{ValidEntry}
 use Rattle.wing_mirror.proofs.Histories.Mirrored.{tableOf, usable-image, fits-image, put-image}
 use Rattle.wing_mirror.proofs.Histories.Decodes.{events-valid}
 use Rattle.wing_mirror.proofs.Histories.Events.{tableTallyOf, keep-all-image}
-use Rattle.wing_mirror.proofs.Calls.Outcomes.{feed-7, feed-14, feed-taken, fed-events, set-7, set-10, set-1, set-6, set-9, set-sent}
+use Rattle.wing_mirror.proofs.Calls.Outcomes.{feed-7, feed-14, feed-taken, fed-events, set-7, set-unkept, set-10, set-1, set-6, set-9, set-sent}
 use Rattle.wing_mirror.proofs.Histories.Invariant.{Invariant, invariant-new, set-valid, invariant-step}
 
-module _ (buffer : List ℕ) where
+module _ (L : Layout) (buffer : List ℕ) where
   -- the mirror that a machine makes of the buffer
   abbrev pub mirrorOf : Machine → Mirror
-  mirrorOf s = record { decoder = s .decoder; table = tableOf buffer (s .map) }
+  mirrorOf s = record { decoder = s .decoder; table = tableOf L buffer (s .map) }
 
   -- the image of a step
   abbrev imageStep : Step Machine → Step Mirror
   imageStep r = record { state = mirrorOf (r .state); outcome = r .outcome }
+
+  -- the image of a history
+  abbrev pub imageRun : History Machine → History Mirror
+  imageRun r = record { state = mirrorOf (r .state); outcomes = r .outcomes }
+
+module _ {L : Layout} (laws : Lawful L) (buffer : List ℕ) where
+  open Layout L using (width, keeping)
 
   -- the mirror after a feed
   abbrev afterFeed : Feeding → Step Mirror
@@ -49,93 +55,91 @@ module _ (buffer : List ℕ) where
   afterSet s x = record { state = record { decoder = s .decoder; table = x .table }; outcome = setOutcome (x .answer) (x .out) }
 
   -- a feed
-  feed-image : (s : Machine) (bytes : List ℕ) → AreBytes bytes → Invariant (placesIn full buffer) s →
-      mirrorStep full (mirrorOf s) (feed bytes) ≡ imageStep (machineStep (full .keeping) (placesIn full buffer) s (feed bytes))
+  feed-image : (s : Machine) (bytes : List ℕ) → AreBytes bytes → Invariant L (placesIn L buffer) s →
+      mirrorStep L (mirrorOf L buffer s) (feed bytes) ≡ imageStep L buffer (machineStep keeping (placesIn L buffer) s (feed bytes))
   unfolding mirrorStep machineStep
-  feed-image s bytes t w = go (placesAllowed (placesIn full buffer)) refl (ltb 65536 (length bytes)) refl
+  feed-image s bytes t w = go (placesAllowed (placesIn L buffer)) refl (ltb 65536 (length bytes)) refl
     where
       T : Table
-      T = tableOf buffer (s .map)
+      T = tableOf L buffer (s .map)
 
       g : soundState (s .decoder) ≡ true
       g = w .decoder .sound
 
-      u : usable full T ≡ placesAllowed (placesIn full buffer)
-      u = usable-image buffer (s .map) (w .map)
+      u : usable L T ≡ placesAllowed (placesIn L buffer)
+      u = usable-image laws buffer (s .map) (w .map)
 
-      events-counted : foldEvents (keepEvent full) (events (s .decoder) bytes) (tableTally T zeroCounts) ≡ tableTallyOf buffer (machineFeed (full .keeping) (placesIn full buffer) s bytes)
-      events-counted = keep-all-image buffer (events (s .decoder) bytes) (mapTally (s .map) zeroCounts) (events-valid (s .decoder) bytes t (w .decoder)) (w .map)
+      events-counted : foldEvents (keepEvent L) (events (s .decoder) bytes) (tableTally T zeroCounts) ≡ tableTallyOf L buffer (machineFeed keeping (placesIn L buffer) s bytes)
+      events-counted = keep-all-image laws buffer (events (s .decoder) bytes) (mapTally (s .map) zeroCounts) (events-valid (s .decoder) bytes t (w .decoder) L) (w .map)
 
-      go : (a : Bool) → placesAllowed (placesIn full buffer) ≡ a → (b : Bool) → ltb 65536 (length bytes) ≡ b →
-          mirrorStep full (mirrorOf s) (feed bytes) ≡ imageStep (machineStep (full .keeping) (placesIn full buffer) s (feed bytes))
-      go false p b q = rw p (ap afterFeed (feed-7 (s .decoder) T bytes g (u ∙ p)))
-      go true p true q = rw (p, q) (ap afterFeed (feed-14 (s .decoder) T bytes g (u ∙ p) (ltb-true 65536 (length bytes) q)))
+      go : (a : Bool) → placesAllowed (placesIn L buffer) ≡ a → (b : Bool) → ltb 65536 (length bytes) ≡ b →
+          mirrorStep L (mirrorOf L buffer s) (feed bytes) ≡ imageStep L buffer (machineStep keeping (placesIn L buffer) s (feed bytes))
+      go false p b q = rw p (ap afterFeed (feed-7 L (s .decoder) T bytes g (u ∙ p)))
+      go true p true q = rw (p, q) (ap afterFeed (feed-14 L (s .decoder) T bytes g (u ∙ p) (ltb-true 65536 (length bytes) q)))
       go true p false q =
           rw (p, q)
-          (ap afterFeed (feed-taken (s .decoder) T bytes g (u ∙ p) (ltb-false 65536 (length bytes) q))
-          ∙ ap (λ (x : Fed TableTally). afterFeed (takenFeed x)) (fed-events (s .decoder) T bytes)
+          (ap afterFeed (feed-taken L (s .decoder) T bytes g (u ∙ p) (ltb-false 65536 (length bytes) q))
+          ∙ ap (λ (x : Fed TableTally). afterFeed (takenFeed x)) (fed-events L (s .decoder) T bytes)
           ∙ ap (λ (k : TableTally). record { state = record { decoder = stateAfter (s .decoder) bytes; table = k .table }; outcome = fed (k .counts) }) events-counted)
 
   -- a set
-  set-image : (s : Machine) (id : ℤ) (v : NodeValue) (out : List ℕ) → TypedCall (set id v out) → Invariant (placesIn full buffer) s →
-      mirrorStep full (mirrorOf s) (set id v out) ≡ imageStep (machineStep (full .keeping) (placesIn full buffer) s (set id v out))
+  set-image : (s : Machine) (id : ℤ) (v : NodeValue) (out : List ℕ) → TypedCall (set id v out) → Invariant L (placesIn L buffer) s →
+      mirrorStep L (mirrorOf L buffer s) (set id v out) ≡ imageStep L buffer (machineStep keeping (placesIn L buffer) s (set id v out))
   unfolding mirrorStep machineStep
   set-image s id v out t w =
-      go (placesAllowed (placesIn full buffer)) refl (tooLong v) refl (notText v) refl (room (placesIn full buffer) id (s .map)) refl (ltb (length out) (length (setBytes id v))) refl
+      go (placesAllowed (placesIn L buffer)) refl (keeping v) refl (tooLong v) refl (notText v) refl (room (placesIn L buffer) id (s .map)) refl (ltb (length out) (length (setBytes id v))) refl
     where
       T : Table
-      T = tableOf buffer (s .map)
+      T = tableOf L buffer (s .map)
 
-      u : usable full T ≡ placesAllowed (placesIn full buffer)
-      u = usable-image buffer (s .map) (w .map)
+      u : usable L T ≡ placesAllowed (placesIn L buffer)
+      u = usable-image laws buffer (s .map) (w .map)
 
-      go : (a : Bool) → placesAllowed (placesIn full buffer) ≡ a → (b : Bool) → tooLong v ≡ b → (c : Bool) → notText v ≡ c → (d : Bool) → room (placesIn full buffer) id (s .map) ≡ d →
-          (l : Bool) → ltb (length out) (length (setBytes id v)) ≡ l → mirrorStep full (mirrorOf s) (set id v out) ≡ imageStep (machineStep (full .keeping) (placesIn full buffer) s (set id v out))
-      go false p b q c r d e l f = rw p (ap (afterSet s) (set-7 id v T out (u ∙ p)))
-      go true p true q c r d e l f = rw (p, q) (ap (afterSet s) (set-10 id v T out (u ∙ p) q))
-      go true p false q true r d e l f = rw (p, q, r) (ap (afterSet s) (set-1 id v T out (u ∙ p) q r))
-      go true p false q false r d e l f = last d e l f
+      go : (a : Bool) → placesAllowed (placesIn L buffer) ≡ a → (k : Keeping) → keeping v ≡ k → (b : Bool) → tooLong v ≡ b → (c : Bool) → notText v ≡ c →
+          (d : Bool) → room (placesIn L buffer) id (s .map) ≡ d → (l : Bool) → ltb (length out) (length (setBytes id v)) ≡ l →
+          mirrorStep L (mirrorOf L buffer s) (set id v out) ≡ imageStep L buffer (machineStep keeping (placesIn L buffer) s (set id v out))
+      go false p k o b q c r d e l f = rw p (ap (afterSet s) (set-7 L id v T out (u ∙ p)))
+      go true p (unkept mark number) o b q c r d e l f = rw (p, o) (ap (afterSet s) (set-unkept L id v T out (u ∙ p) mark number o))
+      go true p kept o true q c r d e l f = rw (p, o, q) (ap (afterSet s) (set-10 L id v T out (u ∙ p) o q))
+      go true p kept o false q true r d e l f = rw (p, o, q, r) (ap (afterSet s) (set-1 L id v T out (u ∙ p) o q r))
+      go true p kept o false q false r d e l f = last d e l f
         where
-          k : ValidEntry (entry id v)
-          k = set-valid id v (t .0) (t .1) q r
+          valid : ValidEntry L (entry id v)
+          valid = set-valid id v (t .0) (t .1) o q r
 
-          i : fits full (entry id v) T ≡ room (placesIn full buffer) id (s .map)
-          i = fits-image buffer (s .map) (w .map) (entry id v) k
+          i : fits L (entry id v) T ≡ room (placesIn L buffer) id (s .map)
+          i = fits-image laws buffer (s .map) (w .map) (entry id v) valid
 
-          last : (d : Bool) → room (placesIn full buffer) id (s .map) ≡ d → (l : Bool) → ltb (length out) (length (setBytes id v)) ≡ l →
-              mirrorStep full (mirrorOf s) (set id v out) ≡ imageStep (machineStep (full .keeping) (placesIn full buffer) s (set id v out))
-          last false e l f = rw (p, q, r, e) (ap (afterSet s) (set-6 id v T out (u ∙ p) q r (i ∙ e)))
-          last true e true f = rw (p, q, r, e, f) (ap (afterSet s) (set-9 id v T out (u ∙ p) q r (i ∙ e) f))
+          last : (d : Bool) → room (placesIn L buffer) id (s .map) ≡ d → (l : Bool) → ltb (length out) (length (setBytes id v)) ≡ l →
+              mirrorStep L (mirrorOf L buffer s) (set id v out) ≡ imageStep L buffer (machineStep keeping (placesIn L buffer) s (set id v out))
+          last false e l f = rw (p, o, q, r, e) (ap (afterSet s) (set-6 L id v T out (u ∙ p) o q r (i ∙ e)))
+          last true e true f = rw (p, o, q, r, e, f) (ap (afterSet s) (set-9 L id v T out (u ∙ p) o q r (i ∙ e) f))
           last true e false f =
-              rw (p, q, r, e, f)
-              (ap (afterSet s) (set-sent id v T out (u ∙ p) q r (i ∙ e) f)
-              ∙ ap (λ (o : List ℕ). record { state = record { decoder = s .decoder; table = put full (entry id v) T }; outcome = sent o }) (take-at (setBytes id v) (drop (length (setBytes id v)) out) (length (setBytes id v)) refl)
-              ∙ ap (λ (x : Table). record { state = record { decoder = s .decoder; table = x }; outcome = sent (setBytes id v) }) (put-image buffer (s .map) (w .map) (entry id v) k))
+              rw (p, o, q, r, e, f)
+              (ap (afterSet s) (set-sent L id v T out (u ∙ p) o q r (i ∙ e) f)
+              ∙ ap (λ (x : List ℕ). record { state = record { decoder = s .decoder; table = put L (entry id v) T }; outcome = sent x }) (take-at (setBytes id v) (drop (length (setBytes id v)) out) (length (setBytes id v)) refl)
+              ∙ ap (λ (x : Table). record { state = record { decoder = s .decoder; table = x }; outcome = sent (setBytes id v) }) (put-image laws buffer (s .map) (w .map) (entry id v) valid))
 
   -- any call
-  pub step-image : (s : Machine) (c : Call) → TypedCall c → Invariant (placesIn full buffer) s → mirrorStep full (mirrorOf s) c ≡ imageStep (machineStep (full .keeping) (placesIn full buffer) s c)
+  pub step-image : (s : Machine) (c : Call) → TypedCall c → Invariant L (placesIn L buffer) s → mirrorStep L (mirrorOf L buffer s) c ≡ imageStep L buffer (machineStep keeping (placesIn L buffer) s c)
   step-image s (feed bytes) t w = feed-image s bytes t w
   step-image s (set id v out) t w = set-image s id v out t w
 
-  -- the image of a history
-  abbrev pub imageRun : History Machine → History Mirror
-  imageRun r = record { state = mirrorOf (r .state); outcomes = r .outcomes }
-
   -- any list of calls
-  run-image : (s : Machine) (cs : List Call) → All TypedCall cs → Invariant (placesIn full buffer) s →
-      runAll (mirrorStep full) (mirrorOf s) cs ≡ imageRun (runAll (machineStep (full .keeping) (placesIn full buffer)) s cs)
+  pub run-image : (s : Machine) (cs : List Call) → All TypedCall cs → Invariant L (placesIn L buffer) s →
+      runAll (mirrorStep L) (mirrorOf L buffer s) cs ≡ imageRun L buffer (runAll (machineStep keeping (placesIn L buffer)) s cs)
   unfolding runAll
   run-image s [] t w = refl
   run-image s (c ∷ cs) t w =
-      ap (λ (x : Step Mirror). record { state = runAll (mirrorStep full) (x .state) cs .state; outcomes = x .outcome ∷ runAll (mirrorStep full) (x .state) cs .outcomes }) (step-image s c (t .0) w)
-      ∙ ap (λ (x : History Mirror). record { state = x .state; outcomes = machineStep (full .keeping) (placesIn full buffer) s c .outcome ∷ x .outcomes })
-      (run-image (machineStep (full .keeping) (placesIn full buffer) s c .state) cs (t .1) (invariant-step (placesIn full buffer) s c (t .0) w))
+      ap (λ (x : Step Mirror). record { state = runAll (mirrorStep L) (x .state) cs .state; outcomes = x .outcome ∷ runAll (mirrorStep L) (x .state) cs .outcomes }) (step-image s c (t .0) w)
+      ∙ ap (λ (x : History Mirror). record { state = x .state; outcomes = machineStep keeping (placesIn L buffer) s c .outcome ∷ x .outcomes })
+      (run-image (machineStep keeping (placesIn L buffer) s c .state) cs (t .1) (invariant-step L (placesIn L buffer) s c (t .0) w))
 
   -- a fresh mirror is the image of the new machine
-  start-image : mirrorOf newMachine ≡ newMirror buffer
+  start-image : mirrorOf L buffer newMachine ≡ newMirror buffer
   unfolding inOrder
-  start-image = ap (λ (b : List ℕ). record { decoder = freshState; table = record { buffer = b; count = 0 } }) (laid-nil 264 buffer)
+  start-image = ap (λ (b : List ℕ). record { decoder = freshState; table = record { buffer = b; count = 0 } }) (laid-nil width buffer)
 
   -- the mirror's whole state is given by the machine's and the first bytes of the buffer
-  pub whole-image : (cs : List Call) → All TypedCall cs → runAll (mirrorStep full) (newMirror buffer) cs ≡ imageRun (runAll (machineStep (full .keeping) (placesIn full buffer)) newMachine cs)
-  whole-image cs t = ap (λ (x : Mirror). runAll (mirrorStep full) x cs) (sym start-image) ∙ run-image newMachine cs t (invariant-new (placesIn full buffer))
+  pub whole-image : (cs : List Call) → All TypedCall cs → runAll (mirrorStep L) (newMirror buffer) cs ≡ imageRun L buffer (runAll (machineStep keeping (placesIn L buffer)) newMachine cs)
+  whole-image cs t = ap (λ (x : Mirror). runAll (mirrorStep L) x cs) (sym start-image) ∙ run-image newMachine cs t (invariant-new L (placesIn L buffer))

@@ -13,7 +13,7 @@ use lib.Seq.{drop-cons, take-add, length-take-le}
 use Rattle.wing_node.specs.Bool.{if}
 use Rattle.wing_node.specs.Utf8.{Decides}
 use Rattle.wing_mirror.specs.Rows.{Table, records}
-use Rattle.wing_mirror.specs.Record.{full}
+use Rattle.wing_mirror.specs.Layout.{Layout}
 use Rattle.wing_mirror.specs.Table.{rows}
 use Rattle.wing_mirror.specs.Query.{sameBytes, sameRows, sameTables}
 use Rattle.wing_mirror.proofs.Records.Usables.{both}
@@ -82,10 +82,10 @@ rows-refl [] = refl
 rows-refl (r ∷ rs) = rw (bytes-refl r, rows-refl rs)
 
 -- 01: two are equal if count and records are
-pub same-decides : (s t : Table) → Decides (sameTables full s t) ((s .count ≡ t .count) × (rows full s ≡ rows full t))
+pub same-decides : (L : Layout) (s t : Table) → Decides (sameTables L s t) ((s .count ≡ t .count) × (rows L s ≡ rows L t))
 unfolding sameTables
-same-decides s t =
+same-decides L s t =
     record {
-      right = λ h. (eqb-true (s .count) (t .count) (both _ _ h .0), rows-true (rows full s) (rows full t) (both (eqb (s .count) (t .count)) _ h .1));
-      whole = λ h. rw (eq-eqb (s .count) (t .count) (h .0)) (ap (sameRows (rows full s)) (sym (h .1)) ∙ rows-refl (rows full s));
+      right = λ h. (eqb-true (s .count) (t .count) (both _ _ h .0), rows-true (rows L s) (rows L t) (both (eqb (s .count) (t .count)) _ h .1));
+      whole = λ h. rw (eq-eqb (s .count) (t .count) (h .0)) (ap (sameRows (rows L s)) (sym (h .1)) ∙ rows-refl (rows L s));
     }

@@ -1,20 +1,19 @@
 -- A put leaves a usable table usable.
-use Prim.Native.Nat.{ℕ, _/_}
+use Prim.Native.Nat.{ℕ}
 use mathlib.Core.Bool.{Bool, true, false}
 use mathlib.Core.Path.{_≡_, refl}
 use mathlib.Core.List.{List, [], _∷_}
 use borrow.Author.Tests.{le-leb}
 use lib.ListN.{length}
 use Rattle.wing_node.specs.Bool.{if}
-use Rattle.wing_mirror.specs.Rows.{Table, Stored, insert, takes, store}
+use Rattle.wing_mirror.specs.Rows.{Table, Stored, insert, places, takes, store}
 use Rattle.wing_mirror.specs.Entry.{Entry, storable}
-use Rattle.wing_mirror.specs.Record.{keyOf, recordOf, wellFormed, full}
+use Rattle.wing_mirror.specs.Layout.{Layout, Lawful, kept}
 use Rattle.wing_mirror.specs.Table.{rows, every, checked, soundTable, usable, put, fits}
 use Rattle.wing_mirror.specs.Puts.{PutResult, putOf}
 use Rattle.wing_mirror.proofs.Tables.Ordered.{Cmp, cmp, low, same, high, insert-low, insert-same, insert-high}
 use Rattle.wing_mirror.proofs.Tables.Stays.{stored}
 use Rattle.wing_mirror.proofs.Records.Usables.{both, in-range, few, formed, up}
-use Rattle.wing_mirror.proofs.Records.Formed.{record-width, record-form}
 
 pub every-insert : {A : Type 0} (key : A → ℕ) (p : A → Bool) (e : A) (xs : List A) → p e ≡ true → every p xs ≡ true → every p (insert key e xs) ≡ true
 unfolding insert every
@@ -29,30 +28,32 @@ every-insert key p e (x ∷ xs) h a = go (cmp (key x) (key e)) (every-insert key
     go (same q) ih = rw (insert-same key e x xs q, h, b .1)
     go (high q) ih = rw (insert-high key e x xs q, h, b .0, b .1)
 
-module _ (r : List ℕ) (t : Table) (wide : length r ≡ 264) (form : wellFormed r ≡ true) (u : usable full t ≡ true) where
-  -- what a put leaves, in its parts
-  pub put-stored : takes 264 keyOf r t ≡ true → Stored 264 keyOf r t
-  put-stored f = stored 264 keyOf r t wide (few t u) (up t u) f
+module _ (L : Layout) (r : List ℕ) (t : Table) (wide : length r ≡ L .width) (form : L .wellFormed r ≡ true) (u : usable L t ≡ true) where
+  open Layout L using (width, keyOf, wellFormed)
 
-  pub store-usable : takes 264 keyOf r t ≡ true → usable full (store 264 keyOf r t) ≡ true
+  -- what a put leaves, in its parts
+  pub put-stored : takes width keyOf r t ≡ true → Stored width keyOf r t
+  put-stored f = stored width keyOf r t wide (few L t u) (up L t u) f
+
+  pub store-usable : takes width keyOf r t ≡ true → usable L (store width keyOf r t) ≡ true
   unfolding usable soundTable checked
   store-usable f =
       let s = put-stored f in
       rw (
         s .size,
-        in-range t u,
-      ) (rw (le-leb (store 264 keyOf r t .count) (length (t .buffer) / 264) (rw (s .size) at (s .room)), s .rows, every-insert keyOf wellFormed r (rows full t) form (formed t u)) (rw (s .rows) at (s .sorted)))
+        in-range L t u,
+      ) (rw (le-leb (store width keyOf r t .count) (places width t) (rw (s .size) at (s .room)), s .rows, every-insert keyOf wellFormed r (rows L t) form (formed L t u)) (rw (s .rows) at (s .sorted)))
 
   -- taken or not
-  pub put-usable : usable full (putOf full r t .after) ≡ true
+  pub put-usable : usable L (putOf L r t .after) ≡ true
   unfolding putOf
-  put-usable = go (takes 264 keyOf r t) refl
+  put-usable = go (takes width keyOf r t) refl
     where
-      go : (b : Bool) → takes 264 keyOf r t ≡ b → usable full ((if {A = PutResult} b (record { after = store 264 keyOf r t; taken = true }) (record { after = t; taken = false })) .after) ≡ true
+      go : (b : Bool) → takes width keyOf r t ≡ b → usable L ((if {A = PutResult} b (record { after = store width keyOf r t; taken = true }) (record { after = t; taken = false })) .after) ≡ true
       go true q = store-usable q
       go false q = u
 
 -- the same for an entry
-pub entry-usable : (e : Entry) (t : Table) → storable (e .value) ≡ true → usable full t ≡ true → fits full e t ≡ true → usable full (put full e t) ≡ true
+pub entry-usable : {L : Layout} → Lawful L → (e : Entry) (t : Table) → storable (e .value) ≡ true → L .keeping (e .value) ≡ kept → usable L t ≡ true → fits L e t ≡ true → usable L (put L e t) ≡ true
 unfolding put fits
-entry-usable e t h u f = store-usable (recordOf e) t (record-width e) (record-form e h) u f
+entry-usable {L} laws e t h k u f = store-usable L (L .recordOf e) t (laws .wide e) (laws .formed e h k) u f

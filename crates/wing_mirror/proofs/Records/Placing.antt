@@ -60,7 +60,7 @@ module _ (b r : List ℕ) (n : ℕ) (rise : rising keyOf (records 264 n b) ≡ t
 module _ (b r : List ℕ) (n : ℕ) (u : usable full (table b n) ≡ true) (wide : length r ≡ 264)
     (k p : ℕ) (ek : k ≡ keyOf r) (ep : p ≡ below keyOf k (records 264 n b)) where
   rise : rising keyOf (records 264 n b) ≡ true
-  rise = up (table b n) u
+  rise = up full (table b n) u
 
   p-is : p ≡ at b r n rise wide
   p-is = ep ∙ ap (λ (x : ℕ). below keyOf x (records 264 n b)) ek
@@ -73,7 +73,7 @@ module _ (b r : List ℕ) (n : ℕ) (u : usable full (table b n) ≡ true) (wide
     pub over-it : (c : List ℕ) → h ≡ true → c ≡ sets b (264 * p) r → kept c n ≡ putOf full r (table b n)
     over-it c q e =
         let l : at b r n rise wide < n = rw p-is at (has-key-in b n p k (sym eh ∙ q)) in
-        rw (e, p-is) (put-over b r n rise wide (holds-is true q) l (room (table b n) u))
+        rw (e, p-is) (put-over b r n rise wide (holds-is true q) l (room full (table b n) u))
 
     pub none-free : h ≡ false → length b / 264 ≤ n → record { after = table b n; taken = false } ≡ putOf full r (table b n)
     none-free q = put-none b r n rise wide (holds-is false q)

@@ -8,17 +8,19 @@ use mir.Val.{toZ, ofZ}
 use borrow.Author.Needs.{needs}
 use lib.ListN.{length}
 use Rattle.wing_wire.proofs.Laws.{decoder-laws}
+use Rattle.wing_mirror.specs.Record.{full}
 use Rattle.wing_mirror.specs.Table.{table as tableOf}
 use Rattle.wing_mirror.specs.Counts.{zeroCounts}
 use Rattle.wing_mirror.specs.Mirror.{tableTally, fedAll}
 use Rattle.wing_mirror.specs.Tally.{tallyOf, stateOf}
+use Rattle.wing_mirror.proofs.Records.Full.{full-laws}
 use Rattle.wing_mirror.proofs.Calls.Turns.{FeedInvariant, fed, left, begun, inside, ended, less-left, answer-bounded, again}
 use Rattle.wing_mirror.proofs.feed.feed_on.Statement.{statement}
 use Rattle.wing_mirror.proofs.feed.feed_on.Tie as tie
 
 abbrev Inv-loop : tie.InvT-loop
 Inv-loop store₀ table₀ count bytes t₀ d₀ i₀ store table t d i =
-    (length store ≡ length store₀) × (length table ≡ length table₀) × FeedInvariant bytes (fed d₀ store₀ (tableTally (tableOf table₀ count) zeroCounts)) d store (tallyOf t table) i
+    (length store ≡ length store₀) × (length table ≡ length table₀) × FeedInvariant full bytes (fed d₀ store₀ (tableTally (tableOf table₀ count) zeroCounts)) d store (tallyOf t table) i
 
 abbrev μ-loop : tie.MeasureT-loop
 μ-loop store₀ table₀ count bytes t₀ d₀ i₀ store table t d i = left bytes d i
@@ -30,7 +32,7 @@ loop-holds : tie.Need-loop-holds Inv-loop μ-loop
 loop-holds c =
     let s = c .before .before .before .before in
     let g = decoder-laws .next .sound (stateOf (s .args .c) (s .args .store .now)) (s .pre .0) in
-    (refl, refl, begun (s .args .bytes .now) (s .args .c) (s .args .store .now) (tableOf (s .args .table .now) (s .args .count)) (c .zero-counts .result) (c .zero-counts .ensures) (s .pre .3) g (s .pre .2))
+    (refl, refl, begun full (s .args .bytes .now) (s .args .c) (s .args .store .now) (tableOf (s .args .table .now) (s .args .count)) (c .zero-counts .result) (c .zero-counts .ensures) (s .pre .3) g (s .pre .2))
 
 sub-advance : tie.Need-sub-advance Inv-loop μ-loop
 sub-advance c = c .before .loop .inv .2 .within
@@ -51,7 +53,7 @@ add-i c =
     let entry = at-loop .before .before .before .before .before in
     let a = at-advance .advance in
     let few = entry .pre .3 in
-    let h = inside (at-loop .loop .inv .2) (a .result) (a .last .1 .0) (a .ensures) in
+    let h = inside full-laws (at-loop .loop .inv .2) (a .result) (a .last .1 .0) (a .ensures) in
     search needs
 
 is-more-requires : tie.Need-is-more-requires Inv-loop μ-loop
@@ -70,7 +72,7 @@ returns c =
     let at-loop = at-advance .before .before .before in
     let a = at-advance .advance in
     let m = sym (c .before .is-more .ensures) ∙ c .if1 .taken in
-    ended (at-loop .loop .inv .2) (a .result) (a .last .1 .0) (a .ensures) m
+    ended full-laws (at-loop .loop .inv .2) (a .result) (a .last .1 .0) (a .ensures) m
 
 keep-answer-requires : tie.Need-keep-answer-requires Inv-loop μ-loop
 keep-answer-requires c κs =
@@ -79,7 +81,7 @@ keep-answer-requires c κs =
     let s = at-loop .before .before .before .before .before in
     let a = at-before .advance in
     let l = at-loop .loop .inv in
-    let w = answer-bounded (l .2) (a .result) (a .last .1 .0) (a .ensures) in
+    let w = answer-bounded full-laws (l .2) (a .result) (a .last .1 .0) (a .ensures) in
     let f = l .2 .few in
     (l .2 .ready, omega arith, omega arith, w .within)
 
@@ -95,7 +97,7 @@ loop-less c =
     let at-loop = at-advance .before .before .before in
     let a = at-advance .advance in
     let m = sym (at-is-more .is-more .ensures) ∙ at-if1 .if1 .left in
-    omega (arith, less-left (at-loop .loop .inv .2) (a .result) (a .last .1 .0) (a .ensures) m)
+    omega (arith, less-left full-laws (at-loop .loop .inv .2) (a .result) (a .last .1 .0) (a .ensures) m)
 
 loop-again : tie.Need-loop-again Inv-loop μ-loop
 loop-again c =
@@ -112,7 +114,7 @@ loop-again c =
     let m = sym (at-is-more .is-more .ensures) ∙ at-if1 .if1 .left in
     let node = a .result .control .node in
     let back : toZ w32 (ofZ w32 node) ≡ node = toZ-ofZ (record { sfits = at-struct-told .struct-told .given .1 .0 .1 }) in
-    (search needs, search needs, again (l .2) (a .result) (a .last .1 .0) (a .ensures) m (c .before .before .release .last .0) (c .before .before .release .ensures) (tallyOf (k .result) (k .last .0)) (rw back at (k .ensures)))
+    (search needs, search needs, again full-laws (l .2) (a .result) (a .last .1 .0) (a .ensures) m (c .before .before .release .last .0) (c .before .before .release .ensures) (tallyOf (k .result) (k .last .0)) (rw back at (k .ensures)))
 
 pub feed-on-spec : {M : Type 1} → statement M
 feed-on-spec =

@@ -1,9 +1,10 @@
 -- The contract of `lay_record` gives the value's record and that of `put` whether it was taken, which are the two branches of `keepEvent`
 -- (`stored-kept`, `unplaced-kept`).
-use mathlib.Core.Path.{_∙_, ap}
+use mathlib.Core.Path.{refl, _∙_, ap}
 use lib.IntN.{ℤ}
 use mir.Facts.{toZ-ofZ}
 use Rattle.wing_node.specs.Value.{meant}
+use Rattle.wing_mirror.specs.Record.{full}
 use Rattle.wing_mirror.specs.Entry.{entry}
 use Rattle.wing_mirror.specs.Record.{recordOf}
 use Rattle.wing_mirror.specs.Table.{table}
@@ -39,7 +40,7 @@ returns c =
     let p = at-put .put in
     let v = meant (start .args .value) (start .args .string .now) in
     let e = l .ensures ∙ ap (λ (x : ℤ). recordOf (entry x v)) (toZ-ofZ (start .fits .node)) in
-    rw (c .mark .ensures) (stored-kept (start .args .node) v (table (start .args .table .now) (start .args .t .count)) (start .args .t .counts) (l .last .0) (p .result) (p .last .0) e (p .ensures) (c .before .if1 .taken))
+    rw (c .mark .ensures) (stored-kept full (start .args .node) v (table (start .args .table .now) (start .args .t .count)) (start .args .t .counts) (l .last .0) (p .result) (p .last .0) refl e (p .ensures) (c .before .if1 .taken))
 
 mark-requires-2 : tie.Need-mark-requires-2
 mark-requires-2 c κs = search needs
@@ -56,7 +57,7 @@ returns-2 c =
     let p = at-put .put in
     let v = meant (start .args .value) (start .args .string .now) in
     let e = l .ensures ∙ ap (λ (x : ℤ). recordOf (entry x v)) (toZ-ofZ (start .fits .node)) in
-    rw (c .mark2 .ensures) (unplaced-kept (start .args .node) v (table (start .args .table .now) (start .args .t .count)) (start .args .t .counts) (l .last .0) (p .result) (p .last .0) e (p .ensures) (c .before .if1 .left))
+    rw (c .mark2 .ensures) (unplaced-kept full (start .args .node) v (table (start .args .table .now) (start .args .t .count)) (start .args .t .counts) (l .last .0) (p .result) (p .last .0) refl e (p .ensures) (c .before .if1 .left))
 
 pub keep-value-spec : {M : Type 1} → statement M
 keep-value-spec =

@@ -23,7 +23,7 @@ number-of-requires : tie.Need-number-of-requires
 number-of-requires c κs =
     let t = table (c .before .before .before .before .args .table .now) (c .before .before .before .before .args .count) in
     let u : usable full t ≡ true = sym (c .before .before .is-usable .ensures) ∙ c .before .if1 .taken in
-    (room t u, up t u)
+    (room full t u, up full t u)
 
 returns : tie.Need-returns
 unfolding lookupAnswer lookupOf

@@ -4,7 +4,7 @@ use mathlib.Core.Path.{sym, _∙_, ap}
 use mathlib.Core.List.{List}
 use native.Mathlib.Omega.{arith}
 use borrow.Author.Tests.{lt-ltb, le-ltb}
-use Rattle.wing_mirror.specs.Record.{entryIn}
+use Rattle.wing_mirror.specs.Record.{entryIn, full}
 use Rattle.wing_mirror.specs.Table.{table}
 use Rattle.wing_mirror.specs.Query.{readOf, recordAnswer}
 use Rattle.wing_mirror.proofs.Records.Usables.{room}
@@ -19,7 +19,7 @@ is-usable-requires c κs = search needs
 read-at-requires : tie.Need-read-at-requires
 read-at-requires c κs =
     let a = c .before .before .before .before .args in
-    omega (arith, room (table (a .table .now) (a .count)) (sym (c .before .before .is-usable .ensures) ∙ c .before .if1 .taken))
+    omega (arith, room full (table (a .table .now) (a .count)) (sym (c .before .before .is-usable .ensures) ∙ c .before .if1 .taken))
 
 returns : tie.Need-returns
 unfolding recordAnswer

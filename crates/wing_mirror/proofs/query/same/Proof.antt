@@ -1,5 +1,6 @@
 -- Each return is the branch of `sameAnswer` with that test, by the contracts of `is_usable` and `same_records`.
 use mathlib.Core.Path.{sym, _∙_}
+use Rattle.wing_mirror.specs.Record.{full}
 use Rattle.wing_mirror.specs.Table.{table}
 use Rattle.wing_mirror.specs.Query.{sameAnswer}
 use Rattle.wing_mirror.proofs.Records.Usables.{room}
@@ -16,7 +17,7 @@ is-usable-requires-2 c κs = search needs
 same-records-requires : tie.Need-same-records-requires
 same-records-requires c κs =
     let a = c .before .before .before .before .before .before .args in
-    (room (table (a .a .now) (a .count-a)) (sym (c .before .before .before .is-usable .ensures) ∙ c .before .before .if1 .taken), room (table (a .b .now) (a .count-b)) (sym (c .before .is-usable2 .ensures) ∙ c .if2 .taken))
+    (room full (table (a .a .now) (a .count-a)) (sym (c .before .before .before .is-usable .ensures) ∙ c .before .before .if1 .taken), room full (table (a .b .now) (a .count-b)) (sym (c .before .is-usable2 .ensures) ∙ c .if2 .taken))
 
 returns : tie.Need-returns
 unfolding sameAnswer

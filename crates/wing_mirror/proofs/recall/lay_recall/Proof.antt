@@ -54,7 +54,7 @@ lay-order-requires c κs =
     let t = tableOf (s .args .table .now) (s .args .count) in
     let k = c .before .before .loop in
     let h = c .before .loop-test .taken in
-    (omega (arith, room t (s .pre .0)), row-formed t (s .pre .0) (k .number) h, omega (arith, left-less (s .args .count) (k .number) (s .args .table .now) h))
+    (omega (arith, room full t (s .pre .0)), row-formed t (s .pre .0) (k .number) h, omega (arith, left-less (s .args .count) (k .number) (s .args .table .now) h))
 
 add-at : tie.Need-add-at Inv-loop μ-loop
 add-at c =

@@ -35,7 +35,7 @@ lay-order-requires c κs =
     let t = tableOf (s .args .table .now) (s .args .count) in
     let i = c .before .before .loop .i in
     let h = c .before .loop-test .taken in
-    (omega (arith, room t (s .pre)), row-formed t (s .pre) i h, omega (arith, row-le t (s .pre) i h))
+    (omega (arith, room full t (s .pre)), row-formed t (s .pre) i h, omega (arith, row-le t (s .pre) i h))
 
 add-total : tie.Need-add-total Inv-loop μ-loop
 add-total c =

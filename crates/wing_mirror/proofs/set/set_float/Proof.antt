@@ -3,6 +3,7 @@ use mathlib.Core.Path.{refl, sym, _∙_}
 use mir.Facts.{toZ-ofZ}
 use native.Mathlib.Omega.{arith}
 use Rattle.wing_node.specs.Value.{float, meant}
+use Rattle.wing_mirror.specs.Record.{full}
 use Rattle.wing_mirror.specs.Entry.{storable}
 use Rattle.wing_mirror.specs.Table.{table}
 use Rattle.wing_mirror.proofs.Calls.Orders.{unusable}
@@ -42,7 +43,7 @@ same-length-3 c = search needs
 returns-2 : tie.Need-returns-2
 returns-2 c =
     let a = c .before .before .before .before .before .before .args in
-    rw (c .refused .ensures) (unusable (a .id) (float (a .bits)) (table (a .table .now) (a .count)) (a .out .now) (sym (c .before .before .is-usable .ensures) ∙ c .before .if1 .left))
+    rw (c .refused .ensures) (unusable full (a .id) (float (a .bits)) (table (a .table .now) (a .count)) (a .out .now) (sym (c .before .before .is-usable .ensures) ∙ c .before .if1 .left))
 
 pub set-float-spec : {M : Type 1} → statement M
 set-float-spec =

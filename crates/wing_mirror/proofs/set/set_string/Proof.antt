@@ -1,11 +1,12 @@
 -- The contract of `set_value`, with the table's soundness from `is_usable` and the string's form from the tests (`storable-string`); each refusal is
 -- a case of `mirrorSet` (`unusable`, `long-string`, `bad-string`).
-use mathlib.Core.Path.{sym, _∙_}
+use mathlib.Core.Path.{refl, sym, _∙_}
 use mir.Facts.{toZ-ofZ}
 use native.Mathlib.Omega.{arith}
 use lib.ListN.{length}
 use lib.Seq.{take-all}
 use Rattle.wing_node.specs.Value.{string, meant}
+use Rattle.wing_mirror.specs.Record.{full}
 use Rattle.wing_mirror.specs.Table.{table}
 use Rattle.wing_mirror.proofs.Calls.Orders.{storable-string, unusable, long-string, bad-string}
 use borrow.Author.Needs.{needs}
@@ -60,7 +61,7 @@ returns-2 c =
     let at-is-usable = at-if1 .before in
     let entry = at-is-usable .before .before .before .before .before in
     let a = entry .args in
-    rw (c .refused .ensures) (bad-string (a .id) (a .value .now) (table (a .table .now) (a .count)) (a .out .now) (sym (at-is-usable .is-usable .ensures) ∙ at-if1 .if1 .taken) (at-if2 .if2 .taken) (sym (c .before .before .is-utf8 .ensures .0) ∙ c .before .if3 .left))
+    rw (c .refused .ensures) (bad-string full (a .id) (a .value .now) (table (a .table .now) (a .count)) (a .out .now) (sym (at-is-usable .is-usable .ensures) ∙ at-if1 .if1 .taken) refl (at-if2 .if2 .taken) (sym (c .before .before .is-utf8 .ensures .0) ∙ c .before .if3 .left))
 
 refused-requires-2 : tie.Need-refused-requires-2
 refused-requires-2 c κs = search needs
@@ -73,7 +74,7 @@ returns-3 c =
     let at-is-usable = c .before .before .before in
     let start = at-is-usable .before .before .before .before .before in
     let a = start .args in
-    rw (c .refused2 .ensures) (long-string (a .id) (a .value .now) (table (a .table .now) (a .count)) (a .out .now) (sym (at-is-usable .is-usable .ensures) ∙ c .before .before .if1 .taken) (c .before .if2 .left))
+    rw (c .refused2 .ensures) (long-string full (a .id) (a .value .now) (table (a .table .now) (a .count)) (a .out .now) (sym (at-is-usable .is-usable .ensures) ∙ c .before .before .if1 .taken) refl (c .before .if2 .left))
 
 refused-requires-3 : tie.Need-refused-requires-3
 refused-requires-3 c κs = search needs
@@ -85,7 +86,7 @@ returns-4 : tie.Need-returns-4
 returns-4 c =
     let start = c .before .before .before .before .before .before .before in
     let a = start .args in
-    rw (c .refused3 .ensures) (unusable (a .id) (string (a .value .now)) (table (a .table .now) (a .count)) (a .out .now) (sym (c .before .before .is-usable .ensures) ∙ c .before .if1 .left))
+    rw (c .refused3 .ensures) (unusable full (a .id) (string (a .value .now)) (table (a .table .now) (a .count)) (a .out .now) (sym (c .before .before .is-usable .ensures) ∙ c .before .if1 .left))
 
 pub set-string-spec : {M : Type 1} → statement M
 set-string-spec =

@@ -1,5 +1,6 @@
 -- The contract of `search` gives the one place where the key can stand; where `has_key` finds it there is room (`takes-there`), else if a place is free
 -- (`takes-free`).
+use Rattle.wing_mirror.specs.Record.{full}
 use Rattle.wing_mirror.specs.Table.{table}
 use Rattle.wing_mirror.proofs.Records.Usables.{room, up}
 use Rattle.wing_mirror.proofs.Records.Placing.{takes-there, takes-free}
@@ -17,12 +18,12 @@ search-requires : tie.Need-search-requires
 search-requires c κs =
     let s = c .before .before .before in
     let t = table (s .args .table .now) (s .args .count) in
-    (room t (s .pre .0), up t (s .pre .0))
+    (room full t (s .pre .0), up full t (s .pre .0))
 
 has-key-requires : tie.Need-has-key-requires
 has-key-requires c κs =
     let s = c .before .before .before .before in
-    room (table (s .args .table .now) (s .args .count)) (s .pre .0)
+    room full (table (s .args .table .now) (s .args .count)) (s .pre .0)
 
 returns : tie.Need-returns
 returns c =

@@ -4,6 +4,7 @@ use mathlib.Core.Path.{sym, _∙_}
 use native.Mathlib.Omega.{arith}
 use native.Mathlib.Nat.{mul-div-le}
 use lib.ListN.{length}
+use Rattle.wing_mirror.specs.Record.{full}
 use Rattle.wing_mirror.specs.Table.{table}
 use Rattle.wing_mirror.proofs.Records.Usables.{room, up}
 use Rattle.wing_mirror.proofs.Records.Placing.{over-it, none-free, new-one}
@@ -19,12 +20,12 @@ search-requires : tie.Need-search-requires
 search-requires c κs =
     let s = c .before .before .before .before in
     let t = table (s .args .table .now) (s .args .count) in
-    (room t (s .pre .0), up t (s .pre .0))
+    (room full t (s .pre .0), up full t (s .pre .0))
 
 has-key-requires : tie.Need-has-key-requires
 has-key-requires c κs =
     let s = c .before .before .before .before .before .before in
-    room (table (s .args .table .now) (s .args .count)) (s .pre .0)
+    room full (table (s .args .table .now) (s .args .count)) (s .pre .0)
 
 mul-lay : tie.Need-mul-lay
 mul-lay c =
@@ -33,7 +34,7 @@ mul-lay c =
     let start = at-key .before .before .before in
     let p = at-search .search in
     let most = in-place (start .args .table .now) (start .args .count) (at-key .key .result) (p .result) (p .ensures) in
-    let all = room (table (start .args .table .now) (start .args .count)) (start .pre .0) in
+    let all = room full (table (start .args .table .now) (start .args .count)) (start .pre .0) in
     omega (arith, most, all)
 
 lay-requires : tie.Need-lay-requires
@@ -41,7 +42,7 @@ lay-requires c κs =
     let at-search = c .before .before .before .before in
     let at-key = at-search .before .before in
     let start = at-key .before .before .before in
-    let all = room (table (start .args .table .now) (start .args .count)) (start .pre .0) in
+    let all = room full (table (start .args .table .now) (start .args .count)) (start .pre .0) in
     omega (arith, all, has-key-in (start .args .table .now) (start .args .count) (at-search .search .result) (at-key .key .result) (sym (c .before .before .has-key .ensures) ∙ c .before .if1 .taken))
 
 same-length : tie.Need-same-length
@@ -69,7 +70,7 @@ mul-open-gap c =
     let entry = at-key .before .before .before in
     let p = at-before .search in
     let most = in-place (entry .args .table .now) (entry .args .count) (at-key .key .result) (p .result) (p .ensures) in
-    let all = room (table (entry .args .table .now) (entry .args .count)) (entry .pre .0) in
+    let all = room full (table (entry .args .table .now) (entry .args .count)) (entry .pre .0) in
     omega (arith, most, all)
 
 mul-open-gap-2 : tie.Need-mul-open-gap-2
@@ -82,7 +83,7 @@ open-gap-requires c κs =
     let entry = at-key .before .before .before in
     let p = at-before .search in
     let most = in-place (entry .args .table .now) (entry .args .count) (at-key .key .result) (p .result) (p .ensures) in
-    let all = room (table (entry .args .table .now) (entry .args .count)) (entry .pre .0) in
+    let all = room full (table (entry .args .table .now) (entry .args .count)) (entry .pre .0) in
     (omega (arith, most), omega (arith, c .before .before .places .ensures, mul-div-le (length (entry .args .table .now)) 264))
 
 mul-lay-2 : tie.Need-mul-lay-2
@@ -93,7 +94,7 @@ mul-lay-2 c =
     let entry = at-key .before .before .before in
     let p = at-search .search in
     let most = in-place (entry .args .table .now) (entry .args .count) (at-key .key .result) (p .result) (p .ensures) in
-    let all = room (table (entry .args .table .now) (entry .args .count)) (entry .pre .0) in
+    let all = room full (table (entry .args .table .now) (entry .args .count)) (entry .pre .0) in
     omega (arith, most, all)
 
 lay-requires-2 : tie.Need-lay-requires-2
@@ -105,7 +106,7 @@ lay-requires-2 c κs =
     let entry = at-key .before .before .before in
     let p = at-search .search in
     let most = in-place (entry .args .table .now) (entry .args .count) (at-key .key .result) (p .result) (p .ensures) in
-    let all = room (table (entry .args .table .now) (entry .args .count)) (entry .pre .0) in
+    let all = room full (table (entry .args .table .now) (entry .args .count)) (entry .pre .0) in
     omega (arith, most, at-places .places .ensures, at-open-gap .open-gap .kept .0, mul-div-le (length (entry .args .table .now)) 264)
 
 add-t22 : tie.Need-add-t22

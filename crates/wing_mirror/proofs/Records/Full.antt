@@ -1,0 +1,64 @@
+-- The 264-byte record keeps the laws of a layout.
+use Prim.Native.Nat.{ℕ, zero, suc, _^_, _<_, _≤_}
+use mathlib.Core.Bool.{true}
+use mathlib.Core.Path.{_≡_, refl}
+use mathlib.Core.List.{List, [], _∷_}
+use native.Mathlib.Omega.{arith}
+use lib.Dec.{eqb}
+use lib.ListN.{length, take, length-drop}
+use lib.Seq.{length-take-le}
+use Rattle.wing_node.specs.Field.{big}
+use Rattle.wing_node.specs.Signed.{signed}
+use Rattle.wing_node.specs.Value.{integer, float, string}
+use Rattle.wing_node.proofs.Branches.{branch}
+use Rattle.wing_node.proofs.Numerals.Numbers.{Digits, digits-take, digits-drop, number-below}
+use Rattle.wing_node.proofs.Numerals.Signs.{signed-in}
+use Rattle.wing_wire.specs.Range.{AreBytes, noBytes, byteThen}
+use Rattle.wing_mirror.specs.Entry.{Typed}
+use Rattle.wing_mirror.specs.Layout.{ValidEntry, Row, Lawful}
+use Rattle.wing_mirror.specs.Record.{valueIn, entryIn, kindIn, lengthIn, payloadIn, full}
+use Rattle.wing_mirror.proofs.Records.Formed.{record-width, record-form, record-key}
+use Rattle.wing_mirror.proofs.Records.Trips.{entry-back, read-storable, record-back}
+
+-- bytes as digits of base 256
+pub are-digits : (s : List ℕ) → AreBytes s → Digits 256 s
+are-digits [] noBytes i = omega arith
+are-digits (b ∷ s) (byteThen h hs) zero = h
+are-digits (b ∷ s) (byteThen h hs) (suc i) = are-digits s hs i
+
+-- four bytes as a number
+pub word-below : (s : List ℕ) → 4 ≤ length s → Digits 256 s → big (take 4 s) < 2 ^ 32
+word-below s h b = let l : length (take 4 s) ≡ 4 = length-take-le 4 s h in rw l at (number-below 256 (take 4 s) (digits-take 256 4 s b))
+
+module _ (r : List ℕ) (g : Row full r) where
+  bytes : Digits 256 r
+  bytes = are-digits r (g .bytes)
+
+  id-below : big (take 4 r) < 2 ^ 32
+  id-below = word-below r (omega (arith, g .wide)) bytes
+
+  value-below : big (take 4 (payloadIn r)) < 2 ^ 32
+  value-below = word-below (payloadIn r) (omega (arith, length-drop 8 r, g .wide)) (digits-drop 256 8 r bytes)
+
+  value-typed : Typed (valueIn r)
+  unfolding valueIn
+  value-typed =
+      branch Typed (eqb (kindIn r) 0) (integer (signed 31 (big (take 4 (payloadIn r))))) _ (λ _. signed-in 31 (big (take 4 (payloadIn r))) value-below)
+      (λ _. branch Typed (eqb (kindIn r) 1) (float (big (take 4 (payloadIn r)))) (string (take (lengthIn r) (payloadIn r))) (λ _. omega (arith, value-below)) (λ _. tt))
+
+  -- its entry is valid
+  row-valid : ValidEntry full (entryIn r)
+  unfolding entryIn
+  row-valid =
+      record { node = signed-in 31 (big (take 4 r)) id-below; typed = value-typed; text = read-storable r (g .wide) bytes (g .form); isKept = refl }
+
+pub full-laws : Lawful full
+full-laws =
+    record {
+      wide = record-width;
+      placed = record-key;
+      formed = λ e h k. record-form e h;
+      said = λ e p. entry-back (e .id) (e .value) (p .node) (p .typed) (p .text);
+      valid = row-valid;
+      back = λ r g. record-back r (g .wide) (bytes r g) (g .form);
+    }
