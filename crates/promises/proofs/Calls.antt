@@ -26,7 +26,8 @@ use Rattle.wing_wire.specs.declared.write.Written.the-variants.{Bytes, Refused}
 use Rattle.wing_node.proofs.Branches.{branch}
 use Rattle.wing_wire.proofs.BothWays.Orders.{reads-as-set}
 use Rattle.wing_mirror.specs.Rows.{Table, Found, found, nothing}
-use Rattle.wing_mirror.specs.Record.{Entry, entry, entryIn, Typed}
+use Rattle.wing_mirror.specs.Entry.{Entry, entry, Typed}
+use Rattle.wing_mirror.specs.Record.{entryIn, full}
 use Rattle.wing_mirror.specs.Table.{rows, usable, put, fits, lookupOf}
 use Rattle.wing_mirror.specs.Query.{answerOf, lookupAnswer, readOf, refusedRecord, recordAnswer, sameTables, sameAnswer}
 use Rattle.wing_mirror.specs.Answers.{lookupResult, entryResult, recordResult, sameResult, feedResult}
@@ -39,8 +40,10 @@ use Rattle.wing_mirror.specs.declared.answer.Counts.{Counts}
 use Rattle.wing_mirror.specs.declared.answer.Lookup.the-variants.{Refused as LookupRefused}
 use Rattle.wing_mirror.specs.declared.answer.RecordRead.{RecordRead}
 use Rattle.wing_mirror.specs.declared.answer.Same.the-variants.{Yes, No, Refused as SameRefused}
+use Rattle.wing_mirror.proofs.Records.Full.{full-laws}
 use Rattle.wing_mirror.proofs.Records.Equals.{same-decides}
 use Rattle.wing_mirror.proofs.Records.Lookups.{read-row, lookups}
+use Rattle.wing_mirror.proofs.Calls.Outcomes.{passed, set-cases}
 use Rattle.wing_mirror.proofs.Histories.Demand.{histories}
 use Rattle.promises.specs.Lines.{Line, _gives_, by, Answers}
 use Rattle.promises.specs.Mirror.{mirror, feedLines, setLines, recallLines, tableLines, recordLines, sameLines, FeedCall, SetCall, RecallCall, LookupCall, RecordCall, SameCall}
@@ -50,18 +53,18 @@ use Rattle.promises.proofs.Writers.{at-front, past-front, written-rest,
 -- ---- feed
 
 pub feed-call : (s : State) (t : Table) (bytes : List ℕ) →
-    let x = mirrorFeed s t bytes in
+    let x = mirrorFeed full s t bytes in
     FeedCall (mirror s t) bytes (x .answer) (x .counts) (mirror (x .state) (x .table))
 unfolding mirrorFeed mirrorStep feedResult
 feed-call s t bytes = record {
   answered = unless feeds W counts (soundState s) 8 _ _ _ refl (refl, refl)
-      (unless feeds W counts (usable t) 7 _ _ _ refl (refl, refl)
-      (unless feeds W counts (leb (length bytes) 65536) 14 _ _ _ refl (refl, refl) (taken feeds W counts (takenFeed (fedAll s t bytes)) refl)));
+      (unless feeds W counts (usable full t) 7 _ _ _ refl (refl, refl)
+      (unless feeds W counts (leb (length bytes) 65536) 14 _ _ _ refl (refl, refl) (taken feeds W counts (takenFeed (fedAll full s t bytes)) refl)));
   step = refl;
 }
   where
     counts : Counts
-    counts = fedAll s t bytes .memo .counts
+    counts = fedAll full s t bytes .memo .counts
 
     feeds : Feeding → Result Counts
     feeds x = feedResult (x .answer) (x .counts)
@@ -77,35 +80,19 @@ unfolding tooLong notText
 settable (integer x) h p q = h
 settable (float bits) h p q = omega arith
 settable (string s) h p q = (leb-true (length s) 256 (passed (leb (length s) 256) p), passed (utf8 s) q)
-  where
-    passed : (a : Bool) → not a ≡ false → a ≡ true
-    passed true e = refl
-    passed false e = sym e
 
 module _ (id : ℤ) (v : NodeValue) (t : Table) (out : List ℕ) where
   bytes : List ℕ
   bytes = setBytes id v
 
-  -- what holds after each refusal and after a set that is taken
-  set-cases : (P : Setting → Type 0) → ((k : ℕ) → P (refusedSet k t out)) →
-      (tooLong v ≡ false → notText v ≡ false → ltb (length out) (length bytes) ≡ false → (u : Table) → P (record { answer = Bytes (length bytes); out = bytes ++ drop (length bytes) out; table = u })) →
-      P (mirrorSet id v t out)
-  unfolding mirrorSet bytes
-  set-cases P r w =
-      branch P (not (usable t)) _ _ (λ _. r 7)
-      (λ _. branch P (tooLong v) _ _ (λ _. r 10)
-      (λ p. branch P (notText v) _ _ (λ _. r 1)
-      (λ q. branch P (not (fits (entry id v) t)) _ _ (λ _. r 6)
-      (λ _. branch P (ltb (length out) (length (setBytes id v))) _ _ (λ _. r 9) (λ d. w p q d _)))))
-
-  set-answered : Answers (setLines id v t out) bytes (writtenResult (mirrorSet id v t out .answer) (mirrorSet id v t out .out)) ((mirrorSet id v t out .out ≡ out) × (mirrorSet id v t out .table ≡ t))
+  set-answered : Answers (setLines id v t out) bytes (writtenResult (mirrorSet full id v t out .answer) (mirrorSet full id v t out .out)) ((mirrorSet full id v t out .out ≡ out) × (mirrorSet full id v t out .table ≡ t))
   unfolding mirrorSet bytes writtenResult
   set-answered =
-      line sets W bytes (not (usable t)) 7 _ _ _ refl (refl, refl)
+      line sets W bytes (not (usable full t)) 7 _ _ _ refl (refl, refl)
       (line sets W bytes (tooLong v) 10 _ _ _ refl (refl, refl)
       (line sets W bytes (notText v) 1 _ _ _ refl (refl, refl)
-      (line sets W bytes (not (fits (entry id v) t)) 6 _ _ _ refl (refl, refl)
-      (line sets W bytes (ltb (length out) (length bytes)) 9 _ _ _ refl (refl, refl) (taken sets W bytes (record { answer = Bytes (length bytes); out = bytes ++ drop (length bytes) out; table = put (entry id v) t }) (ap ok (at-front bytes out)))))))
+      (line sets W bytes (not (fits full (entry id v) t)) 6 _ _ _ refl (refl, refl)
+      (line sets W bytes (ltb (length out) (length bytes)) 9 _ _ _ refl (refl, refl) (taken sets W bytes (record { answer = Bytes (length bytes); out = bytes ++ drop (length bytes) out; table = put full (entry id v) t }) (ap ok (at-front bytes out)))))))
     where
       sets : Setting → Result (List ℕ)
       sets x = writtenResult (x .answer) (x .out)
@@ -113,35 +100,36 @@ module _ (id : ℤ) (v : NodeValue) (t : Table) (out : List ℕ) where
       W : Setting → Type 0
       W x = (x .out ≡ out) × (x .table ≡ t)
 
-  set-rest : (n : ℕ) → mirrorSet id v t out .answer ≡ Bytes n → drop n (mirrorSet id v t out .out) ≡ drop n out
+  set-rest : (n : ℕ) → mirrorSet full id v t out .answer ≡ Bytes n → drop n (mirrorSet full id v t out .out) ≡ drop n out
+  unfolding bytes
   set-rest =
-      set-cases (λ x. (n : ℕ) → x .answer ≡ Bytes n → drop n (x .out) ≡ drop n out) (λ k n e. refl)
-      (λ p q d u n e. past-front bytes out n (let z : length bytes ≡ n = cc in z))
+      set-cases full id v t out (λ x. (n : ℕ) → x .answer ≡ Bytes n → drop n (x .out) ≡ drop n out) (λ k n e. refl)
+      (λ o p q f d n e. past-front bytes out n (let z : length bytes ≡ n = cc in z))
 
   whole : ltb (length out) (length bytes) ≡ false → wrote (Bytes (length bytes)) (bytes ++ drop (length bytes) out) ≡ writeOf bytes out
   unfolding writeOf
   whole d = rw d
 
-  set-reads : InBits 31 id → Typed v → ReadsAsSet id v (mirrorSet id v t out .answer) (mirrorSet id v t out .out)
+  set-reads : InBits 31 id → Typed v → ReadsAsSet id v (mirrorSet full id v t out .answer) (mirrorSet full id v t out .out)
   unfolding bytes
   set-reads i h =
-      set-cases (λ x. ReadsAsSet id v (x .answer) (x .out)) (λ k. tt)
-      (λ p q d u. reads-as-set id v i (settable v h p q) out (Bytes (length bytes)) (bytes ++ drop (length bytes) out) (whole d))
+      set-cases full id v t out (λ x. ReadsAsSet id v (x .answer) (x .out)) (λ k. tt)
+      (λ o p q f d. reads-as-set id v i (settable v h p q) out (Bytes (length bytes)) (bytes ++ drop (length bytes) out) (whole d))
 
-  pub set-call : InBits 31 id → Typed v → SetCall id v t out (mirrorSet id v t out .answer) (mirrorSet id v t out .table) (mirrorSet id v t out .out)
+  pub set-call : InBits 31 id → Typed v → SetCall id v t out (mirrorSet full id v t out .answer) (mirrorSet full id v t out .table) (mirrorSet full id v t out .out)
   unfolding mirrorStep bytes
   set-call i h = record { writes = record { answered = set-answered; rest = set-rest }; reads = set-reads i h; step = λ s. refl }
 
 -- ---- recall
 
-pub recall-call : (t : Table) (out : List ℕ) → AreBytes (t .buffer) → RecallCall t out (recallOf t out .answer) (recallOf t out .out)
+pub recall-call : (t : Table) (out : List ℕ) → AreBytes (t .buffer) → RecallCall t out (recallOf full t out .answer) (recallOf full t out .out)
 unfolding recallOf writtenResult
 recall-call t out b = record {
   writes = record {
-    answered = unless came W (recallBytes t) (usable t) 7 _ _ _ refl (refl, tt) (command-writes (recallBytes t) out .answered);
-    rest = branch (λ (x : Wrote). (n : ℕ) → x .answer ≡ Bytes n → drop n (x .out) ≡ drop n out) (usable t) _ _ (λ _. written-rest (recallBytes t) out) (λ _ n e. refl);
+    answered = unless came W (recallBytes full t) (usable full t) 7 _ _ _ refl (refl, tt) (command-writes (recallBytes full t) out .answered);
+    rest = branch (λ (x : Wrote). (n : ℕ) → x .answer ≡ Bytes n → drop n (x .out) ≡ drop n out) (usable full t) _ _ (λ _. written-rest (recallBytes full t) out) (λ _ n e. refl);
   };
-  rebuilds = unfold recallOf in histories .tables t b out;
+  rebuilds = unfold recallOf in histories full-laws .tables t b out;
 }
   where
     came : Wrote → Result (List ℕ)
@@ -153,22 +141,22 @@ recall-call t out b = record {
 -- ---- queries
 
 -- a record read that is sent back
-record-7 : (t : Table) (number : ℕ) → usable t ≡ false → recordAnswer t number ≡ refusedRecord 7
+record-7 : (t : Table) (number : ℕ) → usable full t ≡ false → recordAnswer full t number ≡ refusedRecord 7
 unfolding recordAnswer
 record-7 t number p = rw p
 
-record-14 : (t : Table) (number : ℕ) → usable t ≡ true → ltb number (t .count) ≡ false → recordAnswer t number ≡ refusedRecord 14
+record-14 : (t : Table) (number : ℕ) → usable full t ≡ true → ltb number (t .count) ≡ false → recordAnswer full t number ≡ refusedRecord 14
 unfolding recordAnswer
 record-14 t number p q = rw (p, q)
 
-refused-record-result : (t : Table) (number k : ℕ) → recordAnswer t number ≡ refusedRecord k → recordResult (recordAnswer t number) ≡ refused k
+refused-record-result : (t : Table) (number k : ℕ) → recordAnswer full t number ≡ refusedRecord k → recordResult (recordAnswer full t number) ≡ refused k
 unfolding entryResult
 refused-record-result t number k e = rw e
 
 -- two usable tables are compared
-same-asked : (t u : Table) → usable t ≡ true → usable u ≡ true → sameResult (sameAnswer t u) ≡ ok (sameTables t u)
+same-asked : (t u : Table) → usable full t ≡ true → usable full u ≡ true → sameResult (sameAnswer full t u) ≡ ok (sameTables full t u)
 unfolding sameAnswer sameResult
-same-asked t u p q = rw (p, q) (go (sameTables t u))
+same-asked t u p q = rw (p, q) (go (sameTables full t u))
   where
     go : (c : Bool) → sameResult (if c Yes No) ≡ ok c
     go true = refl
@@ -176,31 +164,31 @@ same-asked t u p q = rw (p, q) (go (sameTables t u))
 
 -- ---- what the queries come to
 
-lookup-result : (t : Table) (id : ℤ) → lookupResult (lookupAnswer t id) ≡ by (tableLines t) (lookupOf id t)
+lookup-result : (t : Table) (id : ℤ) → lookupResult (lookupAnswer full t id) ≡ by (tableLines t) (lookupOf full id t)
 unfolding lookupAnswer answerOf lookupResult by
-lookup-result t id = go (usable t) (lookupOf id t)
+lookup-result t id = go (usable full t) (lookupOf full id t)
   where
     go : (a : Bool) (f : Found ℕ) → lookupResult (if a (answerOf f) (LookupRefused 7)) ≡ by ((not a gives 7) ∷ []) f
     go true (found k) = refl
     go true nothing = refl
     go false f = refl
 
-record-result : (t : Table) (number : ℕ) → AreBytes (t .buffer) → recordResult (recordAnswer t number) ≡ by (recordLines t number) (entryIn (getD (rows t) number []))
+record-result : (t : Table) (number : ℕ) → AreBytes (t .buffer) → recordResult (recordAnswer full t number) ≡ by (recordLines t number) (entryIn (getD (rows full t) number []))
 unfolding by
-record-result t number b = go (usable t) refl (ltb number (t .count)) refl
+record-result t number b = go (usable full t) refl (ltb number (t .count)) refl
   where
     e : Entry
-    e = entryIn (getD (rows t) number [])
+    e = entryIn (getD (rows full t) number [])
 
-    go : (u : Bool) → usable t ≡ u → (l : Bool) → ltb number (t .count) ≡ l → recordResult (recordAnswer t number) ≡ by ((not u gives 7) ∷ (not l gives 14) ∷ []) e
-    go true p true q = read-row t b p number (ltb-true number (t .count) q)
+    go : (u : Bool) → usable full t ≡ u → (l : Bool) → ltb number (t .count) ≡ l → recordResult (recordAnswer full t number) ≡ by ((not u gives 7) ∷ (not l gives 14) ∷ []) e
+    go true p true q = read-row full-laws t b p number (ltb-true number (t .count) q)
     go true p false q = refused-record-result t number 14 (record-14 t number p q)
     go false p l q = refused-record-result t number 7 (record-7 t number p)
 
-record-zeros : (t : Table) (number n : ℕ) → recordResult (recordAnswer t number) ≡ refused n → recordAnswer t number ≡ refusedRecord n
+record-zeros : (t : Table) (number n : ℕ) → recordResult (recordAnswer full t number) ≡ refused n → recordAnswer full t number ≡ refusedRecord n
 unfolding recordAnswer entryResult readOf
 record-zeros t number n =
-    branch P (usable t) _ _ (λ _. branch P (ltb number (t .count)) _ _ (λ _ e. absurd (given _ n e)) (λ _. of-refused 14)) (λ _. of-refused 7)
+    branch P (usable full t) _ _ (λ _. branch P (ltb number (t .count)) _ _ (λ _ e. absurd (given _ n e)) (λ _. of-refused 14)) (λ _. of-refused 7)
   where
     P : RecordRead → Type 0
     P r = recordResult r ≡ refused n → r ≡ refusedRecord n
@@ -208,9 +196,9 @@ record-zeros t number n =
     of-refused : (k : ℕ) → P (refusedRecord k)
     of-refused k e = let z : k ≡ n = cc in rw z
 
-same-result : (t u : Table) → sameResult (sameAnswer t u) ≡ by (sameLines t u) (sameTables t u)
+same-result : (t u : Table) → sameResult (sameAnswer full t u) ≡ by (sameLines t u) (sameTables full t u)
 unfolding sameAnswer sameResult by
-same-result t u = go (usable t) (usable u) (sameTables t u)
+same-result t u = go (usable full t) (usable full u) (sameTables full t u)
   where
     go : (a b c : Bool) → sameResult (if a (if b (if c Yes No) (SameRefused 7)) (SameRefused 7)) ≡ by ((not a gives 7) ∷ (not b gives 7) ∷ []) c
     go true true true = refl
@@ -218,20 +206,20 @@ same-result t u = go (usable t) (usable u) (sameTables t u)
     go true false c = refl
     go false b c = refl
 
-same-equal : (t u : Table) → usable t ≡ true → usable u ≡ true → (sameResult (sameAnswer t u) ≡ ok true ↔ Equal t u)
-same-equal t u p q = (λ e. let d = same-decides t u .right (said e) in record { counts = d .0; records = d .1 }, λ x. answered ∙ ap ok (same-decides t u .whole (x .counts, x .records)))
+same-equal : (t u : Table) → usable full t ≡ true → usable full u ≡ true → (sameResult (sameAnswer full t u) ≡ ok true ↔ Equal full t u)
+same-equal t u p q = (λ e. let d = same-decides full t u .right (said e) in record { counts = d .0; records = d .1 }, λ x. answered ∙ ap ok (same-decides full t u .whole (x .counts, x .records)))
   where
-    answered : sameResult (sameAnswer t u) ≡ ok (sameTables t u)
+    answered : sameResult (sameAnswer full t u) ≡ ok (sameTables full t u)
     answered = same-asked t u p q
 
-    said : sameResult (sameAnswer t u) ≡ ok true → sameTables t u ≡ true
-    said e = let w : _≡_ {A = Result Bool} (ok (sameTables t u)) (ok true) = sym answered ∙ e in cc
+    said : sameResult (sameAnswer full t u) ≡ ok true → sameTables full t u ≡ true
+    said e = let w : _≡_ {A = Result Bool} (ok (sameTables full t u)) (ok true) = sym answered ∙ e in cc
 
-pub lookup-call : (t : Table) (id : ℤ) → AreBytes (t .buffer) → InBits 31 id → LookupCall t id (lookupAnswer t id)
-lookup-call t id b i = record { result = lookup-result t id; at = λ number. lookups .at t id number b i; nowhere = λ u. lookups .none t id b i u }
+pub lookup-call : (t : Table) (id : ℤ) → AreBytes (t .buffer) → InBits 31 id → LookupCall t id (lookupAnswer full t id)
+lookup-call t id b i = record { result = lookup-result t id; at = λ number. lookups full-laws .at t id number b i; nowhere = λ u. lookups full-laws .none t id b i u }
 
-pub record-call : (t : Table) (number : ℕ) → AreBytes (t .buffer) → RecordCall t number (recordAnswer t number)
+pub record-call : (t : Table) (number : ℕ) → AreBytes (t .buffer) → RecordCall t number (recordAnswer full t number)
 record-call t number b = record { result = record-result t number b; zeros = record-zeros t number }
 
-pub same-call : (t u : Table) → SameCall t u (sameAnswer t u)
+pub same-call : (t u : Table) → SameCall t u (sameAnswer full t u)
 same-call t u = record { result = same-result t u; equal = same-equal t u }

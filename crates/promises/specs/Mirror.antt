@@ -16,7 +16,8 @@ use Rattle.wing_wire.specs.SetOrders.{ReadsAsSet}
 use Rattle.wing_wire.specs.declared.state.State.{State}
 use Rattle.wing_wire.specs.declared.write.Written.{Written}
 use Rattle.wing_mirror.specs.Rows.{Table, found, nothing}
-use Rattle.wing_mirror.specs.Record.{entry, entryIn}
+use Rattle.wing_mirror.specs.Entry.{entry}
+use Rattle.wing_mirror.specs.Record.{entryIn, full}
 use Rattle.wing_mirror.specs.Table.{table, rows, usable, fits, lookupOf}
 use Rattle.wing_mirror.specs.Query.{sameTables, refusedRecord}
 use Rattle.wing_mirror.specs.Answers.{lookupResult, recordResult, sameResult, feedResult}
@@ -43,37 +44,37 @@ mirror s t = record { decoder = s; table = t }
 -- a feed: the state, the table, too many bytes
 abbrev pub feedLines : Mirror → List ℕ → List Line
 feedLines m bytes =
-    (not (soundState (m .decoder)) gives 8) ∷ (not (usable (m .table)) gives 7) ∷ (not (leb (length bytes) 65536) gives 14) ∷ []
+    (not (soundState (m .decoder)) gives 8) ∷ (not (usable full (m .table)) gives 7) ∷ (not (leb (length bytes) 65536) gives 14) ∷ []
 
 -- a set through the mirror: the table, the string's length, its UTF-8, no place, too short an output
 abbrev pub setLines : ℤ → NodeValue → Table → List ℕ → List Line
 setLines id v t out =
-    (not (usable t) gives 7) ∷ (tooLong v gives 10) ∷ (notText v gives 1) ∷ (not (fits (entry id v) t) gives 6) ∷ commandLines (setBytes id v) out
+    (not (usable full t) gives 7) ∷ (tooLong v gives 10) ∷ (notText v gives 1) ∷ (not (fits full (entry id v) t) gives 6) ∷ commandLines (setBytes id v) out
 
 -- recall: the table, too short an output
 abbrev pub recallLines : Table → List ℕ → List Line
-recallLines t out = (not (usable t) gives 7) ∷ commandLines (recallBytes t) out
+recallLines t out = (not (usable full t) gives 7) ∷ commandLines (recallBytes full t) out
 
 -- a table that is asked: not usable
 abbrev pub tableLines : Table → List Line
-tableLines t = (not (usable t) gives 7) ∷ []
+tableLines t = (not (usable full t) gives 7) ∷ []
 
 -- a record by number: a number that is not below the count as well
 abbrev pub recordLines : Table → ℕ → List Line
-recordLines t number = (not (usable t) gives 7) ∷ (not (ltb number (t .count)) gives 14) ∷ []
+recordLines t number = (not (usable full t) gives 7) ∷ (not (ltb number (t .count)) gives 14) ∷ []
 
 -- two tables
 abbrev pub sameLines : Table → Table → List Line
-sameLines t u = (not (usable t) gives 7) ∷ (not (usable u) gives 7) ∷ []
+sameLines t u = (not (usable full t) gives 7) ∷ (not (usable full u) gives 7) ∷ []
 
 -- ---- what is promised
 
 -- a feed
 pub record FeedCall (m : Mirror) (bytes : List ℕ) (answer : FeedAnswer) (counts : Counts) (after : Mirror) : Type 0 where
   -- demand 1: 8, 7, 14, and then the mirror is as it was and nothing is counted; else the counts of what the bytes held
-  pub answered : Answers (feedLines m bytes) (fedAll (m .decoder) (m .table) bytes .memo .counts) (feedResult answer counts) ((after ≡ m) × (counts ≡ zeroCounts))
+  pub answered : Answers (feedLines m bytes) (fedAll full (m .decoder) (m .table) bytes .memo .counts) (feedResult answer counts) ((after ≡ m) × (counts ≡ zeroCounts))
   -- demand 3: one step of the mirror's history is this call
-  pub step : mirrorStep m (feed bytes) ≡ record { state = after; outcome = feedOutcome answer counts }
+  pub step : mirrorStep full m (feed bytes) ≡ record { state = after; outcome = feedOutcome answer counts }
 
 -- a set through the mirror
 pub record SetCall (id : ℤ) (v : NodeValue) (t : Table) (out : List ℕ) (answer : Written) (after : Table) (written : List ℕ) : Type 0 where
@@ -82,36 +83,36 @@ pub record SetCall (id : ℤ) (v : NodeValue) (t : Table) (out : List ℕ) (answ
   -- demand 2: what was written is read as that value at that node
   pub reads : ReadsAsSet id v answer written
   -- demand 3: one step of the mirror's history is this call, whatever the decoder, which it neither reads nor alters
-  pub step : (s : State) → mirrorStep (mirror s t) (set id v out) ≡ record { state = mirror s after; outcome = setOutcome answer written }
+  pub step : (s : State) → mirrorStep full (mirror s t) (set id v out) ≡ record { state = mirror s after; outcome = setOutcome answer written }
 
 -- recall
 pub record RecallCall (t : Table) (out : List ℕ) (answer : Written) (written : List ℕ) : Type 0 where
   -- demand 1: 7, 9; else df d1 and the set bytes of each record
-  pub writes : Writes (recallLines t out) (recallBytes t) out answer written (Unit {0})
+  pub writes : Writes (recallLines t out) (recallBytes full t) out answer written (Unit {0})
   -- demand 3: what was written, in any split, rebuilds an equal mirror
-  pub rebuilds : Rebuilt answer written t
+  pub rebuilds : Rebuilt full answer written t
 
 -- lookup
 pub record LookupCall (t : Table) (id : ℤ) (answer : Lookup) : Type 0 where
   -- demand 1: 7
-  pub result : lookupResult answer ≡ by (tableLines t) (lookupOf id t)
+  pub result : lookupResult answer ≡ by (tableLines t) (lookupOf full id t)
   -- 01: an id's record number, exactly if that record is there and has that id
-  pub at : (number : ℕ) → (lookupResult answer ≡ ok (found number) ↔ RecordOf t number id)
+  pub at : (number : ℕ) → (lookupResult answer ≡ ok (found number) ↔ RecordOf full t number id)
   -- 01: or none, exactly if no record has it
-  pub nowhere : usable t ≡ true → (lookupResult answer ≡ ok nothing ↔ ((number : ℕ) → RecordOf t number id → ⊥))
+  pub nowhere : usable full t ≡ true → (lookupResult answer ≡ ok nothing ↔ ((number : ℕ) → RecordOf full t number id → ⊥))
 
 -- a record by number
 pub record RecordCall (t : Table) (number : ℕ) (reply : RecordRead) : Type 0 where
   -- demand 1: 7, 14; else the node and value of that record
-  pub result : recordResult reply ≡ by (recordLines t number) (entryIn (getD (rows t) number []))
+  pub result : recordResult reply ≡ by (recordLines t number) (entryIn (getD (rows full t) number []))
   -- sent back, the string's bytes are all 0
   pub zeros : (n : ℕ) → recordResult reply ≡ refused n → reply ≡ refusedRecord n
 
 -- two tables: 7; else whether count and records are equal
 pub record SameCall (t u : Table) (answer : Same) : Type 0 where
-  pub result : sameResult answer ≡ by (sameLines t u) (sameTables t u)
-  pub equal : usable t ≡ true → usable u ≡ true → (sameResult answer ≡ ok true ↔ Equal t u)
+  pub result : sameResult answer ≡ by (sameLines t u) (sameTables full t u)
+  pub equal : usable full t ≡ true → usable full u ≡ true → (sameResult answer ≡ ok true ↔ Equal full t u)
 
 -- within a feed: a value for which there is no place leaves the table as it was
 abbrev pub UnplacedStays : Type 0
-UnplacedStays = (node : ℤ) (v : NodeValue) (k : TableTally) → fits (entry node v) (k .table) ≡ false → keepEvent node (value v) k .table ≡ k .table
+UnplacedStays = (node : ℤ) (v : NodeValue) (k : TableTally) → fits full (entry node v) (k .table) ≡ false → keepEvent full node (value v) k .table ≡ k .table

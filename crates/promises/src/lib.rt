@@ -8,6 +8,7 @@ ghost use Rattle.wing_wire.specs.RoundTrip.{RoundTrip, RoundTripPieces};
 ghost use Rattle.wing_wire.specs.Repeated.{UntilMore};
 ghost use Rattle.wing_wire.specs.Tokens.{Tokens};
 ghost use Rattle.wing_wire.specs.Cases.{Case, cases};
+ghost use Rattle.wing_mirror.specs.Record.{full};
 ghost use Rattle.wing_mirror.specs.History.{Agreement, Equality, Rebuilding, Histories};
 ghost use Rattle.promises.specs.Node.{Walks};
 ghost use Rattle.promises.specs.Wire.{withEvent, PiecesJoin};
@@ -66,23 +67,23 @@ pub fn demand_3_until_more()
 // Demand 3. After any list of feed and set calls, refused ones included, a mirror has answered each call as the plain
 // machine does and holds exactly the machine's nodes with their last values.
 pub fn demand_3_histories()
-    ensures { λ _. ⌜ Agreement ⌝ }
+    ensures { λ _. ⌜ Agreement full ⌝ }
 {}
 
 // Demand 3. Two mirrors are equal exactly when their machines' maps are.
 pub fn demand_3_equality()
-    ensures { λ _. ⌜ Equality ⌝ }
+    ensures { λ _. ⌜ Equality full ⌝ }
 {}
 
 // Demand 3. What a recall says that it wrote of a mirror, in any split, rebuilds an equal mirror.
 pub fn demand_3_recall()
-    ensures { λ _. ⌜ Rebuilding ⌝ }
+    ensures { λ _. ⌜ Rebuilding full ⌝ }
 {}
 
 // Demand 3 in one piece, with the signed order of the records, what comparing and recalling answer, recall of any table and
 // the bounds of the counts.
 pub fn demand_3_whole()
-    ensures { λ _. ⌜ Histories ⌝ }
+    ensures { λ _. ⌜ Histories full ⌝ }
 {}
 
 // The cases that 01 marks #: what the definitions give in each is what 01 wants.
