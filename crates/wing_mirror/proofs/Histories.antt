@@ -13,3 +13,5 @@ pub mod Recalls
 pub mod Rebuilt
 pub mod Asked
 pub mod Demand
+pub mod Starts
+pub mod Toy

@@ -2,6 +2,7 @@
 pub mod Choices
 pub mod Usables
 pub mod Placing
+pub mod Words
 pub mod Formed
 pub mod Lasting
 pub mod Said

@@ -21,6 +21,7 @@ use Rattle.wing_wire.proofs.Laws.{decoder-laws}
 use Rattle.wing_mirror.specs.Entry.{Entry, flipped, rankOf, storable}
 use Rattle.wing_mirror.specs.Record.{kindOf, payloadOf, recordOf, keyOf, stringKept, wellKept, wellFormed}
 use Rattle.wing_mirror.proofs.Records.Usables.{both}
+use Rattle.wing_mirror.proofs.Records.Words.{unsigned-below}
 
 length-filled : (p : List ℕ) → length (filled 256 p) ≡ 256
 length-filled p = decoder-laws .filledSize 256 p
@@ -78,10 +79,6 @@ value-kept (string s) h =
 pub record-form : (e : Entry) → storable (e .value) ≡ true → wellFormed (recordOf e) ≡ true
 unfolding wellFormed recordOf digitsIn
 record-form e h = value-kept (e .value) h
-
-pub unsigned-below : (x : ℤ) → InBits 31 x → unsigned 31 x < 256 ^ 4
-unsigned-below (pos n) q = omega arith
-unsigned-below (negsuc n) q = omega arith
 
 -- a record stands where its id does
 pub record-key : (e : Entry) → InBits 31 (e .id) → keyOf (recordOf e) ≡ rankOf (e .id)

@@ -17,18 +17,9 @@ use Rattle.wing_wire.specs.Range.{AreBytes, noBytes, byteThen}
 use Rattle.wing_mirror.specs.Entry.{Typed}
 use Rattle.wing_mirror.specs.Layout.{ValidEntry, Row, Lawful}
 use Rattle.wing_mirror.specs.Record.{valueIn, entryIn, kindIn, lengthIn, payloadIn, full}
+use Rattle.wing_mirror.proofs.Records.Words.{are-digits, word-below}
 use Rattle.wing_mirror.proofs.Records.Formed.{record-width, record-form, record-key}
 use Rattle.wing_mirror.proofs.Records.Trips.{entry-back, read-storable, record-back}
-
--- bytes as digits of base 256
-pub are-digits : (s : List ℕ) → AreBytes s → Digits 256 s
-are-digits [] noBytes i = omega arith
-are-digits (b ∷ s) (byteThen h hs) zero = h
-are-digits (b ∷ s) (byteThen h hs) (suc i) = are-digits s hs i
-
--- four bytes as a number
-pub word-below : (s : List ℕ) → 4 ≤ length s → Digits 256 s → big (take 4 s) < 2 ^ 32
-word-below s h b = let l : length (take 4 s) ≡ 4 = length-take-le 4 s h in rw l at (number-below 256 (take 4 s) (digits-take 256 4 s b))
 
 module _ (r : List ℕ) (g : Row full r) where
   bytes : Digits 256 r

@@ -16,19 +16,13 @@ use Rattle.wing_node.specs.Signed.{signed, unsigned, InBits}
 use Rattle.wing_node.specs.Utf8.{utf8}
 use Rattle.wing_node.specs.Value.{NodeValue, integer, float, string}
 use Rattle.wing_node.proofs.Numerals.Numbers.{Digits, digits-take, digits-drop, digits-number, number-below, number-digits, length-digitsIn}
-use Rattle.wing_node.proofs.Numerals.Signs.{signed-unsigned, unsigned-signed}
 use Rattle.wing_wire.specs.State.{zeros, and}
 use Rattle.wing_wire.specs.Reader.{over, filled}
 use Rattle.wing_mirror.specs.Entry.{entry, storable, Typed}
 use Rattle.wing_mirror.specs.Record.{kindOf, payloadOf, recordOf, kindIn, lengthIn, payloadIn, valueIn, entryIn, stringKept, wellKept, wellFormed}
 use Rattle.wing_mirror.proofs.Records.Usables.{both}
-use Rattle.wing_mirror.proofs.Records.Formed.{unsigned-below, take-over}
-
-word-back : (n : ℕ) → n < 256 ^ 4 → big (bytesOf 4 n) ≡ n
-word-back n h = number-digits 256 4 n (omega arith) h
-
-int-back : (x : ℤ) → InBits 31 x → signed 31 (big (bytesOf 4 (unsigned 31 x))) ≡ x
-int-back x h = ap (signed 31) (word-back (unsigned 31 x) (unsigned-below x h)) ∙ signed-unsigned 31 x h
+use Rattle.wing_mirror.proofs.Records.Words.{word-back, int-back, word-again, int-again}
+use Rattle.wing_mirror.proofs.Records.Formed.{take-over}
 
 string-back : (s : List ℕ) → length s ≤ 256 → take (big (bytesOf 2 (length s))) (filled 256 s) ≡ s
 string-back s h =
@@ -42,15 +36,6 @@ entry-back id (integer x) h t s = ap₂ (λ (i y : ℤ). entry i (integer y)) (i
 entry-back id (float bits) h t s = ap₂ (λ (i : ℤ) (y : ℕ). entry i (float y)) (int-back id h) (word-back bits t)
 entry-back id (string l) h t s =
     ap₂ (λ (i : ℤ) (y : List ℕ). entry i (string y)) (int-back id h) (string-back l (leb-true (length l) 256 (both (leb (length l) 256) (utf8 l) s .0)))
-
--- bytes of a number, read and laid anew
-word-again : (s : List ℕ) → length s ≡ 4 → Digits 256 s → bytesOf 4 (big s) ≡ s
-word-again s e b = digits-number 256 4 s e b
-
-int-again : (s : List ℕ) → length s ≡ 4 → Digits 256 s → bytesOf 4 (unsigned 31 (signed 31 (big s))) ≡ s
-int-again s e b =
-    let l : big s < 256 ^ 4 = rw e at (number-below 256 s b) in
-    ap (bytesOf 4) (unsigned-signed 31 (big s) (omega arith)) ∙ word-again s e b
 
 zeros-cons : (a : ℕ) (s : List ℕ) → zeros (a ∷ s) ≡ true → (a ≡ 0) × (zeros s ≡ true)
 unfolding zeros

@@ -4,7 +4,7 @@ use mathlib.Core.Path.{_≡_, refl, sym, _∙_, ap}
 use mathlib.Core.List.{List, [], _∷_, _++_, append-assoc}
 use native.Mathlib.Omega.{arith}
 use native.Mathlib.Nat.{mul-suc, mul-zero, mul-le-mul-left}
-use lib.ListN.{length, take, drop, length-append, length-drop}
+use lib.ListN.{length, take, drop, length-append, length-drop, take-append-drop}
 use lib.Seq.{take-at, drop-at, drop-drop, length-take-le, drop-append-add, take-add}
 use Rattle.wing_mirror.specs.Rows.{records, joined, laid, All}
 
@@ -64,3 +64,8 @@ module _ (w : ℕ) where
   joined-records (suc n) buf =
       let z : w * suc n ≡ w + w * n = omega (arith, mul-suc w n) in
       rw (z, take-add w (w * n) buf, joined-records n (drop w buf))
+
+  -- a table's own records laid where they stand
+  pub laid-own : (n : ℕ) (buf : List ℕ) → laid w (records w n buf) buf ≡ buf
+  unfolding laid
+  laid-own n buf = rw (joined-records n buf, length-records n buf) (take-append-drop (w * n) buf)
