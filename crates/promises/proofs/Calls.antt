@@ -1,5 +1,5 @@
 -- What is promised of the mirror's calls, as specs/Mirror states it.
-use Prim.Native.Nat.{ℕ, _<_, _≤_}
+use Prim.Native.Nat.{ℕ}
 use mathlib.Core.Bool.{Bool, true, false, not}
 use mathlib.Core.Path.{_≡_, refl, sym, _∙_, ap}
 use mathlib.Core.Logic.{_↔_}
@@ -22,7 +22,7 @@ use Rattle.wing_wire.specs.RoundTrip.{Settable}
 use Rattle.wing_wire.specs.SetOrders.{ReadsAsSet}
 use Rattle.wing_wire.specs.Answers.{writtenResult}
 use Rattle.wing_wire.specs.declared.state.State.{State}
-use Rattle.wing_wire.specs.declared.write.Written.the-variants.{Bytes, Refused}
+use Rattle.wing_wire.specs.declared.write.Written.the-variants.{Bytes}
 use Rattle.wing_node.proofs.Branches.{branch}
 use Rattle.wing_wire.proofs.BothWays.Orders.{reads-as-set}
 use Rattle.wing_mirror.specs.Rows.{Table, Found, found, nothing}
@@ -33,7 +33,7 @@ use Rattle.wing_mirror.specs.Query.{answerOf, lookupAnswer, readOf, refusedReco
 use Rattle.wing_mirror.specs.Answers.{lookupResult, entryResult, recordResult, sameResult, feedResult}
 use Rattle.wing_mirror.specs.Call.{tooLong, notText}
 use Rattle.wing_mirror.specs.Counts.{zeroCounts}
-use Rattle.wing_mirror.specs.Mirror.{Feeding, refusedFeed, fedAll, takenFeed, mirrorFeed, Setting, refusedSet, mirrorSet}
+use Rattle.wing_mirror.specs.Mirror.{Feeding, fedAll, takenFeed, mirrorFeed, Setting, mirrorSet}
 use Rattle.wing_mirror.specs.Recall.{recallBytes, recallOf}
 use Rattle.wing_mirror.specs.History.{Equal, mirrorStep}
 use Rattle.wing_mirror.specs.declared.answer.Counts.{Counts}
@@ -45,8 +45,8 @@ use Rattle.wing_mirror.proofs.Records.Equals.{same-decides}
 use Rattle.wing_mirror.proofs.Records.Lookups.{read-row, lookups}
 use Rattle.wing_mirror.proofs.Calls.Outcomes.{passed, set-cases}
 use Rattle.wing_mirror.proofs.Histories.Demand.{histories}
-use Rattle.promises.specs.Lines.{Line, _gives_, by, Answers}
-use Rattle.promises.specs.Mirror.{mirror, feedLines, setLines, recallLines, tableLines, recordLines, sameLines, FeedCall, SetCall, RecallCall, LookupCall, RecordCall, SameCall}
+use Rattle.promises.specs.Lines.{_gives_, by, Answers}
+use Rattle.promises.specs.Mirror.{mirror, setLines, tableLines, recordLines, sameLines, FeedCall, SetCall, RecallCall, LookupCall, RecordCall, SameCall}
 use Rattle.promises.proofs.Lines.{taken, line, unless, given}
 use Rattle.promises.proofs.Writers.{at-front, past-front, written-rest, command-writes}
 

@@ -1,6 +1,6 @@
 -- 01: a place is 264 bytes: id (4, signed), kind (1: 0 integer, 1 float, 2 string), 00, length (2: 4 for numbers, 0 to 256 for strings), payload (256, zero-filled).
 use Prim.Native.Nat.{ℕ}
-use mathlib.Core.Bool.{Bool, true, false}
+use mathlib.Core.Bool.{Bool, false}
 use mathlib.Core.List.{List, _∷_, _++_}
 use lib.Dec.{leb, eqb}
 use lib.IntN.{ℤ}

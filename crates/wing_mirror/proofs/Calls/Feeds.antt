@@ -1,19 +1,18 @@
 -- What feed and set keep of any usable table and sound state: both stay so, counts are few, and a feed may come in two pieces.
 use Prim.Native.Nat.{ℕ, _+_, _≤_}
-use mathlib.Core.Bool.{Bool, true, false}
-use mathlib.Core.Path.{_≡_, refl, sym, _∙_, ap}
+use mathlib.Core.Bool.{true}
+use mathlib.Core.Path.{_≡_, sym, _∙_, ap}
 use mathlib.Core.List.{List, [], _∷_, _++_}
 use native.Mathlib.Omega.{arith}
-use borrow.Author.Tests.{leb-true, leb-false}
-use lib.Dec.{ltb, leb}
+use lib.Dec.{leb}
 use lib.IntN.{ℤ}
 use lib.ListN.{length, length-append}
 use Rattle.wing_node.specs.Value.{NodeValue}
+use Rattle.wing_node.proofs.Branches.{branch}
 use Rattle.wing_wire.specs.State.{soundState}
 use Rattle.wing_wire.specs.Stream.{Fed, feedOf}
 use Rattle.wing_wire.specs.Range.{AreBytes, InRange}
 use Rattle.wing_wire.specs.Reader.{Event, more, value, body, end, refused, eventOf}
-use Rattle.wing_wire.specs.Command.{setBytes}
 use Rattle.wing_wire.specs.declared.state.State.{State}
 use Rattle.wing_wire.proofs.Laws.{decoder-laws}
 use Rattle.wing_mirror.specs.Rows.{Table, All}
@@ -30,19 +29,19 @@ use Rattle.wing_mirror.proofs.Calls.Turns.{value-usable}
 use Rattle.wing_mirror.proofs.Histories.Along.{foldEvents, few-events}
 use Rattle.wing_mirror.proofs.Calls.Tallies.{fold-total, atop, add-zero-counts, keep-adds}
 use Rattle.wing_mirror.proofs.Histories.Decodes.{ValidEvent, ValidStreamEvent, ValidState, after-valid, events-valid}
-use Rattle.wing_mirror.proofs.Calls.Outcomes.{feed-8, feed-7, feed-14, feed-taken, fed-events, passed, text-storable, set-cases}
+use Rattle.wing_mirror.proofs.Calls.Outcomes.{feed-taken, fed-events, passed, text-storable, set-cases}
 
 -- a feed's counts, refused or taken
 pub feed-counts : (L : Layout) (s : State) (t : Table) (bytes : List ℕ) → total (mirrorFeed L s t bytes .counts) ≤ length bytes + 1
-feed-counts L s t bytes = go (soundState s) refl (usable L t) refl (leb (length bytes) 65536) refl
+unfolding mirrorFeed
+feed-counts L s t bytes =
+    branch P (soundState s) _ _
+    (λ g. branch P (usable L t) _ _
+    (λ _. branch P (leb (length bytes) 65536) _ _
+    (λ _. rw (fed-events L s t bytes) (omega (arith, fold-total L (events s bytes) (tableTally t zeroCounts), few-events s bytes g))) (λ _. omega arith)) (λ _. omega arith)) (λ _. omega arith)
   where
-    go : (a : Bool) → soundState s ≡ a → (b : Bool) → usable L t ≡ b → (c : Bool) → leb (length bytes) 65536 ≡ c → total (mirrorFeed L s t bytes .counts) ≤ length bytes + 1
-    go false p b q c r = rw (feed-8 L s t bytes p) (omega arith)
-    go true p false q c r = rw (feed-7 L s t bytes p q) (omega arith)
-    go true p true q false r = rw (feed-14 L s t bytes p q (leb-false (length bytes) 65536 r)) (omega arith)
-    go true p true q true r =
-        rw (feed-taken L s t bytes p q (leb-true (length bytes) 65536 r), fed-events L s t bytes)
-        (omega (arith, fold-total L (events s bytes) (tableTally t zeroCounts), few-events s bytes p))
+    P : Feeding → Type 0
+    P x = total (x .counts) ≤ length bytes + 1
 
 -- a feed that begins with counts c
 from-counts : (L : Layout) (x : Fed TableTally) (c : Counts) (bytes : List ℕ) →
@@ -80,16 +79,14 @@ module _ {L : Layout} (laws : Lawful L) where
   -- a feed leaves a usable table usable and a sound state sound
   pub feed-sound : (s : State) (t : Table) (bytes : List ℕ) → InRange (s .control) (s .store) → AreBytes bytes → soundState s ≡ true → usable L t ≡ true →
       (usable L (mirrorFeed L s t bytes .table) ≡ true) × (soundState (mirrorFeed L s t bytes .state) ≡ true)
-  feed-sound s t bytes inside are g u = go (leb (length bytes) 65536) refl
+  unfolding mirrorFeed
+  feed-sound s t bytes inside are g u =
+      let w : ValidState s = record { sound = g; inside = inside } in
+      rw (g, u) (branch P (leb (length bytes) 65536) _ _
+      (λ _. rw (fed-events L s t bytes) (fold-usable (events s bytes) (tableTally t zeroCounts) (events-valid s bytes are w L) u, after-valid s bytes are w .sound)) (λ _. (u, g)))
     where
-      w : ValidState s
-      w = record { sound = g; inside = inside }
-
-      go : (b : Bool) → leb (length bytes) 65536 ≡ b → (usable L (mirrorFeed L s t bytes .table) ≡ true) × (soundState (mirrorFeed L s t bytes .state) ≡ true)
-      go false q = rw (feed-14 L s t bytes g u (leb-false (length bytes) 65536 q)) (u, g)
-      go true q =
-          rw (feed-taken L s t bytes g u (leb-true (length bytes) 65536 q), fed-events L s t bytes)
-          (fold-usable (events s bytes) (tableTally t zeroCounts) (events-valid s bytes are w L) u, after-valid s bytes are w .sound)
+      P : Feeding → Type 0
+      P x = (usable L (x .table) ≡ true) × (soundState (x .state) ≡ true)
 
   -- a set leaves a usable table usable
   pub set-sound : (id : ℤ) (v : NodeValue) (t : Table) (out : List ℕ) → usable L t ≡ true → usable L (mirrorSet L id v t out .table) ≡ true

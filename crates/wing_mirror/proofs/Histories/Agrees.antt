@@ -1,13 +1,11 @@
 -- Demand 3: a mirror and the plain machine agree after any history, in order and in what their equality means.
 use Prim.Native.Nat.{ℕ}
-use mathlib.Core.Bool.{true}
 use mathlib.Core.Path.{_≡_, refl, sym, _∙_, ap, subst}
-use mathlib.Core.Logic.{_↔_}
 use mathlib.Core.List.{List, map}
 use lib.ListN.{length}
 use Rattle.wing_node.specs.Signed.{InBits}
 use Rattle.wing_mirror.specs.Rows.{In, All}
-use Rattle.wing_mirror.specs.Entry.{Entry, risingIds, ids}
+use Rattle.wing_mirror.specs.Entry.{Entry}
 use Rattle.wing_mirror.specs.Layout.{Layout, ValidEntry, Lawful}
 use Rattle.wing_mirror.specs.Call.{Call, History, TypedCall}
 use Rattle.wing_mirror.specs.Machine.{Machine, newMachine}

@@ -10,6 +10,7 @@ use Rattle.wing_node.specs.Signed.{InBits}
 use Rattle.wing_node.specs.Value.{NodeValue}
 use Rattle.wing_node.proofs.Branches.{branch}
 use Rattle.wing_wire.specs.Range.{AreBytes}
+use Rattle.wing_wire.specs.Command.{setBytes}
 use Rattle.wing_mirror.specs.Rows.{All}
 use Rattle.wing_mirror.specs.Entry.{entry, Typed}
 use Rattle.wing_mirror.specs.Layout.{kept, Layout, ValidEntry}
@@ -17,10 +18,11 @@ use Rattle.wing_mirror.specs.Table.{placesAllowed}
 use Rattle.wing_mirror.specs.Counts.{zeroCounts}
 use Rattle.wing_mirror.specs.Call.{Call, feed, set, tooLong, notText, Step, runAll, TypedCall}
 use Rattle.wing_mirror.specs.Machine.{Machine, newMachine, mapTally, room, events, machineStep}
+use Rattle.wing_mirror.proofs.Records.Choices.{keeping-cases}
 use Rattle.wing_mirror.proofs.Histories.Maps.{ValidMap, valid-empty, valid-put}
 use Rattle.wing_mirror.proofs.Histories.Decodes.{ValidState, fresh-valid, after-valid, events-valid}
 use Rattle.wing_mirror.proofs.Histories.Events.{machine-events-valid}
-use Rattle.wing_mirror.proofs.Calls.Outcomes.{passed, text-storable, machine-set-cases}
+use Rattle.wing_mirror.proofs.Calls.Outcomes.{passed, text-storable}
 
 -- a machine whose decoder and map are valid
 pub record Invariant (L : Layout) (places : ℕ) (s : Machine) : Type 0 where
@@ -55,9 +57,15 @@ module _ (L : Layout) (places : ℕ) where
 
   -- after a set
   invariant-set : (s : Machine) (id : ℤ) (v : NodeValue) (out : List ℕ) → TypedCall (set id v out) → Invariant L places s → Invariant L places (machineStep keeping places s (set id v out) .state)
+  unfolding machineStep
   invariant-set s id v out t w =
-      machine-set-cases keeping places s id v out P (λ n. w)
-      (λ k a b c. record { decoder = w .decoder; map = valid-put places (entry id v) (s .map) (w .map) (set-valid id v (t .0) (t .1) k a b) (passed (room places id (s .map)) c) })
+      branch P (not (placesAllowed places)) _ _ (λ _. w)
+      (λ _. keeping-cases P (keeping v) _ _ (λ mark number. w)
+      (λ k. branch P (tooLong v) _ _ (λ _. w)
+      (λ a. branch P (notText v) _ _ (λ _. w)
+      (λ b. branch P (not (room places id (s .map))) _ _ (λ _. w)
+      (λ c. branch P (ltb (length out) (length (setBytes id v))) _ _ (λ _. w)
+      (λ _. record { decoder = w .decoder; map = valid-put places (entry id v) (s .map) (w .map) (set-valid id v (t .0) (t .1) k a b) (passed (room places id (s .map)) c) }))))))
 
   -- a call keeps it
   pub invariant-step : (s : Machine) (c : Call) → TypedCall c → Invariant L places s → Invariant L places (machineStep keeping places s c .state)

@@ -3,31 +3,30 @@ use Prim.Native.Nat.{ℕ}
 use mathlib.Core.Bool.{Bool, true, false}
 use mathlib.Core.Path.{_≡_, refl, sym, _∙_, ap}
 use mathlib.Core.List.{List, [], _∷_}
-use borrow.Author.Tests.{ltb-true, ltb-false}
+use borrow.Author.Tests.{le-leb, lt-leb, ltb-true, ltb-false}
 use lib.Dec.{ltb}
 use lib.IntN.{ℤ}
 use lib.ListN.{length, drop}
 use lib.Seq.{take-at}
 use Rattle.wing_node.specs.Value.{NodeValue}
 use Rattle.wing_wire.specs.State.{freshState, soundState}
-use Rattle.wing_wire.specs.Stream.{Fed}
 use Rattle.wing_wire.specs.Range.{AreBytes}
 use Rattle.wing_wire.specs.Command.{setBytes}
 use Rattle.wing_mirror.specs.Rows.{Table, All}
 use Rattle.wing_mirror.specs.Entry.{entry}
 use Rattle.wing_mirror.specs.Layout.{Keeping, kept, unkept, Layout, ValidEntry, Lawful}
-use Rattle.wing_mirror.specs.Table.{placesAllowed, usable, put, fits}
+use Rattle.wing_mirror.specs.Table.{placesAllowed, usable, fits}
 use Rattle.wing_mirror.specs.Counts.{zeroCounts}
-use Rattle.wing_mirror.specs.Call.{Call, feed, set, tooLong, notText, fed, sent, Step, History, runAll, TypedCall}
-use Rattle.wing_mirror.specs.Mirror.{TableTally, tableTally, keepEvent, takenFeed, Feeding, Setting}
-use Rattle.wing_mirror.specs.Machine.{Machine, newMachine, mapTally, room, stateAfter, events, machineFeed, machineStep}
-use Rattle.wing_mirror.specs.History.{Mirror, newMirror, feedOutcome, setOutcome, mirrorStep, placesIn, inOrder}
+use Rattle.wing_mirror.specs.Call.{Call, feed, set, tooLong, notText, Step, History, runAll, TypedCall}
+use Rattle.wing_mirror.specs.Mirror.{tableTally, keepEvent, mirrorFeed, mirrorSet}
+use Rattle.wing_mirror.specs.Machine.{Machine, newMachine, mapTally, room, events, machineFeed, machineStep}
+use Rattle.wing_mirror.specs.History.{Mirror, newMirror, mirrorStep, placesIn, inOrder}
 use Rattle.wing_mirror.proofs.Tables.Chunks.{laid-nil}
 use Rattle.wing_mirror.proofs.Histories.Along.{foldEvents}
 use Rattle.wing_mirror.proofs.Histories.Mirrored.{tableOf, usable-image, fits-image, put-image}
 use Rattle.wing_mirror.proofs.Histories.Decodes.{events-valid}
 use Rattle.wing_mirror.proofs.Histories.Events.{tableTallyOf, keep-all-image}
-use Rattle.wing_mirror.proofs.Calls.Outcomes.{feed-7, feed-14, feed-taken, fed-events, set-7, set-unkept, set-10, set-1, set-6, set-9, set-sent}
+use Rattle.wing_mirror.proofs.Calls.Outcomes.{fed-events}
 use Rattle.wing_mirror.proofs.Histories.Invariant.{Invariant, invariant-new, set-valid, invariant-step}
 
 module _ (L : Layout) (buffer : List ℕ) where
@@ -46,18 +45,10 @@ module _ (L : Layout) (buffer : List ℕ) where
 module _ {L : Layout} (laws : Lawful L) (buffer : List ℕ) where
   open Layout L using (width, keeping)
 
-  -- the mirror after a feed
-  abbrev afterFeed : Feeding → Step Mirror
-  afterFeed x = record { state = record { decoder = x .state; table = x .table }; outcome = feedOutcome (x .answer) (x .counts) }
-
-  -- the mirror after a set: the decoder is neither read nor altered
-  abbrev afterSet : Machine → Setting → Step Mirror
-  afterSet s x = record { state = record { decoder = s .decoder; table = x .table }; outcome = setOutcome (x .answer) (x .out) }
-
   -- a feed
   feed-image : (s : Machine) (bytes : List ℕ) → AreBytes bytes → Invariant L (placesIn L buffer) s →
       mirrorStep L (mirrorOf L buffer s) (feed bytes) ≡ imageStep L buffer (machineStep keeping (placesIn L buffer) s (feed bytes))
-  unfolding mirrorStep machineStep
+  unfolding mirrorStep machineStep mirrorFeed
   feed-image s bytes t w = go (placesAllowed (placesIn L buffer)) refl (ltb 65536 (length bytes)) refl
     where
       T : Table
@@ -74,18 +65,14 @@ module _ {L : Layout} (laws : Lawful L) (buffer : List ℕ) where
 
       go : (a : Bool) → placesAllowed (placesIn L buffer) ≡ a → (b : Bool) → ltb 65536 (length bytes) ≡ b →
           mirrorStep L (mirrorOf L buffer s) (feed bytes) ≡ imageStep L buffer (machineStep keeping (placesIn L buffer) s (feed bytes))
-      go false p b q = rw p (ap afterFeed (feed-7 L (s .decoder) T bytes g (u ∙ p)))
-      go true p true q = rw (p, q) (ap afterFeed (feed-14 L (s .decoder) T bytes g (u ∙ p) (ltb-true 65536 (length bytes) q)))
-      go true p false q =
-          rw (p, q)
-          (ap afterFeed (feed-taken L (s .decoder) T bytes g (u ∙ p) (ltb-false 65536 (length bytes) q))
-          ∙ ap (λ (x : Fed TableTally). afterFeed (takenFeed x)) (fed-events L (s .decoder) T bytes)
-          ∙ ap (λ (k : TableTally). record { state = record { decoder = stateAfter (s .decoder) bytes; table = k .table }; outcome = fed (k .counts) }) events-counted)
+      go false p b q = rw (g, u, p)
+      go true p true q = rw (g, u, p, q, lt-leb (length bytes) 65536 (ltb-true 65536 (length bytes) q))
+      go true p false q = rw (g, u, p, q, le-leb (length bytes) 65536 (ltb-false 65536 (length bytes) q), fed-events L (s .decoder) T bytes, events-counted)
 
   -- a set
   set-image : (s : Machine) (id : ℤ) (v : NodeValue) (out : List ℕ) → TypedCall (set id v out) → Invariant L (placesIn L buffer) s →
       mirrorStep L (mirrorOf L buffer s) (set id v out) ≡ imageStep L buffer (machineStep keeping (placesIn L buffer) s (set id v out))
-  unfolding mirrorStep machineStep
+  unfolding mirrorStep machineStep mirrorSet
   set-image s id v out t w =
       go (placesAllowed (placesIn L buffer)) refl (keeping v) refl (tooLong v) refl (notText v) refl (room (placesIn L buffer) id (s .map)) refl (ltb (length out) (length (setBytes id v))) refl
     where
@@ -98,10 +85,10 @@ module _ {L : Layout} (laws : Lawful L) (buffer : List ℕ) where
       go : (a : Bool) → placesAllowed (placesIn L buffer) ≡ a → (k : Keeping) → keeping v ≡ k → (b : Bool) → tooLong v ≡ b → (c : Bool) → notText v ≡ c →
           (d : Bool) → room (placesIn L buffer) id (s .map) ≡ d → (l : Bool) → ltb (length out) (length (setBytes id v)) ≡ l →
           mirrorStep L (mirrorOf L buffer s) (set id v out) ≡ imageStep L buffer (machineStep keeping (placesIn L buffer) s (set id v out))
-      go false p k o b q c r d e l f = rw p (ap (afterSet s) (set-7 L id v T out (u ∙ p)))
-      go true p (unkept mark number) o b q c r d e l f = rw (p, o) (ap (afterSet s) (set-unkept L id v T out (u ∙ p) mark number o))
-      go true p kept o true q c r d e l f = rw (p, o, q) (ap (afterSet s) (set-10 L id v T out (u ∙ p) o q))
-      go true p kept o false q true r d e l f = rw (p, o, q, r) (ap (afterSet s) (set-1 L id v T out (u ∙ p) o q r))
+      go false p k o b q c r d e l f = rw (u, p)
+      go true p (unkept mark number) o b q c r d e l f = rw (u, p, o)
+      go true p kept o true q c r d e l f = rw (u, p, o, q)
+      go true p kept o false q true r d e l f = rw (u, p, o, q, r)
       go true p kept o false q false r d e l f = last d e l f
         where
           valid : ValidEntry L (entry id v)
@@ -112,13 +99,10 @@ module _ {L : Layout} (laws : Lawful L) (buffer : List ℕ) where
 
           last : (d : Bool) → room (placesIn L buffer) id (s .map) ≡ d → (l : Bool) → ltb (length out) (length (setBytes id v)) ≡ l →
               mirrorStep L (mirrorOf L buffer s) (set id v out) ≡ imageStep L buffer (machineStep keeping (placesIn L buffer) s (set id v out))
-          last false e l f = rw (p, o, q, r, e) (ap (afterSet s) (set-6 L id v T out (u ∙ p) o q r (i ∙ e)))
-          last true e true f = rw (p, o, q, r, e, f) (ap (afterSet s) (set-9 L id v T out (u ∙ p) o q r (i ∙ e) f))
+          last false e l f = rw (u, p, o, q, r, i, e)
+          last true e true f = rw (u, p, o, q, r, i, e, f)
           last true e false f =
-              rw (p, o, q, r, e, f)
-              (ap (afterSet s) (set-sent L id v T out (u ∙ p) o q r (i ∙ e) f)
-              ∙ ap (λ (x : List ℕ). record { state = record { decoder = s .decoder; table = put L (entry id v) T }; outcome = sent x }) (take-at (setBytes id v) (drop (length (setBytes id v)) out) (length (setBytes id v)) refl)
-              ∙ ap (λ (x : Table). record { state = record { decoder = s .decoder; table = x }; outcome = sent (setBytes id v) }) (put-image laws buffer (s .map) (w .map) (entry id v) valid))
+              rw (u, p, o, q, r, i, e, f, take-at (setBytes id v) (drop (length (setBytes id v)) out) (length (setBytes id v)) refl, put-image laws buffer (s .map) (w .map) (entry id v) valid)
 
   -- any call
   pub step-image : (s : Machine) (c : Call) → TypedCall c → Invariant L (placesIn L buffer) s → mirrorStep L (mirrorOf L buffer s) c ≡ imageStep L buffer (machineStep keeping (placesIn L buffer) s c)

@@ -20,7 +20,7 @@ use Rattle.wing_mirror.proofs.Histories.Maps.{ValidMap}
 use Rattle.wing_mirror.proofs.Histories.Mirrored.{recs, tableOf}
 use Rattle.wing_mirror.proofs.Histories.Decodes.{ValidState}
 use Rattle.wing_mirror.proofs.Histories.Invariant.{Invariant, invariant-run}
-use Rattle.wing_mirror.proofs.Histories.Simulates.{mirrorOf, imageRun, run-image}
+use Rattle.wing_mirror.proofs.Histories.Simulates.{imageRun, run-image}
 use Rattle.wing_mirror.proofs.Histories.Agrees.{image-agrees}
 use Rattle.wing_mirror.proofs.Histories.Rebuilt.{order-own}
 

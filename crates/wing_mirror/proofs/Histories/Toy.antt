@@ -1,6 +1,6 @@
 -- A second layout, in small: places of five bytes, an id (4) and an integer from 0 to 255; no other value is kept. It keeps the laws of a
 -- layout, so that demand 3 holds of it.
-use Prim.Native.Nat.{ℕ, _≤_, _<_}
+use Prim.Native.Nat.{ℕ, _<_}
 use mathlib.Core.Bool.{true}
 use mathlib.Core.Path.{_≡_, refl, sym, _∙_, ap, ap₂}
 use mathlib.Core.List.{List, [], _∷_, _++_}
@@ -8,7 +8,7 @@ use native.Mathlib.Omega.{arith}
 use borrow.Author.Tests.{lt-ltb}
 use lib.Dec.{ltb}
 use lib.IntN.{ℤ, pos, negsuc}
-use lib.ListN.{length, take, drop, getD, length-append, take-append-drop, drop-of-length-le}
+use lib.ListN.{length, take, drop, getD, take-append-drop, drop-of-length-le}
 use lib.Seq.{drop-cons, length-take-le}
 use Rattle.wing_node.specs.Bool.{if}
 use Rattle.wing_node.specs.Digits.{digitsIn}

@@ -1,19 +1,16 @@
 -- The 264-byte record keeps the laws of a layout.
-use Prim.Native.Nat.{ℕ, zero, suc, _^_, _<_, _≤_}
-use mathlib.Core.Bool.{true}
-use mathlib.Core.Path.{_≡_, refl}
-use mathlib.Core.List.{List, [], _∷_}
+use Prim.Native.Nat.{ℕ, _^_, _<_}
+use mathlib.Core.Path.{refl}
+use mathlib.Core.List.{List}
 use native.Mathlib.Omega.{arith}
 use lib.Dec.{eqb}
-use lib.ListN.{length, take, length-drop}
-use lib.Seq.{length-take-le}
+use lib.ListN.{take, length-drop}
 use Rattle.wing_node.specs.Field.{big}
 use Rattle.wing_node.specs.Signed.{signed}
 use Rattle.wing_node.specs.Value.{integer, float, string}
 use Rattle.wing_node.proofs.Branches.{branch}
-use Rattle.wing_node.proofs.Numerals.Numbers.{Digits, digits-take, digits-drop, number-below}
+use Rattle.wing_node.proofs.Numerals.Numbers.{Digits, digits-drop}
 use Rattle.wing_node.proofs.Numerals.Signs.{signed-in}
-use Rattle.wing_wire.specs.Range.{AreBytes, noBytes, byteThen}
 use Rattle.wing_mirror.specs.Entry.{Typed}
 use Rattle.wing_mirror.specs.Layout.{ValidEntry, Row, Lawful}
 use Rattle.wing_mirror.specs.Record.{valueIn, entryIn, kindIn, lengthIn, payloadIn, full}

@@ -1,5 +1,5 @@
 -- An entry laid as a record reads as the entry, and a record of 01's form is the record of what it says.
-use Prim.Native.Nat.{ℕ, zero, suc, _+_, _-_, _^_, _≤_, _<_}
+use Prim.Native.Nat.{ℕ, zero, suc, _≤_}
 use mathlib.Core.Bool.{Bool, true, false, false≢true}
 use mathlib.Core.Path.{_≡_, refl, sym, _∙_, ap, ap₂}
 use mathlib.Core.List.{List, [], _∷_, _++_}
@@ -15,7 +15,7 @@ use Rattle.wing_node.specs.Field.{big, bytesOf}
 use Rattle.wing_node.specs.Signed.{signed, unsigned, InBits}
 use Rattle.wing_node.specs.Utf8.{utf8}
 use Rattle.wing_node.specs.Value.{NodeValue, integer, float, string}
-use Rattle.wing_node.proofs.Numerals.Numbers.{Digits, digits-take, digits-drop, digits-number, number-below, number-digits, length-digitsIn}
+use Rattle.wing_node.proofs.Numerals.Numbers.{Digits, digits-take, digits-drop, digits-number, number-digits, length-digitsIn}
 use Rattle.wing_wire.specs.State.{zeros, and}
 use Rattle.wing_wire.specs.Reader.{over, filled}
 use Rattle.wing_mirror.specs.Entry.{entry, storable, Typed}
