@@ -1,6 +1,6 @@
 -- One turn of a feed: an answer makes what is left smaller, adds at most one to the counts, and leaves the table usable.
 use Prim.Native.Nat.{ℕ, _+_, _-_, _*_, _≤_}
-use mathlib.Core.Bool.{Bool, true, false, false≢true}
+use mathlib.Core.Bool.{Bool, true, false}
 use mathlib.Core.Logic.{⊎-elim}
 use mathlib.Core.Path.{_≡_, refl, sym, _∙_, ap, subst}
 use mathlib.Core.List.{List}
@@ -53,35 +53,23 @@ smaller c s bytes p =
 
 -- ---- what is kept of an answer
 
--- a put of a value's record, and the mark that says whether it was taken
-module _ (L : Layout) (node : ℤ) (v : NodeValue) (t : Table) (counts : Counts) (r : List ℕ) (p : Placed) (buffer : List ℕ)
-    (o : L .keeping v ≡ kept) (e : r ≡ L .recordOf (entry node v)) (d : putResult p buffer ≡ putOf L r t) where
-  open Layout L using (width, keyOf, recordOf)
+-- a put of a value's record, counted by whether it was taken
+pub put-kept : (L : Layout) (node : ℤ) (v : NodeValue) (t : Table) (counts : Counts) (r : List ℕ) (p : Placed) (buffer : List ℕ) →
+    L .keeping v ≡ kept → r ≡ L .recordOf (entry node v) → putResult p buffer ≡ putOf L r t →
+    tableTally (table buffer (p .count)) (tick (if (p .taken) Stored Unplaced) counts) ≡ keepEvent L node (value v) (tableTally t counts)
+unfolding putOf keepEvent put fits
+put-kept L node v t counts r p buffer o e d =
+    rw o (ap (λ (x : PutResult). tally x) (d ∙ ap (λ (x : List ℕ). putOf L x t) e) ∙ go (takes (L .width) (L .keyOf) (L .recordOf (entry node v)) t))
+  where
+    tally : PutResult → TableTally
+    tally x = tableTally (x .after) (tick (if (x .taken) Stored Unplaced) counts)
 
-  abbrev Chosen : Bool → PutResult
-  Chosen b = if b (record { after = store width keyOf (recordOf (entry node v)) t; taken = true }) (record { after = t; taken = false })
+    after : Table
+    after = store (L .width) (L .keyOf) (L .recordOf (entry node v)) t
 
-  chosen : putResult p buffer ≡ Chosen (takes width keyOf (recordOf (entry node v)) t)
-  unfolding putOf
-  chosen = d ∙ ap (λ (x : List ℕ). putOf L x t) e
-
-  pub stored-kept : p .taken ≡ true → tableTally (table buffer (p .count)) (tick Stored counts) ≡ keepEvent L node (value v) (tableTally t counts)
-  unfolding keepEvent put fits
-  stored-kept m = rw o (go (takes width keyOf (recordOf (entry node v)) t) chosen)
-    where
-      go : (b : Bool) → putResult p buffer ≡ Chosen b →
-          tableTally (table buffer (p .count)) (tick Stored counts) ≡ if b (tableTally (store width keyOf (recordOf (entry node v)) t) (tick Stored counts)) (tableTally t (tick Unplaced counts))
-      go true q = ap (λ (x : PutResult). tableTally (x .after) (tick Stored counts)) q
-      go false q = absurd (false≢true (sym (ap (λ (x : PutResult). x .taken) q) ∙ m))
-
-  pub unplaced-kept : p .taken ≡ false → tableTally (table buffer (p .count)) (tick Unplaced counts) ≡ keepEvent L node (value v) (tableTally t counts)
-  unfolding keepEvent put fits
-  unplaced-kept m = rw o (go (takes width keyOf (recordOf (entry node v)) t) chosen)
-    where
-      go : (b : Bool) → putResult p buffer ≡ Chosen b →
-          tableTally (table buffer (p .count)) (tick Unplaced counts) ≡ if b (tableTally (store width keyOf (recordOf (entry node v)) t) (tick Stored counts)) (tableTally t (tick Unplaced counts))
-      go true q = absurd (false≢true (sym m ∙ ap (λ (x : PutResult). x .taken) q))
-      go false q = ap (λ (x : PutResult). tableTally (x .after) (tick Unplaced counts)) q
+    go : (b : Bool) → tally (if b (record { after = after; taken = true }) (record { after = t; taken = false })) ≡ if b (tableTally after (tick Stored counts)) (tableTally t (tick Unplaced counts))
+    go true = refl
+    go false = refl
 
 -- a value that may be kept leaves the table usable
 pub value-usable : {L : Layout} → Lawful L → (node : ℤ) (v : NodeValue) (k : TableTally) → (L .keeping v ≡ kept → storable v ≡ true) → usable L (k .table) ≡ true → usable L (keepEvent L node (value v) k .table) ≡ true

@@ -1,5 +1,5 @@
 -- The contract of `lay_record` gives the value's record and that of `put` whether it was taken, which are the two branches of `keepEvent`
--- (`stored-kept`, `unplaced-kept`).
+-- (`put-kept`).
 use mathlib.Core.Path.{refl, _∙_, ap}
 use lib.IntN.{ℤ}
 use mir.Facts.{toZ-ofZ}
@@ -8,7 +8,7 @@ use Rattle.wing_mirror.specs.Record.{full}
 use Rattle.wing_mirror.specs.Entry.{entry}
 use Rattle.wing_mirror.specs.Record.{recordOf}
 use Rattle.wing_mirror.specs.Table.{table}
-use Rattle.wing_mirror.proofs.Calls.Turns.{stored-kept, unplaced-kept}
+use Rattle.wing_mirror.proofs.Calls.Turns.{put-kept}
 use borrow.Author.Needs.{needs}
 use Rattle.wing_mirror.proofs.keep.keep_value.Statement.{statement}
 use Rattle.wing_mirror.proofs.keep.keep_value.Tie as tie
@@ -40,7 +40,7 @@ returns c =
     let p = at-put .put in
     let v = meant (start .args .value) (start .args .string .now) in
     let e = l .ensures ∙ ap (λ (x : ℤ). recordOf (entry x v)) (toZ-ofZ (start .fits .node)) in
-    rw (c .mark .ensures) (stored-kept full (start .args .node) v (table (start .args .table .now) (start .args .t .count)) (start .args .t .counts) (l .last .0) (p .result) (p .last .0) refl e (p .ensures) (c .before .if1 .taken))
+    rw (c .mark .ensures) (rw (c .before .if1 .taken) at (put-kept full (start .args .node) v (table (start .args .table .now) (start .args .t .count)) (start .args .t .counts) (l .last .0) (p .result) (p .last .0) refl e (p .ensures)))
 
 mark-requires-2 : tie.Need-mark-requires-2
 mark-requires-2 c κs = search needs
@@ -57,7 +57,7 @@ returns-2 c =
     let p = at-put .put in
     let v = meant (start .args .value) (start .args .string .now) in
     let e = l .ensures ∙ ap (λ (x : ℤ). recordOf (entry x v)) (toZ-ofZ (start .fits .node)) in
-    rw (c .mark2 .ensures) (unplaced-kept full (start .args .node) v (table (start .args .table .now) (start .args .t .count)) (start .args .t .counts) (l .last .0) (p .result) (p .last .0) refl e (p .ensures) (c .before .if1 .left))
+    rw (c .mark2 .ensures) (rw (c .before .if1 .left) at (put-kept full (start .args .node) v (table (start .args .table .now) (start .args .t .count)) (start .args .t .counts) (l .last .0) (p .result) (p .last .0) refl e (p .ensures)))
 
 pub keep-value-spec : {M : Type 1} → statement M
 keep-value-spec =
