@@ -1,4 +1,4 @@
--- Records of 264 bytes and tables of them.
+-- Records and tables of any layout; Words, Formed, Trips, Said, Full and Placing are about records of 264 bytes.
 pub mod Choices
 pub mod Usables
 pub mod Placing

@@ -1,4 +1,4 @@
--- Demand 3: a mirror and the plain machine over a whole history.
+-- Demand 3: a mirror and the plain machine over a whole history, for records of any layout; 01's is `full` (specs/Record.antt).
 use Prim.Native.Nat.{ℕ, _+_, _*_, _/_, _≤_}
 use mathlib.Core.Bool.{true}
 use mathlib.Core.Path.{_≡_}

@@ -1,4 +1,4 @@
--- The mirror: what feed and set make of a table, and what they answer.
+-- The mirror: what feed and set make of a table of any layout, and what they answer.
 use Prim.Native.Nat.{ℕ}
 use mathlib.Core.Bool.{not}
 use mathlib.Core.List.{List, _++_}

@@ -1,4 +1,4 @@
--- What a table is asked, and the answers that say it.
+-- What a table of any layout is asked, and the answers that say it.
 use Prim.Native.Nat.{ℕ}
 use mathlib.Core.Bool.{Bool, true, false}
 use mathlib.Core.List.{List, [], _∷_}

@@ -1,4 +1,4 @@
--- The table: records of a layout at the front of a lent buffer, and how many.
+-- The table: records of any layout at the front of a lent buffer, and how many.
 use Prim.Native.Nat.{ℕ, _+_, _*_}
 use mathlib.Core.Bool.{Bool, true, false}
 use mathlib.Core.List.{List, [], _∷_}
