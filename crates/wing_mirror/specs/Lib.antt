@@ -1,6 +1,7 @@
 pub mod Rows
 pub mod Record
 pub mod Table
+pub mod Lists
 pub mod Query
 pub mod Answers
 pub mod Lookups
