@@ -1,4 +1,5 @@
 pub mod Tables
+pub mod Lists
 pub mod Records
 pub mod Calls
 pub mod Histories

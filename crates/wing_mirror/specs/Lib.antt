@@ -3,6 +3,7 @@ pub mod Entry
 pub mod Layout
 pub mod Record
 pub mod Table
+pub mod Lists
 pub mod Query
 pub mod Answers
 pub mod Lookups
