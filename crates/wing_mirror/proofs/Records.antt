@@ -1,6 +1,6 @@
 -- Records of 264 bytes and tables of them.
 pub mod Usables
-pub mod Placing
+pub mod Ready
 pub mod Formed
 pub mod Lasting
 pub mod Said

@@ -6,6 +6,7 @@ use mir.Facts.{toZ-ofZ}
 use Rattle.wing_node.specs.Value.{meant}
 use Rattle.wing_mirror.specs.Record.{recordOf, entry}
 use Rattle.wing_mirror.specs.Table.{table}
+use Rattle.wing_mirror.proofs.Records.Ready.{in-order, put-is}
 use Rattle.wing_mirror.proofs.Calls.Turns.{stored-kept, unplaced-kept}
 use borrow.Author.Needs.{needs}
 use Rattle.wing_mirror.proofs.keep.keep_value.Statement.{statement}
@@ -21,7 +22,9 @@ slice-aggregate-put : tie.Need-slice-aggregate-put
 slice-aggregate-put c = search needs
 
 put-requires : tie.Need-put-requires
-put-requires c κs = search needs
+put-requires c κs =
+    let start = c .before .before .before .before .before .before .before .before in
+    (in-order (table (start .args .table .now) (start .args .t .count)) (start .pre .0), search needs)
 
 mark-requires : tie.Need-mark-requires
 mark-requires c κs = search needs
@@ -38,7 +41,8 @@ returns c =
     let p = at-put .put in
     let v = meant (start .args .value) (start .args .string .now) in
     let e = l .ensures ∙ ap (λ (x : ℤ). recordOf (entry x v)) (toZ-ofZ (start .fits .node)) in
-    rw (c .mark .ensures) (stored-kept (start .args .node) v (table (start .args .table .now) (start .args .t .count)) (start .args .t .counts) (l .last .0) (p .result) (p .last .0) e (p .ensures) (c .before .if1 .taken))
+    let t = table (start .args .table .now) (start .args .t .count) in
+    rw (c .mark .ensures) (stored-kept (start .args .node) v t (start .args .t .counts) (l .last .0) (p .result) (p .last .0) e (p .ensures ∙ put-is (l .last .0) t) (c .before .if1 .taken))
 
 mark-requires-2 : tie.Need-mark-requires-2
 mark-requires-2 c κs = search needs
@@ -55,7 +59,8 @@ returns-2 c =
     let p = at-put .put in
     let v = meant (start .args .value) (start .args .string .now) in
     let e = l .ensures ∙ ap (λ (x : ℤ). recordOf (entry x v)) (toZ-ofZ (start .fits .node)) in
-    rw (c .mark2 .ensures) (unplaced-kept (start .args .node) v (table (start .args .table .now) (start .args .t .count)) (start .args .t .counts) (l .last .0) (p .result) (p .last .0) e (p .ensures) (c .before .if1 .left))
+    let t = table (start .args .table .now) (start .args .t .count) in
+    rw (c .mark2 .ensures) (unplaced-kept (start .args .node) v t (start .args .t .counts) (l .last .0) (p .result) (p .last .0) e (p .ensures ∙ put-is (l .last .0) t) (c .before .if1 .left))
 
 pub keep-value-spec : {M : Type 1} → statement M
 keep-value-spec =
