@@ -1,8 +1,8 @@
 -- Records and tables of any layout; Words, Formed, Trips, Said, Full and Placing are about records of 264 bytes.
 pub mod Choices
 pub mod Usables
-pub mod Placing
 pub mod Words
+pub mod Ready
 pub mod Formed
 pub mod Lasting
 pub mod Said

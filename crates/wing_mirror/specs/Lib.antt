@@ -8,6 +8,7 @@ pub mod Query
 pub mod Answers
 pub mod Lookups
 pub mod Puts
+pub mod Order
 pub mod Counts
 pub mod Call
 pub mod Mirror

@@ -18,6 +18,10 @@ unfoldable pub records : ℕ → ℕ → List ℕ → List (List ℕ)
 records w zero buf = []
 records w (suc n) buf = take w buf ∷ records w n (drop w buf)
 
+-- the record of a number
+abbrev pub row : ℕ → ℕ → List ℕ → List ℕ
+row w number buf = take w (drop (w * number) buf)
+
 -- bytes one after the other
 unfoldable pub joined : List (List ℕ) → List ℕ
 joined [] = []
@@ -77,6 +81,10 @@ module _ (w : ℕ) where
   rowsOf t = records w (t .count) (t .buffer)
 
   module _ (key : List ℕ → ℕ) where
+    -- the record after that of a number, if there is one, has a higher key
+    unfoldable pub nextAbove : List ℕ → ℕ → ℕ → Bool
+    nextAbove buf count number = if (ltb (number + 1) count) (ltb (key (row w number buf)) (key (row w (number + 1) buf))) true
+
     -- its key has a record, or a place is free
     unfoldable pub takes : List ℕ → Table → Bool
     takes r t = if (holds key (key r) (rowsOf t)) true (ltb (t .count) (places t))

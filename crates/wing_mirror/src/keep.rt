@@ -56,7 +56,7 @@ fn keep_value(table: &mut [u8], t: Tally, node: i32, value: Value, string: &[u8]
     let mut rec = [0u8; State::PLACE_WIDTH];
     lay_record(&mut rec, node, value, string);
     let counts = t.counts;
-    let k = put(table, t.count, &rec);
+    let k = put(table, State::PLACE_WIDTH, t.count, &rec);
     if k.taken {
         return mark(k.count, counts, Mark::Stored);
     }

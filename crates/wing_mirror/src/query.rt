@@ -1,20 +1,20 @@
 // What a table is asked: an id's record number, a record, and whether two tables are the same.
 ghost use mathlib.Core.Path.{_≡_};
-ghost use mathlib.Core.Bool.{true};
 ghost use Prim.Native.Nat.{_+_, _*_, _≤_};
 ghost use lib.ListN.{length, take};
 ghost use Rattle.wing_node.specs.Value.{string as stringOf};
-ghost use Rattle.wing_mirror.specs.Rows.{records, rising, numberOf};
+ghost use Rattle.wing_mirror.specs.Rows.{records, numberOf};
 ghost use Rattle.wing_mirror.specs.Entry.{entry};
 ghost use Rattle.wing_mirror.specs.Record.{width, keyOf, entryIn, full};
 ghost use Rattle.wing_mirror.specs.Table.{table as tableOf, rowAt};
+ghost use Rattle.wing_mirror.specs.Order.{InOrder};
 ghost use Rattle.wing_mirror.specs.Query.{lookupAnswer, answerOf, readOf, besideZeros, refusedRecord, recordAnswer, sameBytes, sameTables, sameAnswer};
 use crate::answer::Lookup;
 use crate::answer::RecordAnswer;
 use crate::answer::RecordRead;
 use crate::answer::Same;
 use crate::bytes::lay;
-use crate::order::has_key;
+use crate::order::row;
 use crate::order::search;
 use crate::record::least;
 use crate::record::rank;
@@ -23,13 +23,13 @@ use wing_node::field;
 use wing_node::value::Value;
 use wing_wire::state::State;
 
-fn number_of(table: &[u8], count: usize, key: u32) -> Lookup
-    requires { ⌜ (width * count ≤ length (now table)) × (rising keyOf (records width count (now table)) ≡ true) ⌝ }
+fn number_of(table: &[u8], width: usize, count: usize, key: u32) -> Lookup
+    requires { ⌜ InOrder width (tableOf (now table) count) ⌝ }
     ensures { λ r. ⌜ r ≡ answerOf (numberOf keyOf key (records width count (now (table .entry)))) ⌝ }
 {
-    let number = search(table, count, key);
-    if has_key(table, count, number, key) {
-        return Lookup::At(number);
+    let position = search(table, width, count, key);
+    if position.found {
+        return Lookup::At(position.number);
     }
     Lookup::None
 }
@@ -39,7 +39,7 @@ pub fn lookup(table: &[u8], count: usize, id: i32) -> Lookup
     ensures { λ r. ⌜ r ≡ lookupAnswer full (tableOf (now (table .entry)) count) id ⌝ }
 {
     if is_usable(table, count) {
-        return number_of(table, count, rank(id));
+        return number_of(table, State::PLACE_WIDTH, count, rank(id));
     }
     Lookup::Refused(7)
 }
@@ -103,8 +103,7 @@ fn read_at(table: &[u8], number: usize) -> RecordRead
     requires { ⌜ width * number + width ≤ length (now table) ⌝ }
     ensures { λ r. ⌜ r ≡ readOf (entryIn (rowAt number (now (table .entry)))) ⌝ }
 {
-    let at = State::PLACE_WIDTH * number;
-    read_record(&table[at..at + State::PLACE_WIDTH])
+    read_record(row(table, State::PLACE_WIDTH, number))
 }
 
 // 01: a record is read by number, from 0: its id and value, the bytes of a string beside it. 7, 14.

@@ -8,6 +8,7 @@ ghost use Rattle.wing_mirror.specs.Record.{width, wellFormed, full};
 ghost use Rattle.wing_mirror.specs.Table.{table as tableOf, rows, rowAt, usable};
 ghost use Rattle.wing_mirror.specs.Recall.{recallBytes, recallOf};
 ghost use Rattle.wing_mirror.specs.Sending.{orderIn, ordersOf, sizeIn};
+use crate::order::row;
 use crate::table::is_usable;
 use wing_node::field;
 use wing_wire::set;
@@ -43,8 +44,7 @@ fn lay_order(out: &mut [u8], table: &[u8], number: usize) -> usize
     requires { ⌜ (width * number + width ≤ length (now table)) × (wellFormed (rowAt number (now table)) ≡ true) × (length (orderIn (rowAt number (now table))) ≤ length (now out)) ⌝ }
     ensures { λ r. ⌜ Laid (orderIn (rowAt number (now (table .entry)))) 0 (now (out .entry)) (now (out .exit)) r ⌝ }
 {
-    let at = State::PLACE_WIDTH * number;
-    let sent = send_record(out, &table[at..at + State::PLACE_WIDTH]);
+    let sent = send_record(out, row(table, State::PLACE_WIDTH, number));
     size_in(sent)
 }
 

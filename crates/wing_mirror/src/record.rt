@@ -30,9 +30,9 @@ pub(crate) fn rank(id: i32) -> u32
     flip(field::of_i32(id))
 }
 
-// Where a record stands in the order.
+// Where a record stands in the order: its id is its first four bytes.
 pub(crate) fn key(rec: &[u8]) -> u32
-    requires { ⌜ length (now rec) ≡ width ⌝ }
+    requires { ⌜ 4 ≤ length (now rec) ⌝ }
     ensures { λ r. ⌜ r ≡ keyOf (now (rec .entry)) ⌝ }
 {
     flip(field::u32_at(rec, 0))

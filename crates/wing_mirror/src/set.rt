@@ -54,7 +54,7 @@ fn keep_written(table: &mut [u8], count: usize, rec: &[u8], written: Written) ->
 {
     match written {
         Written::Bytes(n) => {
-            let kept = put(table, count, rec);
+            let kept = put(table, State::PLACE_WIDTH, count, rec);
             SetReply {
                 answer: Written::Bytes(n),
                 count: kept.count,
@@ -78,7 +78,7 @@ fn set_value(
 {
     let mut rec = [0u8; State::PLACE_WIDTH];
     lay_record(&mut rec, id, value, string);
-    if has_room(table, count, &rec) {
+    if has_room(table, State::PLACE_WIDTH, count, &rec) {
         let written = send(out, id, value, string);
         return keep_written(table, count, &rec, written);
     }

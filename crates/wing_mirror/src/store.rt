@@ -1,18 +1,16 @@
-// A record put into the table.
+// A record put into the table. Records of any width, the id their first four bytes.
 ghost use mathlib.Core.Path.{_≡_};
-ghost use mathlib.Core.Bool.{true};
 ghost use lib.ListN.{length};
 ghost use Rattle.wing_mirror.specs.Rows.{takes};
-ghost use Rattle.wing_mirror.specs.Record.{width, keyOf, full};
-ghost use Rattle.wing_mirror.specs.Table.{table as tableOf, usable};
-ghost use Rattle.wing_mirror.specs.Puts.{putResult, putOf};
+ghost use Rattle.wing_mirror.specs.Record.{keyOf};
+ghost use Rattle.wing_mirror.specs.Table.{table as tableOf};
+ghost use Rattle.wing_mirror.specs.Puts.{putResult};
+ghost use Rattle.wing_mirror.specs.Order.{InOrder, putRow};
 use crate::bytes::lay;
 use crate::bytes::open_gap;
-use crate::order::has_key;
 use crate::order::search;
 use crate::record;
-use crate::table::places;
-use wing_wire::state::State;
+use crate::table::places_of;
 
 // Whether the record is in the table now, and how many there are.
 pub struct Kept {
@@ -21,41 +19,35 @@ pub struct Kept {
 }
 
 // Its id has a record, or a place is free.
-pub(crate) fn has_room(table: &[u8], count: usize, rec: &[u8]) -> bool
-    requires { ⌜ (usable full (tableOf (now table) count) ≡ true) × (length (now rec) ≡ width) ⌝ }
+pub(crate) fn has_room(table: &[u8], width: usize, count: usize, rec: &[u8]) -> bool
+    requires { ⌜ InOrder width (tableOf (now table) count) × (length (now rec) ≡ width) ⌝ }
     ensures { λ r. ⌜ r ≡ takes width keyOf (now (rec .entry)) (tableOf (now (table .entry)) count) ⌝ }
 {
-    let key = record::key(rec);
-    let number = search(table, count, key);
-    if has_key(table, count, number, key) {
+    let position = search(table, width, count, record::key(rec));
+    if position.found {
         return true;
     }
-    count < places(table)
+    count < places_of(table, width)
 }
 
 // Into its place, or instead of the record with its id; not taken where its id is new and no place is free.
-pub(crate) fn put(table: &mut [u8], count: usize, rec: &[u8]) -> Kept
-    requires { ⌜ (usable full (tableOf (now table) count) ≡ true) × (length (now rec) ≡ width) ⌝ }
-    ensures { λ r. ⌜ putResult r (now (table .exit)) ≡ putOf full (now (rec .entry)) (tableOf (now (table .entry)) count) ⌝ }
+pub(crate) fn put(table: &mut [u8], width: usize, count: usize, rec: &[u8]) -> Kept
+    requires { ⌜ InOrder width (tableOf (now table) count) × (length (now rec) ≡ width) ⌝ }
+    ensures { λ r. ⌜ putResult r (now (table .exit)) ≡ putRow width (now (rec .entry)) (tableOf (now (table .entry)) count) ⌝ }
 {
-    let key = record::key(rec);
-    let number = search(table, count, key);
-    if has_key(table, count, number, key) {
-        lay(table, State::PLACE_WIDTH * number, rec);
+    let position = search(table, width, count, record::key(rec));
+    let at = width * position.number;
+    if position.found {
+        lay(table, at, rec);
         return Kept {
             count: count,
             taken: true,
         };
     }
-    if count < places(table) {
+    if count < places_of(table, width) {
         // Where ids come in rising order, the gap is after the last record and nothing moves.
-        open_gap(
-            table,
-            State::PLACE_WIDTH * number,
-            State::PLACE_WIDTH * count,
-            State::PLACE_WIDTH,
-        );
-        lay(table, State::PLACE_WIDTH * number, rec);
+        open_gap(table, at, width * count, width);
+        lay(table, at, rec);
         return Kept {
             count: count + 1,
             taken: true,

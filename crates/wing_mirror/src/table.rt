@@ -4,35 +4,32 @@ ghost use Prim.Native.Nat.{_+_, _*_, _/_, _≤_, _<_};
 ghost use lib.ListN.{length};
 ghost use Rattle.wing_mirror.specs.Rows.{records};
 ghost use Rattle.wing_mirror.specs.Record.{width, wellFormed, full};
-ghost use Rattle.wing_mirror.specs.Table.{table as tableOf, rowAt, belowNext, passesAt, checked, soundTable, usable};
-use crate::order::key_at;
+ghost use Rattle.wing_mirror.specs.Table.{table as tableOf, rowAt, passesAt, checked, soundTable, usable};
+use crate::order::is_below_next;
+use crate::order::row;
 use crate::record;
 use wing_wire::state::State;
+
+// The places of a buffer for records of a width.
+pub(crate) fn places_of(table: &[u8], width: usize) -> usize
+    requires { ⌜ 1 ≤ width ⌝ }
+    ensures { λ r. ⌜ r ≡ length (now (table .entry)) / width ⌝ }
+{
+    table.len() / width
+}
 
 // 01: places = buffer length div 264.
 pub fn places(table: &[u8]) -> usize
     ensures { λ r. ⌜ r ≡ length (now (table .entry)) / width ⌝ }
 {
-    table.len() / State::PLACE_WIDTH
+    places_of(table, State::PLACE_WIDTH)
 }
 
 fn formed_at(table: &[u8], number: usize) -> bool
     requires { ⌜ width * number + width ≤ length (now table) ⌝ }
     ensures { λ r. ⌜ r ≡ wellFormed (rowAt number (now (table .entry))) ⌝ }
 {
-    let at = State::PLACE_WIDTH * number;
-    record::well_formed(&table[at..at + State::PLACE_WIDTH])
-}
-
-// The record after that of a number, if there is one, has a higher key.
-fn is_below_next(table: &[u8], count: usize, number: usize) -> bool
-    requires { ⌜ (width * count ≤ length (now table)) × (number < count) ⌝ }
-    ensures { λ r. ⌜ r ≡ belowNext (now (table .entry)) count number ⌝ }
-{
-    if number + 1 < count {
-        return key_at(table, number) < key_at(table, number + 1);
-    }
-    true
+    record::well_formed(row(table, State::PLACE_WIDTH, number))
 }
 
 fn passes(table: &[u8], count: usize, number: usize) -> bool
@@ -40,7 +37,7 @@ fn passes(table: &[u8], count: usize, number: usize) -> bool
     ensures { λ r. ⌜ r ≡ passesAt (now (table .entry)) count number ⌝ }
 {
     if formed_at(table, number) {
-        return is_below_next(table, count, number);
+        return is_below_next(table, State::PLACE_WIDTH, count, number);
     }
     false
 }

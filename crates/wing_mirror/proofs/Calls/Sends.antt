@@ -84,18 +84,18 @@ laid-whole w s d e q h =
 
 -- the orders of the records from the i-th on
 abbrev pub left : ℕ → ℕ → List ℕ → List ℕ
-left n i b = ordersOf (from n i b)
+left n i b = ordersOf (from 264 n i b)
 
 pub left-all : (n : ℕ) (b : List ℕ) → ordersOf (records 264 n b) ≡ left n 0 b
-left-all n b = ap ordersOf (from-all n b)
+left-all n b = ap ordersOf (from-all 264 n b)
 
 pub left-next : (n i : ℕ) (b : List ℕ) → i < n → left n i b ≡ orderIn (rowAt i b) ++ left n (i + 1) b
 unfolding joined
-left-next n i b h = ap ordersOf (from-next n i b h)
+left-next n i b h = ap ordersOf (from-next 264 n i b h)
 
 pub left-none : (n i : ℕ) (b : List ℕ) → n ≤ i → left n i b ≡ []
 unfolding joined
-left-none n i b h = ap ordersOf (from-none n i b h)
+left-none n i b h = ap ordersOf (from-none 264 n i b h)
 
 pub left-less : (n i : ℕ) (b : List ℕ) → i < n → length (left n i b) ≡ length (orderIn (rowAt i b)) + length (left n (i + 1) b)
 left-less n i b h = ap length (left-next n i b h) ∙ length-append (orderIn (rowAt i b)) (left n (i + 1) b)

@@ -1,12 +1,12 @@
 -- Laws of records in a buffer, for any width.
-use Prim.Native.Nat.{ℕ, zero, suc, _+_, _-_, _*_, _≤_}
+use Prim.Native.Nat.{ℕ, zero, suc, _+_, _-_, _*_, _≤_, _<_}
 use mathlib.Core.Path.{_≡_, refl, sym, _∙_, ap}
 use mathlib.Core.List.{List, [], _∷_, _++_, append-assoc}
 use native.Mathlib.Omega.{arith}
 use native.Mathlib.Nat.{mul-suc, mul-zero, mul-le-mul-left}
 use lib.ListN.{length, take, drop, length-append, length-drop, take-append-drop}
 use lib.Seq.{take-at, drop-at, drop-drop, length-take-le, drop-append-add, take-add}
-use Rattle.wing_mirror.specs.Rows.{records, joined, laid, All}
+use Rattle.wing_mirror.specs.Rows.{row, records, joined, laid, All}
 
 -- every record has the width w
 abbrev pub Wide : ℕ → List (List ℕ) → Type 0
@@ -57,6 +57,13 @@ module _ (w : ℕ) where
   wide-records (suc n) buf h =
       let m = mul-suc w n in
       (length-take-le w buf (omega arith), wide-records n (drop w buf) (omega (arith, length-drop w buf)))
+
+  -- the bytes of a record that is among n
+  pub row-fits : (p n l : ℕ) → p < n → w * n ≤ l → w * p + w ≤ l
+  row-fits p n l h f = omega (arith, mul-le-mul-left w h, mul-suc w p)
+
+  pub row-wide : (p : ℕ) (buf : List ℕ) → w * p + w ≤ length buf → length (row w p buf) ≡ w
+  row-wide p buf h = length-take-le w (drop (w * p) buf) (omega (arith, length-drop (w * p) buf))
 
   pub joined-records : (n : ℕ) (buf : List ℕ) → joined (records w n buf) ≡ take (w * n) buf
   unfolding records joined

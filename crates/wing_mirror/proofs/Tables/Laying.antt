@@ -32,15 +32,15 @@ lay-more out src at i h =
     rw (add-one i, take-suc src i 0 h) ((rw l at (sets-append (take i src) (getD src i 0 ∷ []) out at)))
 
 -- the gap, filled
-pub gap-laid : (b : List ℕ) (n k : ℕ) (rec : List ℕ) → k ≤ n → 264 * n + 264 ≤ length b → length rec ≡ 264 →
-    sets (take (264 * k + 264) b ++ (take (264 * n - 264 * k) (drop (264 * k) b) ++ drop (264 * n + 264) b)) (264 * k) rec
-    ≡ take (264 * k) b ++ (rec ++ (take (264 * n - 264 * k) (drop (264 * k) b) ++ drop (264 * n + 264) b))
-gap-laid b n k rec h f e =
-    let t = take (264 * k + 264) b in
-    let u = take (264 * n - 264 * k) (drop (264 * k) b) ++ drop (264 * n + 264) b in
-    let lt : length t ≡ 264 * k + 264 = length-take-le (264 * k + 264) b (omega arith) in
-    sets-eq rec (t ++ u) (264 * k) (omega (arith, length-append t u)) ∙
-    rw (take-append-le (264 * k) t u (omega arith), take-take (264 * k) (264 * k + 264) b (omega arith), e, drop-at t u (264 * k + 264) lt, append-assoc (take (264 * k) b) rec u)
+pub gap-laid : (b : List ℕ) (from end w : ℕ) (rec : List ℕ) → from ≤ end → end + w ≤ length b → length rec ≡ w →
+    sets (take (from + w) b ++ (take (end - from) (drop from b) ++ drop (end + w) b)) from rec
+    ≡ take from b ++ (rec ++ (take (end - from) (drop from b) ++ drop (end + w) b))
+gap-laid b from end w rec h f e =
+    let t = take (from + w) b in
+    let u = take (end - from) (drop from b) ++ drop (end + w) b in
+    let lt : length t ≡ from + w = length-take-le (from + w) b (omega arith) in
+    sets-eq rec (t ++ u) from (omega (arith, length-append t u)) ∙
+    rw (take-append-le from t u (omega arith), take-take from (from + w) b (omega arith), e, drop-at t u (from + w) lt, append-assoc (take from b) rec u)
 
 -- what a writer of a field leaves, where there is room
 put-sets : (bs : List ℕ) (at : ℕ) (s x : List ℕ) (r : Bool) → 0 < length bs → length bs ≤ length s - at → put r x ≡ putAt bs at s → x ≡ sets s at bs

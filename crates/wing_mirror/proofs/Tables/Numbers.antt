@@ -5,9 +5,21 @@ use mathlib.Core.Path.{_≡_, refl, sym, _∙_, ap}
 use mathlib.Core.List.{List, [], _∷_}
 use native.Mathlib.Omega.{arith}
 use borrow.Author.Tests.{lt-ltb, le-ltb, eq-eqb, ne-eqb}
+use lib.Dec.{ltb}
 use lib.ListN.{length, getD}
+use Rattle.wing_node.specs.Bool.{if}
 use Rattle.wing_mirror.specs.Rows.{holds, below, rising}
 use Rattle.wing_mirror.proofs.Tables.Ordered.{Cmp, cmp, low, same, high, rising-head, rising-tail, over-holds}
+
+module _ {A : Type 0} (key : A → ℕ) where
+  pub below-most : (k : ℕ) (xs : List A) → below key k xs ≤ length xs
+  unfolding below
+  below-most k [] = omega arith
+  below-most k (x ∷ xs) = go (ltb (key x) k) (below-most k xs)
+    where
+      go : (t : Bool) → below key k xs ≤ length xs → (if t (suc (below key k xs)) 0) ≤ suc (length xs)
+      go true h = omega arith
+      go false h = omega arith
 
 module _ {A : Type 0} (key : A → ℕ) (default : A) where
   -- a key that is there stands at the place that `below` tells

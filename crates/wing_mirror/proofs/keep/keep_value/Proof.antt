@@ -8,6 +8,7 @@ use Rattle.wing_mirror.specs.Record.{full}
 use Rattle.wing_mirror.specs.Entry.{entry}
 use Rattle.wing_mirror.specs.Record.{recordOf}
 use Rattle.wing_mirror.specs.Table.{table}
+use Rattle.wing_mirror.proofs.Records.Ready.{in-order, put-is}
 use Rattle.wing_mirror.proofs.Calls.Turns.{put-kept}
 use borrow.Author.Needs.{needs}
 use Rattle.wing_mirror.proofs.keep.keep_value.Statement.{statement}
@@ -23,7 +24,9 @@ slice-aggregate-put : tie.Need-slice-aggregate-put
 slice-aggregate-put c = search needs
 
 put-requires : tie.Need-put-requires
-put-requires c κs = search needs
+put-requires c κs =
+    let start = c .before .before .before .before .before .before .before .before in
+    (in-order (table (start .args .table .now) (start .args .t .count)) (start .pre .0), search needs)
 
 mark-requires : tie.Need-mark-requires
 mark-requires c κs = search needs
@@ -40,7 +43,8 @@ returns c =
     let p = at-put .put in
     let v = meant (start .args .value) (start .args .string .now) in
     let e = l .ensures ∙ ap (λ (x : ℤ). recordOf (entry x v)) (toZ-ofZ (start .fits .node)) in
-    rw (c .mark .ensures) (rw (c .before .if1 .taken) at (put-kept full (start .args .node) v (table (start .args .table .now) (start .args .t .count)) (start .args .t .counts) (l .last .0) (p .result) (p .last .0) refl e (p .ensures)))
+    let t = table (start .args .table .now) (start .args .t .count) in
+    rw (c .mark .ensures) (rw (c .before .if1 .taken) at (put-kept full (start .args .node) v t (start .args .t .counts) (l .last .0) (p .result) (p .last .0) refl e (p .ensures ∙ put-is (l .last .0) t)))
 
 mark-requires-2 : tie.Need-mark-requires-2
 mark-requires-2 c κs = search needs
@@ -57,7 +61,8 @@ returns-2 c =
     let p = at-put .put in
     let v = meant (start .args .value) (start .args .string .now) in
     let e = l .ensures ∙ ap (λ (x : ℤ). recordOf (entry x v)) (toZ-ofZ (start .fits .node)) in
-    rw (c .mark2 .ensures) (rw (c .before .if1 .left) at (put-kept full (start .args .node) v (table (start .args .table .now) (start .args .t .count)) (start .args .t .counts) (l .last .0) (p .result) (p .last .0) refl e (p .ensures)))
+    let t = table (start .args .table .now) (start .args .t .count) in
+    rw (c .mark2 .ensures) (rw (c .before .if1 .left) at (put-kept full (start .args .node) v t (start .args .t .counts) (l .last .0) (p .result) (p .last .0) refl e (p .ensures ∙ put-is (l .last .0) t)))
 
 pub keep-value-spec : {M : Type 1} → statement M
 keep-value-spec =

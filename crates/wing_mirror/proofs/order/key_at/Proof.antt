@@ -1,35 +1,23 @@
--- The contract of `key` on the 264 bytes of the record of that number.
-use Prim.Native.Nat.{_+_, _-_, _*_}
-use mathlib.Core.Path.{_≡_}
+-- The contract of `key` on the record that `row` gives.
+use mathlib.Core.Path.{_∙_, ap}
 use native.Mathlib.Omega.{arith}
+use lib.ListN.{length}
+use Rattle.wing_mirror.specs.Record.{keyOf}
+use Rattle.wing_mirror.proofs.Tables.Chunks.{row-wide}
 use borrow.Author.Needs.{needs}
 use Rattle.wing_mirror.proofs.order.key_at.Statement.{statement}
 use Rattle.wing_mirror.proofs.order.key_at.Tie as tie
 
-mul-at : tie.Need-mul-at
-mul-at c = search needs
-
-add-key : tie.Need-add-key
-add-key c = search needs
-
-sub-key : tie.Need-sub-key
-sub-key c = search needs
-
-part-key-start : tie.Need-part-key-start
-part-key-start c = search needs
-
-part-key-end : tie.Need-part-key-end
-part-key-end c = search needs
+row-requires : tie.Need-row-requires
+row-requires c κs = search needs
 
 key-requires : tie.Need-key-requires
-key-requires c κs = search needs
+key-requires c κs =
+    let s = c .before .before in
+    omega (arith, ap length (c .row .ensures), row-wide (s .args .width) (s .args .number) (s .args .table .now) (s .pre .1))
 
 returns : tie.Need-returns
-returns c =
-    let a = c .before .before .before .args in
-    let z : 264 * a .number + 264 - 264 * a .number ≡ 264 = omega arith in
-    rw z at (c .key .ensures)
+returns c = c .key .ensures ∙ ap keyOf (c .before .row .ensures)
 
 pub key-at-spec : {M : Type 1} → statement M
-key-at-spec =
-    tie.close (tie.spec mul-at add-key sub-key part-key-start part-key-end key-requires returns)
+key-at-spec = tie.close (tie.spec row-requires key-requires returns)

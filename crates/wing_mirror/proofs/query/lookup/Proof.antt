@@ -9,7 +9,7 @@ use Rattle.wing_mirror.specs.Entry.{rankOf}
 use Rattle.wing_mirror.specs.Record.{keyOf, full}
 use Rattle.wing_mirror.specs.Table.{table, usable, lookupOf}
 use Rattle.wing_mirror.specs.Query.{answerOf, lookupAnswer}
-use Rattle.wing_mirror.proofs.Records.Usables.{room, up}
+use Rattle.wing_mirror.proofs.Records.Ready.{in-order}
 use Rattle.wing_mirror.proofs.query.lookup.Statement.{statement}
 use Rattle.wing_mirror.proofs.query.lookup.Tie as tie
 
@@ -23,7 +23,7 @@ number-of-requires : tie.Need-number-of-requires
 number-of-requires c κs =
     let t = table (c .before .before .before .before .args .table .now) (c .before .before .before .before .args .count) in
     let u : usable full t ≡ true = sym (c .before .before .is-usable .ensures) ∙ c .before .if1 .taken in
-    (room full t u, up full t u)
+    in-order t u
 
 returns : tie.Need-returns
 unfolding lookupAnswer lookupOf

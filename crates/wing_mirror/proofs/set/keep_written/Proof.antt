@@ -2,7 +2,9 @@
 use Rattle.wing_wire.specs.declared.write.Written.the-variants.{Bytes}
 use Rattle.wing_mirror.specs.Sets.{keptOf}
 use Rattle.wing_mirror.specs.Puts.{PutResult}
-use mathlib.Core.Path.{ap}
+use Rattle.wing_mirror.specs.Table.{table}
+use Rattle.wing_mirror.proofs.Records.Ready.{in-order, put-is}
+use mathlib.Core.Path.{_∙_, ap}
 use borrow.Author.Needs.{needs}
 use Rattle.wing_mirror.proofs.set.keep_written.Statement.{statement}
 use Rattle.wing_mirror.proofs.set.keep_written.Tie as tie
@@ -11,7 +13,9 @@ enum-known-written : tie.Need-enum-known-written
 enum-known-written c = search needs
 
 put-requires : tie.Need-put-requires
-put-requires c κs = search needs
+put-requires c κs =
+    let start = c .before .before .before .before .before .before in
+    (in-order (table (start .args .table .now) (start .args .count)) (start .pre .0), start .pre .1)
 
 enum-known-written-2 : tie.Need-enum-known-written-2
 enum-known-written-2 c = search needs
@@ -24,7 +28,9 @@ same-length c = search needs
 
 returns : tie.Need-returns
 unfolding keptOf
-returns c = rw (c .before .before .before .before .before .written .given .1) (ap (λ (d : PutResult). record { answer = Bytes (c .before .before .before .before .before .written .given .0 .0); after = d .after }) (c .before .before .put .ensures))
+returns c =
+    let start = c .before .before .before .before .before .before .before .before .before in
+    rw (c .before .before .before .before .before .written .given .1) (ap (λ (d : PutResult). record { answer = Bytes (c .before .before .before .before .before .written .given .0 .0); after = d .after }) (c .before .before .put .ensures ∙ put-is (start .args .rec .now) (table (start .args .table .now) (start .args .count))))
 
 returns-2 : tie.Need-returns-2
 unfolding keptOf

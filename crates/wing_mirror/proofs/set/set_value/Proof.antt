@@ -5,6 +5,7 @@ use mir.Facts.{toZ-ofZ}
 use Rattle.wing_node.specs.Value.{meant}
 use Rattle.wing_mirror.specs.Record.{full}
 use Rattle.wing_mirror.specs.Table.{table}
+use Rattle.wing_mirror.proofs.Records.Ready.{in-order}
 use Rattle.wing_mirror.proofs.Calls.Orders.{no-room, kept-so}
 use borrow.Author.Needs.{needs}
 use Rattle.wing_mirror.proofs.set.set_value.Statement.{statement}
@@ -20,7 +21,9 @@ slice-aggregate-has-room : tie.Need-slice-aggregate-has-room
 slice-aggregate-has-room c = search needs
 
 has-room-requires : tie.Need-has-room-requires
-has-room-requires c κs = search needs
+has-room-requires c κs =
+    let start = c .before .before .before .before .before .before .before .before in
+    (in-order (table (start .args .table .now) (start .args .count)) (start .pre .0), search needs)
 
 send-requires : tie.Need-send-requires
 send-requires c κs = search needs

@@ -10,13 +10,13 @@ use Rattle.wing_mirror.proofs.table.all_pass.Statement.{statement}
 use Rattle.wing_mirror.proofs.table.all_pass.Tie as tie
 
 abbrev Inv-loop : tie.InvT-loop
-Inv-loop table count i₀ i = checked full (records 264 count table) ≡ checked full (from count i table)
+Inv-loop table count i₀ i = checked full (records 264 count table) ≡ checked full (from 264 count i table)
 
 abbrev μ-loop : tie.MeasureT-loop
 μ-loop table count i₀ i = count - i
 
 loop-holds : tie.Need-loop-holds Inv-loop μ-loop
-loop-holds c = ap (checked full) (from-all (c .before .args .count) (c .before .args .table .now))
+loop-holds c = ap (checked full) (from-all 264 (c .before .args .count) (c .before .args .table .now))
 
 passes-requires : tie.Need-passes-requires Inv-loop μ-loop
 passes-requires c κs = search needs
