@@ -7,7 +7,7 @@ use lib.ListN.{length}
 use Rattle.wing_node.specs.Bool.{if}
 use Rattle.wing_mirror.specs.Rows.{Table, rowsOf, holds, below, rising, takes, store}
 use Rattle.wing_mirror.specs.Record.{keyOf}
-use Rattle.wing_mirror.specs.Puts.{PutResult}
+use Rattle.wing_mirror.specs.Puts.{PutEffect}
 use Rattle.wing_mirror.specs.declared.order.Position.{Position}
 
 -- how many records have a lower key, and whether one has the key
@@ -21,5 +21,5 @@ pub record InOrder (w : ℕ) (t : Table) : Type 0 where
   pub up : rising keyOf (rowsOf w t) ≡ true
 
 -- stored if its key has a record or a place is free; otherwise nothing
-unfoldable pub putRow : ℕ → List ℕ → Table → PutResult
+unfoldable pub putRow : ℕ → List ℕ → Table → PutEffect
 putRow w r t = if (takes w keyOf r t) (record { after = store w keyOf r t; taken = true }) (record { after = t; taken = false })

@@ -6,7 +6,7 @@ ghost use lib.ListN.{length};
 ghost use Rattle.wing_wire.specs.State.{soundState};
 ghost use Rattle.wing_mirror.specs.Record.{full};
 ghost use Rattle.wing_mirror.specs.Table.{table as tableOf, usable};
-ghost use Rattle.wing_mirror.specs.Mirror.{fedAll, takenFeed, feeding, mirrorFeed};
+ghost use Rattle.wing_mirror.specs.Mirror.{fedAll, takenFeed, feedEffect, mirrorFeed};
 ghost use Rattle.wing_mirror.specs.Tally.{fedOf, stateOf, refusedFeedReply};
 use crate::answer::FeedAnswer;
 use crate::answer::FeedReply;
@@ -51,7 +51,7 @@ fn feed_on(c: Control, store: &mut [u8], table: &mut [u8], count: usize, bytes: 
 
 fn fed(state: State, table: &mut [u8], count: usize, bytes: &[u8]) -> FeedReply
     requires { ⌜ (soundState state ≡ true) × (usable full (tableOf (now table) count) ≡ true) × (length (now bytes) ≤ 65536) ⌝ }
-    ensures { λ r. ⌜ feeding r (now (table .exit)) ≡ takenFeed (fedAll full state (tableOf (now (table .entry)) count) (now (bytes .entry))) ⌝ }
+    ensures { λ r. ⌜ feedEffect r (now (table .exit)) ≡ takenFeed (fedAll full state (tableOf (now (table .entry)) count) (now (bytes .entry))) ⌝ }
 {
     let c = state.control;
     let mut store = state.store;
@@ -86,7 +86,7 @@ fn refused(why: u8, state: State, count: usize) -> FeedReply
 // 01: a feed takes up to 65,536 bytes and runs next until 'more': each value is stored at its node or has no place, each body goes
 // through the parser, and the six counts tell how many. 8, 7, 14.
 pub fn feed(state: State, table: &mut [u8], count: usize, bytes: &[u8]) -> FeedReply
-    ensures { λ r. ⌜ feeding r (now (table .exit)) ≡ mirrorFeed full state (tableOf (now (table .entry)) count) (now (bytes .entry)) ⌝ }
+    ensures { λ r. ⌜ feedEffect r (now (table .exit)) ≡ mirrorFeed full state (tableOf (now (table .entry)) count) (now (bytes .entry)) ⌝ }
 {
     if is_sound(state) {
         if is_usable(table, count) {

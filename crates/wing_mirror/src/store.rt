@@ -4,7 +4,7 @@ ghost use lib.ListN.{length};
 ghost use Rattle.wing_mirror.specs.Rows.{takes};
 ghost use Rattle.wing_mirror.specs.Record.{keyOf};
 ghost use Rattle.wing_mirror.specs.Table.{table as tableOf};
-ghost use Rattle.wing_mirror.specs.Puts.{putResult};
+ghost use Rattle.wing_mirror.specs.Puts.{putEffect};
 ghost use Rattle.wing_mirror.specs.Order.{InOrder, putRow};
 use crate::bytes::lay;
 use crate::bytes::open_gap;
@@ -33,7 +33,7 @@ pub(crate) fn has_room(table: &[u8], width: usize, count: usize, rec: &[u8]) -> 
 // Into its place, or instead of the record with its id; not taken where its id is new and no place is free.
 pub(crate) fn put(table: &mut [u8], width: usize, count: usize, rec: &[u8]) -> Kept
     requires { ⌜ InOrder width (tableOf (now table) count) × (length (now rec) ≡ width) ⌝ }
-    ensures { λ r. ⌜ putResult r (now (table .exit)) ≡ putRow width (now (rec .entry)) (tableOf (now (table .entry)) count) ⌝ }
+    ensures { λ r. ⌜ putEffect r (now (table .exit)) ≡ putRow width (now (rec .entry)) (tableOf (now (table .entry)) count) ⌝ }
 {
     let position = search(table, width, count, record::key(rec));
     let at = width * position.number;

@@ -20,7 +20,7 @@ use Rattle.wing_mirror.specs.Entry.{entry}
 use Rattle.wing_mirror.specs.Layout.{Layout, Lawful}
 use Rattle.wing_mirror.specs.Table.{usable, fits}
 use Rattle.wing_mirror.specs.Counts.{zeroCounts, total, addCounts}
-use Rattle.wing_mirror.specs.Mirror.{TableTally, tableTally, keepEvent, keep, Feeding, fedAll, takenFeed, mirrorFeed, Setting, mirrorSet}
+use Rattle.wing_mirror.specs.Mirror.{TableTally, tableTally, keepEvent, keep, FeedEffect, fedAll, takenFeed, mirrorFeed, SetEffect, mirrorSet}
 use Rattle.wing_mirror.specs.Machine.{StreamEvent, events}
 use Rattle.wing_mirror.specs.declared.answer.Counts.{Counts}
 use Rattle.wing_mirror.specs.declared.answer.FeedAnswer.the-variants.{Taken}
@@ -40,7 +40,7 @@ feed-counts L s t bytes =
     (λ _. branch P (leb (length bytes) 65536) _ _
     (λ _. rw (fed-events L s t bytes) (omega (arith, fold-total L (events s bytes) (tableTally t zeroCounts), few-events s bytes g))) (λ _. omega arith)) (λ _. omega arith)) (λ _. omega arith)
   where
-    P : Feeding → Type 0
+    P : FeedEffect → Type 0
     P x = total (x .counts) ≤ length bytes + 1
 
 -- a feed that begins with counts c
@@ -53,11 +53,11 @@ from-counts L x c bytes =
     ∙ sym (decoder-laws .feed .along (keep L) (keep L) (atop c) (λ node a t k. keep-adds L c node (eventOf a t t) k) (record { control = x .control; store = x .store; memo = tableTally (x .memo .table) zeroCounts }) bytes)
 
 -- two taken feeds, the second on what the first leaves, as one: counts add
-abbrev pub together : Feeding → Feeding → Feeding
+abbrev pub together : FeedEffect → FeedEffect → FeedEffect
 together x y = record { answer = Taken; counts = addCounts (x .counts) (y .counts); state = y .state; table = y .table }
 
 -- a feed on what another leaves
-abbrev pub onwards : Layout → Feeding → List ℕ → Feeding
+abbrev pub onwards : Layout → FeedEffect → List ℕ → FeedEffect
 onwards L x b = mirrorFeed L (x .state) (x .table) b
 
 module _ {L : Layout} (laws : Lawful L) where
@@ -85,13 +85,13 @@ module _ {L : Layout} (laws : Lawful L) where
       rw (g, u) (branch P (leb (length bytes) 65536) _ _
       (λ _. rw (fed-events L s t bytes) (fold-usable (events s bytes) (tableTally t zeroCounts) (events-valid s bytes are w L) u, after-valid s bytes are w .sound)) (λ _. (u, g)))
     where
-      P : Feeding → Type 0
+      P : FeedEffect → Type 0
       P x = (usable L (x .table) ≡ true) × (soundState (x .state) ≡ true)
 
   -- a set leaves a usable table usable
   pub set-sound : (id : ℤ) (v : NodeValue) (t : Table) (out : List ℕ) → usable L t ≡ true → usable L (mirrorSet L id v t out .table) ≡ true
   set-sound id v t out u =
-      set-cases L id v t out (λ (x : Setting). usable L (x .table) ≡ true) (λ n. u)
+      set-cases L id v t out (λ (x : SetEffect). usable L (x .table) ≡ true) (λ n. u)
       (λ o a b c d. entry-usable laws (entry id v) t (text-storable v a b) o u (passed (fits L (entry id v) t) c))
 
   -- the bytes of two feeds, fed at once, are the two feeds together
@@ -100,11 +100,11 @@ module _ {L : Layout} (laws : Lawful L) where
   unfolding fedAll
   feed-joined s t a b inside are g u few =
       let z : Fed TableTally = record { control = s .control; store = s .store; memo = tableTally t zeroCounts } in
-      let x : Feeding = mirrorFeed L s t a in
+      let x : FeedEffect = mirrorFeed L s t a in
       let k = feed-sound s t a inside are g u in
       let first : x ≡ takenFeed (fedAll L s t a) = feed-taken L s t a g u (omega (arith, length-append a b)) in
       let second : onwards L x b ≡ takenFeed (fedAll L (x .state) (x .table) b) = feed-taken L (x .state) (x .table) b (k .1) (k .0) (omega (arith, length-append a b)) in
       feed-taken L s t (a ++ b) g u few
       ∙ ap takenFeed (decoder-laws .feed .pieces (keep L) z a b ∙ from-counts L (feedOf (keep L) z a) (feedOf (keep L) z a .memo .counts) b)
-      ∙ ap (λ (f : Feeding). together f (takenFeed (fedAll L (f .state) (f .table) b))) (sym first)
+      ∙ ap (λ (f : FeedEffect). together f (takenFeed (fedAll L (f .state) (f .table) b))) (sym first)
       ∙ ap (together x) (sym second)

@@ -21,7 +21,7 @@ use Rattle.wing_mirror.specs.Layout.{kept, Layout}
 use Rattle.wing_mirror.specs.Table.{usable, put, fits}
 use Rattle.wing_mirror.specs.Call.{tooLong, notText}
 use Rattle.wing_mirror.specs.Counts.{zeroCounts}
-use Rattle.wing_mirror.specs.Mirror.{tableTally, keepEvent, fedAll, takenFeed, mirrorFeed, Setting, refusedSet, mirrorSet}
+use Rattle.wing_mirror.specs.Mirror.{tableTally, keepEvent, fedAll, takenFeed, mirrorFeed, SetEffect, refusedSet, mirrorSet}
 use Rattle.wing_mirror.specs.Machine.{decodeAll, events}
 use Rattle.wing_mirror.proofs.Records.Choices.{keeping-cases}
 use Rattle.wing_mirror.proofs.Histories.Along.{foldEvents, feed-events}
@@ -58,7 +58,7 @@ module _ (L : Layout) (id : ℤ) (v : NodeValue) (t : Table) (out : List ℕ) wh
   open Layout L using (keeping)
 
   -- what holds after every refusal, and after a set that is taken
-  pub set-cases : (P : Setting → Type 0) → ((n : ℕ) → P (refusedSet n t out)) →
+  pub set-cases : (P : SetEffect → Type 0) → ((n : ℕ) → P (refusedSet n t out)) →
       (keeping v ≡ kept → tooLong v ≡ false → notText v ≡ false → not (fits L (entry id v) t) ≡ false → ltb (length out) (length (setBytes id v)) ≡ false →
       P (record { answer = Bytes (length (setBytes id v)); out = setBytes id v ++ drop (length (setBytes id v)) out; table = put L (entry id v) t })) →
       P (mirrorSet L id v t out)

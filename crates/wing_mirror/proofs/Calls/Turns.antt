@@ -11,8 +11,8 @@ use lib.Seq.{take-all, drop-drop}
 use Rattle.wing_node.specs.Bool.{if}
 use Rattle.wing_node.specs.Value.{NodeValue, integer, float, string}
 use Rattle.wing_node.proofs.Branches.{branch}
-use Rattle.wing_wire.specs.Units.{waiting}
-use Rattle.wing_wire.specs.Range.{Within, TokenWithin, HeardWithin}
+use Rattle.wing_wire.specs.Units.{pendingCount}
+use Rattle.wing_wire.specs.Range.{Within, TokenWithin, StepEffectWithin}
 use Rattle.wing_wire.specs.Reader.{value, eventOf}
 use Rattle.wing_wire.specs.Stream.{isMore, Run, run, advanceOf, released, Fed, feedOf}
 use Rattle.wing_wire.specs.declared.state.Pending.{Pending}
@@ -26,7 +26,7 @@ use Rattle.wing_mirror.specs.Rows.{Table, takes, store}
 use Rattle.wing_mirror.specs.Entry.{entry, storable}
 use Rattle.wing_mirror.specs.Layout.{kept, Layout, Lawful}
 use Rattle.wing_mirror.specs.Table.{table, usable, fits, put}
-use Rattle.wing_mirror.specs.Puts.{PutResult, putOf, putResult}
+use Rattle.wing_mirror.specs.Puts.{PutEffect, putOf, putEffect}
 use Rattle.wing_mirror.specs.Counts.{zeroCounts, tick, total}
 use Rattle.wing_mirror.specs.Mirror.{TableTally, tableTally, keep, keepEvent}
 use Rattle.wing_mirror.specs.declared.answer.Counts.{Counts}
@@ -39,29 +39,29 @@ use Rattle.wing_mirror.proofs.Histories.Decodes.{string-text}
 
 -- ---- what is left: two for each byte, and one for a pending byte
 
-waiting-one : (p : Pending) → waiting p ≤ 1
-waiting-one None = omega arith
-waiting-one (Byte u) = omega arith
+pending-one : (p : Pending) → pendingCount p ≤ 1
+pending-one None = omega arith
+pending-one (Byte u) = omega arith
 
 -- an answer takes a byte, or the pending byte
-pub smaller : (c : Control) (s bytes : List ℕ) → isMore (advanceOf c s bytes .heard .told .answer) ≡ false →
-    waiting (advanceOf c s bytes .heard .told .control .escape .pending) + 1 ≤ 2 * advanceOf c s bytes .taken + waiting (c .escape .pending)
+pub smaller : (c : Control) (s bytes : List ℕ) → isMore (advanceOf c s bytes .effect .answered .answer) ≡ false →
+    pendingCount (advanceOf c s bytes .effect .answered .control .escape .pending) + 1 ≤ 2 * advanceOf c s bytes .taken + pendingCount (c .escape .pending)
 smaller c s bytes p =
     let r = advanceOf c s bytes in
-    ⊎-elim (λ b. omega (arith, b, waiting-one (r .heard .told .control .escape .pending)))
-    (λ q. let z : waiting (r .heard .told .control .escape .pending) ≡ 0 = ap waiting (q .1) in omega (arith, q .0)) (decoder-laws .next .takes c s bytes p)
+    ⊎-elim (λ b. omega (arith, b, pending-one (r .effect .answered .control .escape .pending)))
+    (λ q. let z : pendingCount (r .effect .answered .control .escape .pending) ≡ 0 = ap pendingCount (q .1) in omega (arith, q .0)) (decoder-laws .next .takes c s bytes p)
 
 -- ---- what is kept of an answer
 
 -- a put of a value's record, counted by whether it was taken
 pub put-kept : (L : Layout) (node : ℤ) (v : NodeValue) (t : Table) (counts : Counts) (r : List ℕ) (p : Placed) (buffer : List ℕ) →
-    L .keeping v ≡ kept → r ≡ L .recordOf (entry node v) → putResult p buffer ≡ putOf L r t →
+    L .keeping v ≡ kept → r ≡ L .recordOf (entry node v) → putEffect p buffer ≡ putOf L r t →
     tableTally (table buffer (p .count)) (tick (if (p .taken) Stored Unplaced) counts) ≡ keepEvent L node (value v) (tableTally t counts)
 unfolding putOf keepEvent put fits
 put-kept L node v t counts r p buffer o e d =
-    rw o (ap (λ (x : PutResult). tally x) (d ∙ ap (λ (x : List ℕ). putOf L x t) e) ∙ go (takes (L .width) (L .keyOf) (L .recordOf (entry node v)) t))
+    rw o (ap (λ (x : PutEffect). tally x) (d ∙ ap (λ (x : List ℕ). putOf L x t) e) ∙ go (takes (L .width) (L .keyOf) (L .recordOf (entry node v)) t))
   where
-    tally : PutResult → TableTally
+    tally : PutEffect → TableTally
     tally x = tableTally (x .after) (tick (if (x .taken) Stored Unplaced) counts)
 
     after : Table
@@ -95,7 +95,7 @@ kept-usable laws node (Refused n) s k w u = u
 -- ---- a turn
 
 abbrev pub left : List ℕ → Control → ℕ → ℕ
-left bytes c i = 2 * (length bytes - i) + waiting (c .escape .pending)
+left bytes c i = 2 * (length bytes - i) + pendingCount (c .escape .pending)
 
 -- a decoder, and what a feed has kept so far
 abbrev pub fed : Control → List ℕ → TableTally → Fed TableTally
@@ -117,7 +117,7 @@ begun L bytes c s t counts e h g u =
       same = ap (λ (x : Counts). feedOf (keep L) (fed c s (tableTally t x)) bytes) e;
       bounded = g;
       ready = u;
-      few = omega (arith, ap (λ (x : Counts). total x) e, waiting-one (c .escape .pending));
+      few = omega (arith, ap (λ (x : Counts). total x) e, pending-one (c .escape .pending));
     }
 
 module _ {L : Layout} (laws : Lawful L) {bytes : List ℕ} {start : Fed TableTally} {c : Control} {s : List ℕ} {k : TableTally} {i : ℕ} (g : FeedInvariant L bytes start c s k i)
@@ -135,31 +135,31 @@ module _ {L : Layout} (laws : Lawful L) {bytes : List ℕ} {start : Fed TableTal
   -- the call that answers more is the last
   pub ended : isMore (r .answer) ≡ true → fed (r .control) t k ≡ feedOf (keep L) start bytes
   ended m =
-      let h : isMore (advanceOf c s (drop i bytes) .heard .told .answer) ≡ true = ap (λ (x : Run). isMore (x .heard .told .answer)) (sym said) ∙ m in
-      ap (λ (x : Run). fed (x .heard .told .control) (x .heard .store) k) said ∙ sym (decoder-laws .feed .ends (keep L) (fed c s k) (drop i bytes) h) ∙ g .same
+      let h : isMore (advanceOf c s (drop i bytes) .effect .answered .answer) ≡ true = ap (λ (x : Run). isMore (x .effect .answered .answer)) (sym said) ∙ m in
+      ap (λ (x : Run). fed (x .effect .answered .control) (x .effect .store) k) said ∙ sym (decoder-laws .feed .ends (keep L) (fed c s k) (drop i bytes) h) ∙ g .same
 
   pub less-left : isMore (r .answer) ≡ false → left bytes (r .control) (i + r .taken) + 1 ≤ left bytes c i
   less-left m =
-      let h : isMore (advanceOf c s (drop i bytes) .heard .told .answer) ≡ false = ap (λ (x : Run). isMore (x .heard .told .answer)) (sym said) ∙ m in
+      let h : isMore (advanceOf c s (drop i bytes) .effect .answered .answer) ≡ false = ap (λ (x : Run). isMore (x .effect .answered .answer)) (sym said) ∙ m in
       let n = ap (λ (x : Run). x .taken) said in
-      let p = ap (λ (x : Run). waiting (x .heard .told .control .escape .pending)) said in
+      let p = ap (λ (x : Run). pendingCount (x .effect .answered .control .escape .pending)) said in
       omega (arith, smaller c s (drop i bytes) h, inside)
 
   -- what was answered is within bounds
-  pub answer-bounded : HeardWithin (length s) (run r t .heard)
-  answer-bounded = subst (λ (x : Run). HeardWithin (length s) (x .heard)) (sym said) (decoder-laws .next .bounded c s (drop i bytes) (g .bounded))
+  pub answer-bounded : StepEffectWithin (length s) (run r t .effect)
+  answer-bounded = subst (λ (x : Run). StepEffectWithin (length s) (x .effect)) (sym said) (decoder-laws .next .bounded c s (drop i bytes) (g .bounded))
 
   -- after a turn, with what was kept and released
   turn : isMore (r .answer) ≡ false →
       FeedInvariant L bytes start (r .control) (released (r .answer) t) (keep L (r .control .node) (r .answer) t k) (i + r .taken)
   turn m =
-      let h : isMore (advanceOf c s (drop i bytes) .heard .told .answer) ≡ false = ap (λ (x : Run). isMore (x .heard .told .answer)) (sym said) ∙ m in
+      let h : isMore (advanceOf c s (drop i bytes) .effect .answered .answer) ≡ false = ap (λ (x : Run). isMore (x .effect .answered .answer)) (sym said) ∙ m in
       let w = answer-bounded in
       record {
         within = inside;
         same =
             ap (λ (b : List ℕ). feedOf (keep L) (fed (r .control) (released (r .answer) t) (keep L (r .control .node) (r .answer) t k)) b) (sym (drop-drop (r .taken) i bytes))
-            ∙ ap (λ (x : Run). feedOf (keep L) (fed (x .heard .told .control) (released (x .heard .told .answer) (x .heard .store)) (keep L (x .heard .told .control .node) (x .heard .told .answer) (x .heard .store) k)) (drop (x .taken) (drop i bytes))) said
+            ∙ ap (λ (x : Run). feedOf (keep L) (fed (x .effect .answered .control) (released (x .effect .answered .answer) (x .effect .store)) (keep L (x .effect .answered .control .node) (x .effect .answered .answer) (x .effect .store) k)) (drop (x .taken) (drop i bytes))) said
             ∙ sym (decoder-laws .feed .again (keep L) (fed c s k) (drop i bytes) h)
             ∙ g .same;
         bounded = w .token;

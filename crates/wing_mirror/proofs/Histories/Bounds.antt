@@ -14,7 +14,7 @@ use Rattle.wing_mirror.specs.Rows.{Table}
 use Rattle.wing_mirror.specs.Layout.{Layout}
 use Rattle.wing_mirror.specs.Counts.{total}
 use Rattle.wing_mirror.specs.Call.{Call, feed, set, runAll}
-use Rattle.wing_mirror.specs.Mirror.{mirrorFeed, Setting, mirrorSet}
+use Rattle.wing_mirror.specs.Mirror.{mirrorFeed, SetEffect, mirrorSet}
 use Rattle.wing_mirror.specs.History.{Mirror, feedOutcome, setOutcome, mirrorStep, Bounded, Each}
 use Rattle.wing_mirror.specs.declared.answer.FeedAnswer.{FeedAnswer}
 use Rattle.wing_mirror.specs.declared.answer.FeedAnswer.the-variants.{Taken, Refused as FeedRefused}
@@ -25,7 +25,7 @@ module _ (L : Layout) where
   -- a set keeps the length of its output
   set-length : (id : ℤ) (v : NodeValue) (t : Table) (out : List ℕ) → length (mirrorSet L id v t out .out) ≡ length out
   set-length id v t out =
-      set-cases L id v t out (λ (x : Setting). length (x .out) ≡ length out) (λ n. refl)
+      set-cases L id v t out (λ (x : SetEffect). length (x .out) ≡ length out) (λ n. refl)
       (λ k a b c d. omega (arith, length-append (setBytes id v) (drop (length (setBytes id v)) out), length-drop (length (setBytes id v)) out, ltb-false (length out) (length (setBytes id v)) d))
 
   -- of one call on any mirror

@@ -6,11 +6,11 @@ use mathlib.Core.List.{List, [], _∷_}
 use borrow.Author.Tests.{le-leb}
 use lib.ListN.{length}
 use Rattle.wing_node.specs.Bool.{if}
-use Rattle.wing_mirror.specs.Rows.{Table, Stored, insert, places, takes, store}
+use Rattle.wing_mirror.specs.Rows.{Table, StoreLaws, insert, places, takes, store}
 use Rattle.wing_mirror.specs.Entry.{Entry, storable}
 use Rattle.wing_mirror.specs.Layout.{Layout, Lawful, kept}
 use Rattle.wing_mirror.specs.Table.{rows, every, checked, soundTable, usable, put, fits}
-use Rattle.wing_mirror.specs.Puts.{PutResult, putOf}
+use Rattle.wing_mirror.specs.Puts.{PutEffect, putOf}
 use Rattle.wing_mirror.proofs.Tables.Ordered.{Cmp, cmp, low, same, high, insert-low, insert-same, insert-high}
 use Rattle.wing_mirror.proofs.Tables.Stays.{stored}
 use Rattle.wing_mirror.proofs.Records.Usables.{both, in-range, few, formed, up}
@@ -32,7 +32,7 @@ module _ (L : Layout) (r : List ℕ) (t : Table) (wide : length r ≡ L .width) 
   open Layout L using (width, keyOf, wellFormed)
 
   -- what a put leaves, in its parts
-  pub put-stored : takes width keyOf r t ≡ true → Stored width keyOf r t
+  pub put-stored : takes width keyOf r t ≡ true → StoreLaws width keyOf r t
   put-stored f = stored width keyOf r t wide (few L t u) (up L t u) f
 
   pub store-usable : takes width keyOf r t ≡ true → usable L (store width keyOf r t) ≡ true
@@ -49,7 +49,7 @@ module _ (L : Layout) (r : List ℕ) (t : Table) (wide : length r ≡ L .width) 
   unfolding putOf
   put-usable = go (takes width keyOf r t) refl
     where
-      go : (b : Bool) → takes width keyOf r t ≡ b → usable L ((if {A = PutResult} b (record { after = store width keyOf r t; taken = true }) (record { after = t; taken = false })) .after) ≡ true
+      go : (b : Bool) → takes width keyOf r t ≡ b → usable L ((if {A = PutEffect} b (record { after = store width keyOf r t; taken = true }) (record { after = t; taken = false })) .after) ≡ true
       go true q = store-usable q
       go false q = u
 

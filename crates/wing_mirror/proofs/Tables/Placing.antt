@@ -13,7 +13,7 @@ use Rattle.wing_node.specs.Bool.{if}
 use Rattle.wing_mirror.specs.Rows.{records, holds, below, rising, insert, takes, store}
 use Rattle.wing_mirror.specs.Record.{keyOf}
 use Rattle.wing_mirror.specs.Table.{table}
-use Rattle.wing_mirror.specs.Puts.{PutResult}
+use Rattle.wing_mirror.specs.Puts.{PutEffect}
 use Rattle.wing_mirror.specs.Order.{positionOf, InOrder, putRow}
 use Rattle.wing_mirror.specs.declared.order.Position.{Position}
 use Rattle.wing_mirror.proofs.Tables.Ordered.{length-insert}
@@ -26,7 +26,7 @@ use Rattle.wing_mirror.proofs.Tables.Finds.{at-most, found-below}
 pub free-fits : (w n l : ℕ) → n < l / w → w * n + w ≤ l
 free-fits w n l h = row-fits w n (l / w) l h (mul-div-le l w)
 
-abbrev kept : List ℕ → ℕ → PutResult
+abbrev kept : List ℕ → ℕ → PutEffect
 kept buffer count = record { after = table buffer count; taken = true }
 
 module _ (w : ℕ) (b r : List ℕ) (n : ℕ) (o : InOrder w (table b n)) (wide : length r ≡ w) where

@@ -1,7 +1,7 @@
 -- Each arm is the line of `keptOf` with that variant, by the contracts of `put` and `refused`.
 use Rattle.wing_wire.specs.declared.write.Written.the-variants.{Bytes}
 use Rattle.wing_mirror.specs.Sets.{keptOf}
-use Rattle.wing_mirror.specs.Puts.{PutResult}
+use Rattle.wing_mirror.specs.Puts.{PutEffect}
 use Rattle.wing_mirror.specs.Table.{table}
 use Rattle.wing_mirror.proofs.Records.Ready.{in-order, put-is}
 use mathlib.Core.Path.{_∙_, ap}
@@ -30,7 +30,7 @@ returns : tie.Need-returns
 unfolding keptOf
 returns c =
     let start = c .before .before .before .before .before .before .before .before .before in
-    rw (c .before .before .before .before .before .written .given .1) (ap (λ (d : PutResult). record { answer = Bytes (c .before .before .before .before .before .written .given .0 .0); after = d .after }) (c .before .before .put .ensures ∙ put-is (start .args .rec .now) (table (start .args .table .now) (start .args .count))))
+    rw (c .before .before .before .before .before .written .given .1) (ap (λ (d : PutEffect). record { answer = Bytes (c .before .before .before .before .before .written .given .0 .0); after = d .after }) (c .before .before .put .ensures ∙ put-is (start .args .rec .now) (table (start .args .table .now) (start .args .count))))
 
 returns-2 : tie.Need-returns-2
 unfolding keptOf
