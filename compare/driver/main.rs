@@ -6,7 +6,6 @@
 mod cases;
 #[path = "../../bench/inputs.rs"]
 mod inputs;
-mod letters;
 mod longer;
 mod noise;
 mod oracle;
@@ -23,25 +22,6 @@ use std::sync::mpsc::{sync_channel, Receiver, SyncSender};
 use std::time::{Duration, Instant};
 
 type Query = (&'static str, Order);
-
-/// Whether the port's side is `shell`, which takes words, or the older `probe`, which takes letters.
-#[derive(Clone, Copy)]
-struct Words(bool);
-
-impl Words {
-    fn of(program: &str) -> Self {
-        Words(!program.ends_with("probe"))
-    }
-
-    fn lines(self, order: &Order, sum: bool) -> String {
-        if self.0 { order.lines(sum) } else { letters::line(order, sum) }
-    }
-
-    /// The answers that come before the order's own.
-    fn held(self, order: &Order) -> Vec<String> {
-        if self.0 { order.held() } else { Vec::new() }
-    }
-}
 
 fn start(program: &str) -> Child {
     Command::new(program).stdin(Stdio::piped()).stdout(Stdio::piped()).spawn().unwrap_or_else(|e| {
@@ -71,14 +51,14 @@ fn generate(long: bool, seed: u64, each: &mut dyn FnMut(&'static str, Order)) {
 }
 
 // The checker has a batch before its lines are written, so that it reads the answers while they come.
-fn send(to: &mut impl Write, batches: &SyncSender<Vec<Query>>, batch: Vec<Query>, words: Words) {
-    let lines: String = batch.iter().map(|q| words.lines(&q.1, true)).collect();
+fn send(to: &mut impl Write, batches: &SyncSender<Vec<Query>>, batch: Vec<Query>) {
+    let lines: String = batch.iter().map(|q| q.1.lines(true)).collect();
     batches.send(batch).unwrap();
     to.write_all(lines.as_bytes()).unwrap();
     to.flush().unwrap();
 }
 
-fn feed(mut to: impl Write, batches: SyncSender<Vec<Query>>, words: Words, long: bool, seed: u64) {
+fn feed(mut to: impl Write, batches: SyncSender<Vec<Query>>, long: bool, seed: u64) {
     let mut batch = Vec::new();
     let mut bytes = 0;
     generate(long, seed, &mut |name, order| {
@@ -86,10 +66,10 @@ fn feed(mut to: impl Write, batches: SyncSender<Vec<Query>>, words: Words, long:
         batch.push((name, order));
         if batch.len() == 256 || bytes > 1 << 20 {
             bytes = 0;
-            send(&mut to, &batches, std::mem::take(&mut batch), words);
+            send(&mut to, &batches, std::mem::take(&mut batch));
         }
     });
-    send(&mut to, &batches, batch, words);
+    send(&mut to, &batches, batch);
 }
 
 struct Totals {
@@ -102,9 +82,9 @@ struct Totals {
 }
 
 // Whether each line that goes ahead is answered as it must be.
-fn held_as_wanted(answers: &mut impl BufRead, order: &Order, words: Words) -> bool {
+fn held_as_wanted(answers: &mut impl BufRead, order: &Order) -> bool {
     let mut good = true;
-    for want in words.held(order) {
+    for want in order.held() {
         let mut got = Vec::new();
         answers.read_until(b'\n', &mut got).unwrap();
         good &= got == want.as_bytes();
@@ -112,13 +92,13 @@ fn held_as_wanted(answers: &mut impl BufRead, order: &Order, words: Words) -> bo
     good
 }
 
-fn check(answers: &mut impl BufRead, batches: Receiver<Vec<Query>>, words: Words, totals: &mut Totals) {
+fn check(answers: &mut impl BufRead, batches: Receiver<Vec<Query>>, totals: &mut Totals) {
     let mut got = Vec::new();
     let mut want = Vec::new();
     for (name, order) in batches.into_iter().flatten() {
         got.clear();
         want.clear();
-        let held = held_as_wanted(answers, &order, words);
+        let held = held_as_wanted(answers, &order);
         answers.read_until(b'\n', &mut got).unwrap();
         oracle::answer_sum(&mut want, &order, &mut totals.tally);
         want.push(b'\n');
@@ -141,7 +121,6 @@ fn check(answers: &mut impl BufRead, batches: Receiver<Vec<Query>>, words: Words
 struct Asker {
     to: std::process::ChildStdin,
     from: BufReader<std::process::ChildStdout>,
-    words: Words,
     _child: Child,
 }
 
@@ -149,15 +128,15 @@ impl Asker {
     fn new(program: &str) -> Self {
         let mut child = start(program);
         let (to, from) = (child.stdin.take().unwrap(), child.stdout.take().unwrap());
-        Asker { to, from: BufReader::new(from), words: Words::of(program), _child: child }
+        Asker { to, from: BufReader::new(from), _child: child }
     }
 
     /// The answer, after those to the lines that go ahead.
     fn ask(&mut self, order: &Order) -> Vec<u8> {
-        if self.to.write_all(self.words.lines(order, false).as_bytes()).is_err() {
+        if self.to.write_all(order.lines(false).as_bytes()).is_err() {
             return b"none: the program has ended".to_vec();
         }
-        let held = held_as_wanted(&mut self.from, order, self.words);
+        let held = held_as_wanted(&mut self.from, order);
         let mut got = Vec::new();
         self.from.read_until(b'\n', &mut got).unwrap();
         got.pop();
@@ -252,13 +231,12 @@ fn run(program: &str, long: bool, seed: u64) -> bool {
     let mut asker = Asker::new(program);
     let wrong = listed(&mut asker);
     let mut child = start(program);
-    let words = Words::of(program);
     let to = child.stdin.take().unwrap();
     let mut from = BufReader::with_capacity(1 << 16, child.stdout.take().unwrap());
     let mut totals = Totals { kinds: BTreeMap::new(), tally: Tally::default(), differ: Vec::new(), differing: 0 };
     let (sender, receiver) = sync_channel(64);
-    let feeder = std::thread::spawn(move || feed(to, sender, words, long, seed));
-    check(&mut from, receiver, words, &mut totals);
+    let feeder = std::thread::spawn(move || feed(to, sender, long, seed));
+    check(&mut from, receiver, &mut totals);
     let fed = feeder.join().is_ok();
     let status = child.wait().unwrap();
     show_totals(&totals);
