@@ -28,17 +28,17 @@ use Rattle.wing_wire.proofs.BothWays.Orders.{reads-as-set}
 use Rattle.wing_mirror.specs.Rows.{Table, Found, found, nothing}
 use Rattle.wing_mirror.specs.Record.{Entry, entry, entryIn, Typed}
 use Rattle.wing_mirror.specs.Table.{rows, usable, put, fits, lookupOf}
-use Rattle.wing_mirror.specs.Query.{answerOf, lookupAnswer, readOf, unread, recordAnswer, sameTables, sameAnswer}
+use Rattle.wing_mirror.specs.Query.{answerOf, lookupAnswer, readOf, refusedRecord, recordAnswer, sameTables, sameAnswer}
 use Rattle.wing_mirror.specs.Answers.{lookupResult, entryResult, recordResult, sameResult, feedResult}
 use Rattle.wing_mirror.specs.Call.{tooLong, notText}
-use Rattle.wing_mirror.specs.Counts.{none}
-use Rattle.wing_mirror.specs.Mirror.{Feeding, unfed, fedAll, fedFully, mirrorFeed, Setting, refusedSet, mirrorSet}
+use Rattle.wing_mirror.specs.Counts.{zeroCounts}
+use Rattle.wing_mirror.specs.Mirror.{Feeding, refusedFeed, fedAll, takenFeed, mirrorFeed, Setting, refusedSet, mirrorSet}
 use Rattle.wing_mirror.specs.Recall.{recallBytes, recallOf}
 use Rattle.wing_mirror.specs.History.{Equal, mirrorStep}
 use Rattle.wing_mirror.specs.declared.answer.Counts.{Counts}
-use Rattle.wing_mirror.specs.declared.answer.Lookup.the-variants.{Refused as NotLookedUp}
+use Rattle.wing_mirror.specs.declared.answer.Lookup.the-variants.{Refused as LookupRefused}
 use Rattle.wing_mirror.specs.declared.answer.RecordRead.{RecordRead}
-use Rattle.wing_mirror.specs.declared.answer.Same.the-variants.{Yes, No, Refused as Uncompared}
+use Rattle.wing_mirror.specs.declared.answer.Same.the-variants.{Yes, No, Refused as SameRefused}
 use Rattle.wing_mirror.proofs.Records.Equals.{same-decides}
 use Rattle.wing_mirror.proofs.Records.Lookups.{read-row, lookups}
 use Rattle.wing_mirror.proofs.Histories.Demand.{histories}
@@ -56,7 +56,7 @@ unfolding mirrorFeed mirrorStep feedResult
 feed-call s t bytes = record {
   answered = unless feeds W counts (soundState s) 8 _ _ _ refl (refl, refl)
       (unless feeds W counts (usable t) 7 _ _ _ refl (refl, refl)
-      (unless feeds W counts (leb (length bytes) 65536) 14 _ _ _ refl (refl, refl) (taken feeds W counts (fedFully (fedAll s t bytes)) refl)));
+      (unless feeds W counts (leb (length bytes) 65536) 14 _ _ _ refl (refl, refl) (taken feeds W counts (takenFeed (fedAll s t bytes)) refl)));
   step = refl;
 }
   where
@@ -67,7 +67,7 @@ feed-call s t bytes = record {
     feeds x = feedResult (x .answer) (x .counts)
 
     W : Feeding → Type 0
-    W x = (mirror (x .state) (x .table) ≡ mirror s t) × (x .counts ≡ none)
+    W x = (mirror (x .state) (x .table) ≡ mirror s t) × (x .counts ≡ zeroCounts)
 
 -- ---- set
 
@@ -153,17 +153,17 @@ recall-call t out b = record {
 -- ---- queries
 
 -- a record read that is sent back
-record-7 : (t : Table) (number : ℕ) → usable t ≡ false → recordAnswer t number ≡ unread 7
+record-7 : (t : Table) (number : ℕ) → usable t ≡ false → recordAnswer t number ≡ refusedRecord 7
 unfolding recordAnswer
 record-7 t number p = rw p
 
-record-14 : (t : Table) (number : ℕ) → usable t ≡ true → ltb number (t .count) ≡ false → recordAnswer t number ≡ unread 14
+record-14 : (t : Table) (number : ℕ) → usable t ≡ true → ltb number (t .count) ≡ false → recordAnswer t number ≡ refusedRecord 14
 unfolding recordAnswer
 record-14 t number p q = rw (p, q)
 
-unread-result : (t : Table) (number k : ℕ) → recordAnswer t number ≡ unread k → recordResult (recordAnswer t number) ≡ refused k
+refused-record-result : (t : Table) (number k : ℕ) → recordAnswer t number ≡ refusedRecord k → recordResult (recordAnswer t number) ≡ refused k
 unfolding entryResult
-unread-result t number k e = rw e
+refused-record-result t number k e = rw e
 
 -- two usable tables are compared
 same-asked : (t u : Table) → usable t ≡ true → usable u ≡ true → sameResult (sameAnswer t u) ≡ ok (sameTables t u)
@@ -180,7 +180,7 @@ lookup-result : (t : Table) (id : ℤ) → lookupResult (lookupAnswer t id) ≡ 
 unfolding lookupAnswer answerOf lookupResult by
 lookup-result t id = go (usable t) (lookupOf id t)
   where
-    go : (a : Bool) (f : Found ℕ) → lookupResult (if a (answerOf f) (NotLookedUp 7)) ≡ by ((not a gives 7) ∷ []) f
+    go : (a : Bool) (f : Found ℕ) → lookupResult (if a (answerOf f) (LookupRefused 7)) ≡ by ((not a gives 7) ∷ []) f
     go true (found k) = refl
     go true nothing = refl
     go false f = refl
@@ -194,25 +194,25 @@ record-result t number b = go (usable t) refl (ltb number (t .count)) refl
 
     go : (u : Bool) → usable t ≡ u → (l : Bool) → ltb number (t .count) ≡ l → recordResult (recordAnswer t number) ≡ by ((not u gives 7) ∷ (not l gives 14) ∷ []) e
     go true p true q = read-row t b p number (ltb-true number (t .count) q)
-    go true p false q = unread-result t number 14 (record-14 t number p q)
-    go false p l q = unread-result t number 7 (record-7 t number p)
+    go true p false q = refused-record-result t number 14 (record-14 t number p q)
+    go false p l q = refused-record-result t number 7 (record-7 t number p)
 
-record-zeros : (t : Table) (number n : ℕ) → recordResult (recordAnswer t number) ≡ refused n → recordAnswer t number ≡ unread n
+record-zeros : (t : Table) (number n : ℕ) → recordResult (recordAnswer t number) ≡ refused n → recordAnswer t number ≡ refusedRecord n
 unfolding recordAnswer entryResult readOf
 record-zeros t number n =
-    branch P (usable t) _ _ (λ _. branch P (ltb number (t .count)) _ _ (λ _ e. absurd (given _ n e)) (λ _. none 14)) (λ _. none 7)
+    branch P (usable t) _ _ (λ _. branch P (ltb number (t .count)) _ _ (λ _ e. absurd (given _ n e)) (λ _. of-refused 14)) (λ _. of-refused 7)
   where
     P : RecordRead → Type 0
-    P r = recordResult r ≡ refused n → r ≡ unread n
+    P r = recordResult r ≡ refused n → r ≡ refusedRecord n
 
-    none : (k : ℕ) → P (unread k)
-    none k e = let z : k ≡ n = cc in rw z
+    of-refused : (k : ℕ) → P (refusedRecord k)
+    of-refused k e = let z : k ≡ n = cc in rw z
 
 same-result : (t u : Table) → sameResult (sameAnswer t u) ≡ by (sameLines t u) (sameTables t u)
 unfolding sameAnswer sameResult by
 same-result t u = go (usable t) (usable u) (sameTables t u)
   where
-    go : (a b c : Bool) → sameResult (if a (if b (if c Yes No) (Uncompared 7)) (Uncompared 7)) ≡ by ((not a gives 7) ∷ (not b gives 7) ∷ []) c
+    go : (a b c : Bool) → sameResult (if a (if b (if c Yes No) (SameRefused 7)) (SameRefused 7)) ≡ by ((not a gives 7) ∷ (not b gives 7) ∷ []) c
     go true true true = refl
     go true true false = refl
     go true false c = refl

@@ -18,14 +18,14 @@ use Rattle.wing_wire.specs.declared.state.Pending.the-variants.{None}
 use Rattle.wing_wire.specs.declared.state.Token.the-variants.{Between}
 use Rattle.wing_wire.specs.declared.reader.Reply.{Reply}
 use Rattle.wing_wire.specs.declared.unit.Answer.{Answer}
-use Rattle.wing_wire.specs.declared.unit.Answer.the-variants.{More, Refused as Unread}
+use Rattle.wing_wire.specs.declared.unit.Answer.the-variants.{More, Refused as AnswerRefused}
 use Rattle.wing_node.proofs.Branches.{branch}
 use Rattle.wing_wire.proofs.Reading.Steps.{next-more}
 use Rattle.wing_wire.proofs.Laws.{decoder-laws}
 use Rattle.wing_wire.proofs.Reading.Repeats.{accepted, repeated}
 use Rattle.wing_mirror.specs.Rows.{In}
 use Rattle.promises.specs.Lines.{_gives_, by, sends}
-use Rattle.promises.specs.Wire.{nextLines, withReading, Beside, NextCall}
+use Rattle.promises.specs.Wire.{nextLines, withEvent, Beside, NextCall}
 use Rattle.promises.proofs.Reading.{advance-says, is-more, advance-stops}
 
 sent-back : (s : State) (bytes : List ℕ) (n : ℕ) → sends (nextLines s bytes) ≡ refused n → nextOf s bytes ≡ refusedNext n s
@@ -94,6 +94,6 @@ next-call s bytes full = record {
   sent-back = sent-back s bytes;
   refusals = λ e. rw (accepted s bytes (passed s bytes full e)) (λ n. advance-says (s .control) (s .store) bytes n);
   more = more-takes-all s bytes;
-  ends = λ e m rs. repeated withReading s bytes rs (passed s bytes full e) .more m;
-  again = λ e m rs. repeated withReading s bytes rs (passed s bytes full e) .again m;
+  ends = λ e m rs. repeated withEvent s bytes rs (passed s bytes full e) .more m;
+  again = λ e m rs. repeated withEvent s bytes rs (passed s bytes full e) .again m;
 }

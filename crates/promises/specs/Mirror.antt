@@ -18,12 +18,12 @@ use Rattle.wing_wire.specs.declared.write.Written.{Written}
 use Rattle.wing_mirror.specs.Rows.{Table, found, nothing}
 use Rattle.wing_mirror.specs.Record.{entry, entryIn}
 use Rattle.wing_mirror.specs.Table.{table, rows, usable, fits, lookupOf}
-use Rattle.wing_mirror.specs.Query.{sameTables, unread}
+use Rattle.wing_mirror.specs.Query.{sameTables, refusedRecord}
 use Rattle.wing_mirror.specs.Answers.{lookupResult, recordResult, sameResult, feedResult}
 use Rattle.wing_mirror.specs.Lookups.{RecordOf}
-use Rattle.wing_mirror.specs.Counts.{none}
+use Rattle.wing_mirror.specs.Counts.{zeroCounts}
 use Rattle.wing_mirror.specs.Call.{feed, set, Step, tooLong, notText}
-use Rattle.wing_mirror.specs.Mirror.{Tallied, keepEvent, fedAll}
+use Rattle.wing_mirror.specs.Mirror.{TableTally, keepEvent, fedAll}
 use Rattle.wing_mirror.specs.Recall.{recallBytes}
 use Rattle.wing_mirror.specs.History.{Mirror, Equal, feedOutcome, setOutcome, mirrorStep, Rebuilt}
 use Rattle.wing_mirror.specs.declared.answer.Counts.{Counts}
@@ -71,7 +71,7 @@ sameLines t u = (not (usable t) gives 7) ∷ (not (usable u) gives 7) ∷ []
 -- a feed
 pub record FeedCall (m : Mirror) (bytes : List ℕ) (answer : FeedAnswer) (counts : Counts) (after : Mirror) : Type 0 where
   -- demand 1: 8, 7, 14, and then the mirror is as it was and nothing is counted; else the counts of what the bytes held
-  pub answered : Answers (feedLines m bytes) (fedAll (m .decoder) (m .table) bytes .memo .counts) (feedResult answer counts) ((after ≡ m) × (counts ≡ none))
+  pub answered : Answers (feedLines m bytes) (fedAll (m .decoder) (m .table) bytes .memo .counts) (feedResult answer counts) ((after ≡ m) × (counts ≡ zeroCounts))
   -- demand 3: one step of the mirror's history is this call
   pub step : mirrorStep m (feed bytes) ≡ record { state = after; outcome = feedOutcome answer counts }
 
@@ -105,7 +105,7 @@ pub record RecordCall (t : Table) (number : ℕ) (reply : RecordRead) : Type 0 w
   -- demand 1: 7, 14; else the node and value of that record
   pub result : recordResult reply ≡ by (recordLines t number) (entryIn (getD (rows t) number []))
   -- sent back, the string's bytes are all 0
-  pub zeros : (n : ℕ) → recordResult reply ≡ refused n → reply ≡ unread n
+  pub zeros : (n : ℕ) → recordResult reply ≡ refused n → reply ≡ refusedRecord n
 
 -- two tables: 7; else whether count and records are equal
 pub record SameCall (t u : Table) (answer : Same) : Type 0 where
@@ -114,4 +114,4 @@ pub record SameCall (t u : Table) (answer : Same) : Type 0 where
 
 -- within a feed: a value for which there is no place leaves the table as it was
 abbrev pub UnplacedStays : Type 0
-UnplacedStays = (node : ℤ) (v : NodeValue) (k : Tallied) → fits (entry node v) (k .table) ≡ false → keepEvent node (value v) k .table ≡ k .table
+UnplacedStays = (node : ℤ) (v : NodeValue) (k : TableTally) → fits (entry node v) (k .table) ≡ false → keepEvent node (value v) k .table ≡ k .table

@@ -28,7 +28,7 @@ use Rattle.wing_wire.specs.declared.escape.Unit.the-variants.{Nothing, Appended
 use Rattle.wing_wire.specs.declared.escape.NextUnit.{NextUnit}
 use Rattle.wing_wire.specs.declared.stream.Advanced.{Advanced}
 use Rattle.wing_wire.specs.declared.state.Token.the-variants.{Between}
-use Rattle.wing_wire.specs.declared.unit.Answer.the-variants.{More, Refused as Unread}
+use Rattle.wing_wire.specs.declared.unit.Answer.the-variants.{More, Refused as AnswerRefused}
 use Rattle.wing_wire.specs.declared.reader.Reply.{Reply}
 use Rattle.wing_wire.specs.declared.write.Written.{Written}
 use Rattle.wing_wire.specs.declared.write.Written.the-variants.{Bytes}
@@ -38,7 +38,7 @@ use Rattle.wing_wire.specs.declared.meter.Requested.the-variants.{Bytes as Asks
 use Rattle.wing_wire.specs.declared.meter.MetersRead.{MetersRead}
 use Rattle.wing_wire.specs.declared.meter.MetersRead.the-variants.{Readings}
 use Rattle.wing_mirror.specs.Rows.{In}
-use Rattle.wing_mirror.specs.Machine.{Reading, reading}
+use Rattle.wing_mirror.specs.Machine.{StreamEvent, streamEvent}
 use Rattle.promises.specs.Lines.{Line, _gives_, sends, Answers}
 
 -- ---- 01's lines, call by call, in the order in which they apply
@@ -67,9 +67,9 @@ packetLines p out =
 
 -- ---- what is promised
 
--- readings so far, and one more
-abbrev pub withReading : ℤ → Event → List Reading → List Reading
-withReading node e rs = rs ++ (reading node e ∷ [])
+-- events so far, and one more
+abbrev pub withEvent : ℤ → Event → List StreamEvent → List StreamEvent
+withEvent node e rs = rs ++ (streamEvent node e ∷ [])
 
 -- 01: string (256 bytes) or body (4,096 bytes), zero-filled, stands beside the answer; with any other answer, refusals included, these
 -- bytes are all 0: the bytes that the units gave stand in some store
@@ -85,7 +85,7 @@ pub record NextCall (s : State) (bytes : List ℕ) (reply : Reply) : Type 0 wher
   -- demand 1: 8, 14, and then nothing is taken and the state is as it was
   pub sent-back : (n : ℕ) → sends (nextLines s bytes) ≡ refused n → reply ≡ refusedNext n s
   -- else the decoder's own refusals are 1, 2 and 3, each with its token taken; when they come, specs/Tokens of the wire says
-  pub refusals : sends (nextLines s bytes) ≡ ok tt → (n : ℕ) → reply .answer ≡ Unread n → In n (1 ∷ 2 ∷ 3 ∷ []) × (reply .state .control .token ≡ Between)
+  pub refusals : sends (nextLines s bytes) ≡ ok tt → (n : ℕ) → reply .answer ≡ AnswerRefused n → In n (1 ∷ 2 ∷ 3 ∷ []) × (reply .state .control .token ≡ Between)
   -- what stands beside the answer
   pub beside : Beside reply
   -- 01: it stops after the unit that completes an event or refusal: no fewer bytes would have given it
@@ -94,12 +94,12 @@ pub record NextCall (s : State) (bytes : List ℕ) (reply : Reply) : Type 0 wher
   -- demand 2: 'more' only when all bytes are taken and nothing is pending
   pub more : reply .answer ≡ More → (reply .taken ≡ length bytes) × (reply .state .control .escape .pending ≡ None)
   -- 01: feed runs next until 'more': where the reply says so, the feed of these bytes leaves its state and gives nothing more
-  pub ends : sends (nextLines s bytes) ≡ ok tt → reply .answer ≡ More → (rs : List Reading) →
-      feedEvents withReading (fedState withReading s rs) bytes ≡ fedState withReading (reply .state) rs
+  pub ends : sends (nextLines s bytes) ≡ ok tt → reply .answer ≡ More → (rs : List StreamEvent) →
+      feedEvents withEvent (fedState withEvent s rs) bytes ≡ fedState withEvent (reply .state) rs
   -- any other event comes next in the feed, at the node that is current; then come those of the bytes that were not taken
-  pub again : sends (nextLines s bytes) ≡ ok tt → (reply .answer ≡ More → ⊥) → (rs : List Reading) →
-      feedEvents withReading (fedState withReading s rs) bytes ≡
-      feedEvents withReading (fedState withReading (reply .state) (withReading (reply .state .control .node) (eventIn reply) rs)) (drop (reply .taken) bytes)
+  pub again : sends (nextLines s bytes) ≡ ok tt → (reply .answer ≡ More → ⊥) → (rs : List StreamEvent) →
+      feedEvents withEvent (fedState withEvent s rs) bytes ≡
+      feedEvents withEvent (fedState withEvent (reply .state) (withEvent (reply .state .control .node) (eventIn reply) rs)) (drop (reply .taken) bytes)
 
 -- a state by its parts
 abbrev pub stateOf : Control → List ℕ → State
@@ -107,7 +107,7 @@ stateOf c store = record { control = c; store = store }
 
 -- bytes in two pieces, at any split and from any state, are the bytes at once: a token cut between two calls goes on where it was
 abbrev pub PiecesJoin : Type 0
-PiecesJoin = (x : Fed (List Reading)) (a b : List ℕ) → feedEvents withReading x (a ++ b) ≡ feedEvents withReading (feedEvents withReading x a) b
+PiecesJoin = (x : Fed (List StreamEvent)) (a b : List ℕ) → feedEvents withEvent x (a ++ b) ≡ feedEvents withEvent (feedEvents withEvent x a) b
 
 -- the core, over the control and the lent store of a state: what next gives from the same state and bytes, where it is not sent back
 abbrev pub AdvanceCall : State → List ℕ → Advanced → List ℕ → Type 0

@@ -10,7 +10,7 @@ ghost use Rattle.wing_wire.specs.Tokens.{Tokens};
 ghost use Rattle.wing_wire.specs.Cases.{Case, cases};
 ghost use Rattle.wing_mirror.specs.History.{Agreement, Equality, Rebuilding, Histories};
 ghost use Rattle.promises.specs.Node.{Walks};
-ghost use Rattle.promises.specs.Wire.{withReading, PiecesJoin};
+ghost use Rattle.promises.specs.Wire.{withEvent, PiecesJoin};
 ghost use Rattle.promises.specs.Mirror.{UnplacedStays};
 
 pub mod mirror;
@@ -21,7 +21,7 @@ pub mod wire;
 // these tokens give, in order and nothing else: 1 exactly for a string whose units are not UTF-8, 2 exactly for a count over
 // 4,096, 3 exactly for count 0, each when the last unit comes. Every unit of a token other than d7 leaves the node as it was.
 pub fn demand_1_tokens()
-    ensures { λ _. ⌜ Tokens withReading ⌝ }
+    ensures { λ _. ⌜ Tokens withEvent ⌝ }
 {}
 
 // Demand 1, console bytes in pieces. From any state, in the midst of a token too, bytes in two pieces are read as the bytes at once.
@@ -48,7 +48,7 @@ pub fn demand_2_round_trip()
 
 // Demand 2, for bytes that arrive in any pieces: what is read after them is that value at that node, once.
 pub fn demand_2_in_pieces()
-    ensures { λ _. ⌜ RoundTripPieces withReading ⌝ }
+    ensures { λ _. ⌜ RoundTripPieces withEvent ⌝ }
 {}
 
 // Demand 2, for definitions of all eight types: fields that fit their forms, one after the other, are read as these fields, with
@@ -60,7 +60,7 @@ pub fn demand_2_definitions()
 // Demand 3. 01: feed runs next until "more". From a sound state with at most 65,536 bytes next calls, each on what the one before
 // left, come to an end, and leave and hand on what the feed does.
 pub fn demand_3_until_more()
-    ensures { λ _. ⌜ UntilMore withReading ⌝ }
+    ensures { λ _. ⌜ UntilMore withEvent ⌝ }
 {}
 
 // Demand 3. After any list of feed and set calls, refused ones included, a mirror has answered each call as the plain

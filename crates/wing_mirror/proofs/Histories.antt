@@ -3,8 +3,8 @@ pub mod Along
 pub mod Maps
 pub mod Mirrored
 pub mod Decodes
-pub mod Hears
-pub mod Wells
+pub mod Events
+pub mod Invariant
 pub mod Simulates
 pub mod InOrder
 pub mod Agrees

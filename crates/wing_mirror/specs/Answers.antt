@@ -8,25 +8,25 @@ use Rattle.wing_mirror.specs.Rows.{Found, found, nothing}
 use Rattle.wing_mirror.specs.Record.{Entry, entry}
 use Rattle.wing_mirror.specs.declared.answer.Counts.{Counts}
 use Rattle.wing_mirror.specs.declared.answer.Lookup.{Lookup}
-use Rattle.wing_mirror.specs.declared.answer.Lookup.the-variants.{At, None, Refused as NotLookedUp}
+use Rattle.wing_mirror.specs.declared.answer.Lookup.the-variants.{At, None, Refused as LookupRefused}
 use Rattle.wing_mirror.specs.declared.answer.RecordAnswer.{RecordAnswer}
-use Rattle.wing_mirror.specs.declared.answer.RecordAnswer.the-variants.{Record, Refused as Unread}
+use Rattle.wing_mirror.specs.declared.answer.RecordAnswer.the-variants.{Record, Refused as RecordRefused}
 use Rattle.wing_mirror.specs.declared.answer.RecordRead.{RecordRead}
 use Rattle.wing_mirror.specs.declared.answer.Same.{Same}
-use Rattle.wing_mirror.specs.declared.answer.Same.the-variants.{Yes, No, Refused as Uncompared}
+use Rattle.wing_mirror.specs.declared.answer.Same.the-variants.{Yes, No, Refused as SameRefused}
 use Rattle.wing_mirror.specs.declared.answer.FeedAnswer.{FeedAnswer}
-use Rattle.wing_mirror.specs.declared.answer.FeedAnswer.the-variants.{Taken, Refused as Unfed}
+use Rattle.wing_mirror.specs.declared.answer.FeedAnswer.the-variants.{Taken, Refused as FeedRefused}
 
 -- 01: an id's record number or none
 unfoldable pub lookupResult : Lookup → Result (Found ℕ)
 lookupResult (At n) = ok (found n)
 lookupResult None = ok nothing
-lookupResult (NotLookedUp n) = refused n
+lookupResult (LookupRefused n) = refused n
 
 -- 01: a record is read by number: its node and value, with the bytes of a string beside the answer
 unfoldable pub entryResult : RecordAnswer → List ℕ → Result Entry
 entryResult (Record id v) string = ok (entry id (meant v string))
-entryResult (Unread n) string = refused n
+entryResult (RecordRefused n) string = refused n
 
 -- the same of the whole reply
 abbrev pub recordResult : RecordRead → Result Entry
@@ -36,9 +36,9 @@ recordResult r = entryResult (r .answer) (r .string)
 unfoldable pub sameResult : Same → Result Bool
 sameResult Yes = ok true
 sameResult No = ok false
-sameResult (Uncompared n) = refused n
+sameResult (SameRefused n) = refused n
 
 -- 01: the six counts of a feed
 unfoldable pub feedResult : FeedAnswer → Counts → Result Counts
 feedResult Taken c = ok c
-feedResult (Unfed n) c = refused n
+feedResult (FeedRefused n) c = refused n

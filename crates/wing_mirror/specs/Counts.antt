@@ -9,22 +9,22 @@ use Rattle.wing_mirror.specs.declared.counts.Mark.{Mark}
 use Rattle.wing_mirror.specs.declared.counts.Mark.the-variants.{Stored, Unplaced, StringRefused, DefinitionRead, DefinitionRefused, Ended, Uncounted}
 
 -- 01's six counts, all 0
-abbrev pub none : Counts
-none = record { stored = 0; unplaced = 0; «strings_refused» = 0; «definitions_read» = 0; «definitions_refused» = 0; ends = 0 }
+abbrev pub zeroCounts : Counts
+zeroCounts = record { stored = 0; unplaced = 0; «strings_refused» = 0; «definitions_read» = 0; «definitions_refused» = 0; ends = 0 }
 
 -- the number of a mark among them
-unfoldable pub order : Mark → ℕ
-order Stored = 0
-order Unplaced = 1
-order StringRefused = 2
-order DefinitionRead = 3
-order DefinitionRefused = 4
-order Ended = 5
-order Uncounted = 6
+unfoldable pub markNumber : Mark → ℕ
+markNumber Stored = 0
+markNumber Unplaced = 1
+markNumber StringRefused = 2
+markNumber DefinitionRead = 3
+markNumber DefinitionRefused = 4
+markNumber Ended = 5
+markNumber Uncounted = 6
 
 -- 1 if both marks are the same, else 0
 abbrev pub match : Mark → Mark → ℕ
-match m k = if (eqb (order m) (order k)) 1 0
+match m k = if (eqb (markNumber m) (markNumber k)) 1 0
 
 -- one of a mark: 1 in its count, 0 in the others
 unfoldable pub one : Mark → Counts
@@ -39,8 +39,8 @@ one m =
     }
 
 -- each of the counts of two together
-abbrev pub added : Counts → Counts → Counts
-added c d =
+abbrev pub addCounts : Counts → Counts → Counts
+addCounts c d =
     record {
       stored = c .stored + d .stored;
       unplaced = c .unplaced + d .unplaced;
@@ -52,7 +52,7 @@ added c d =
 
 -- one more of a mark
 abbrev pub tick : Mark → Counts → Counts
-tick m c = added c (one m)
+tick m c = addCounts c (one m)
 
 -- 01: refusal 1 is a string's; a definition refused is one with 2 to 5; no other number is counted
 unfoldable pub refusalMark : ℕ → Mark

@@ -1,9 +1,9 @@
 -- Demand 3: a mirror and the plain machine over a whole history.
 use Prim.Native.Nat.{ℕ, _+_, _*_, _/_, _≤_}
-use mathlib.Core.Bool.{Bool, true}
+use mathlib.Core.Bool.{true}
 use mathlib.Core.Path.{_≡_}
 use mathlib.Core.Logic.{_↔_}
-use mathlib.Core.List.{List, [], _∷_, _++_, map}
+use mathlib.Core.List.{List, [], _∷_, map}
 use lib.ListN.{length, take, drop}
 use Rattle.wing_wire.specs.State.{freshState}
 use Rattle.wing_wire.specs.Range.{AreBytes}
@@ -13,7 +13,7 @@ use Rattle.wing_wire.specs.declared.write.Written.{Written}
 use Rattle.wing_wire.specs.declared.write.Written.the-variants.{Bytes, Refused}
 use Rattle.wing_mirror.specs.Rows.{Table, All, places, joined, insert, In}
 use Rattle.wing_mirror.specs.Record.{Entry, width, risingIds, ids, rankOf, recordOf, entryIn, wellFormed}
-use Rattle.wing_mirror.specs.Table.{table, rows, every, soundTable, placesAllowed, usable}
+use Rattle.wing_mirror.specs.Table.{table, rows, every, soundTable, placesAllowed}
 use Rattle.wing_mirror.specs.Recall.{recallBytes, recallOf}
 use Rattle.wing_mirror.specs.Query.{sameAnswer}
 use Rattle.wing_mirror.specs.Counts.{total}
@@ -23,7 +23,7 @@ use Rattle.wing_mirror.specs.Machine.{Machine, newMachine, machineStep}
 use Rattle.wing_mirror.specs.declared.answer.Counts.{Counts}
 use Rattle.wing_mirror.specs.declared.answer.Same.the-variants.{Yes}
 use Rattle.wing_mirror.specs.declared.answer.FeedAnswer.{FeedAnswer}
-use Rattle.wing_mirror.specs.declared.answer.FeedAnswer.the-variants.{Taken, Refused as Unfed}
+use Rattle.wing_mirror.specs.declared.answer.FeedAnswer.the-variants.{Taken, Refused as FeedRefused}
 
 -- ---- the mirror's run, by the definitions that the contracts of feed and set equate the code with
 
@@ -39,7 +39,7 @@ newMirror buffer = record { decoder = freshState; table = table buffer 0 }
 -- how a feed came out, by its answer and counts
 abbrev pub feedOutcome : FeedAnswer → Counts → Outcome
 feedOutcome Taken c = fed c
-feedOutcome (Unfed n) c = refused n
+feedOutcome (FeedRefused n) c = refused n
 
 -- how a set came out, by its answer and the bytes written
 abbrev pub setOutcome : Written → List ℕ → Outcome

@@ -6,7 +6,6 @@ use lib.Dec.{ltb, eqb}
 use lib.IntN.{ℤ, pos, negsuc}
 use lib.ListN.{length}
 use Rattle.wing_node.specs.Bool.{if}
-use Rattle.wing_node.specs.Value.{NodeValue}
 use Rattle.wing_node.specs.Definition.{definitionOf}
 use Rattle.wing_wire.specs.State.{freshState}
 use Rattle.wing_wire.specs.Stream.{Fed, feedOf}
@@ -16,7 +15,7 @@ use Rattle.wing_wire.specs.declared.state.State.{State}
 use Rattle.wing_wire.specs.declared.unit.Answer.{Answer}
 use Rattle.wing_mirror.specs.Record.{Entry, entry}
 use Rattle.wing_mirror.specs.Table.{placesAllowed}
-use Rattle.wing_mirror.specs.Counts.{none, tick, refusalMark, bodyMark}
+use Rattle.wing_mirror.specs.Counts.{zeroCounts, tick, refusalMark, bodyMark}
 use Rattle.wing_mirror.specs.Call.{Call, feed, set, tooLong, notText, fed, sent, Step, refuse}
 use Rattle.wing_mirror.specs.declared.answer.Counts.{Counts}
 use Rattle.wing_mirror.specs.declared.counts.Mark.the-variants.{Stored, Unplaced, Ended}
@@ -24,29 +23,29 @@ use Rattle.wing_mirror.specs.declared.counts.Mark.the-variants.{Stored, 
 -- ---- the decoder
 
 -- an event, and the node that was current
-pub record Reading : Type 0 where
+pub record StreamEvent : Type 0 where
   pub node : ℤ
   pub event : Event
 
 -- a node and an event
-abbrev pub reading : ℤ → Event → Reading
-reading node e = record { node = node; event = e }
+abbrev pub streamEvent : ℤ → Event → StreamEvent
+streamEvent node e = record { node = node; event = e }
 
--- one reading more
-abbrev pub noted : ℤ → Answer → List ℕ → List Reading → List Reading
-noted node a s rs = rs ++ (reading node (eventOf a s s) ∷ [])
+-- one event more
+abbrev pub appendEvent : ℤ → Answer → List ℕ → List StreamEvent → List StreamEvent
+appendEvent node a s rs = rs ++ (streamEvent node (eventOf a s s) ∷ [])
 
 -- 01: next until "more" (wing_wire's feedOf): the events in order
-unfoldable pub decoded : State → List ℕ → Fed (List Reading)
-decoded s bytes = feedOf noted (record { control = s .control; store = s .store; memo = [] }) bytes
+unfoldable pub decodeAll : State → List ℕ → Fed (List StreamEvent)
+decodeAll s bytes = feedOf appendEvent (record { control = s .control; store = s .store; memo = [] }) bytes
 
 -- the decoder after the bytes
 abbrev pub stateAfter : State → List ℕ → State
-stateAfter s bytes = record { control = decoded s bytes .control; store = decoded s bytes .store }
+stateAfter s bytes = record { control = decodeAll s bytes .control; store = decodeAll s bytes .store }
 
--- the readings that the bytes give, in order
-abbrev pub readings : State → List ℕ → List Reading
-readings s bytes = decoded s bytes .memo
+-- the events that the bytes give, in order
+abbrev pub events : State → List ℕ → List StreamEvent
+events s bytes = decodeAll s bytes .memo
 
 -- ---- the map
 
@@ -83,32 +82,32 @@ abbrev pub newMachine : Machine
 newMachine = record { decoder = freshState; map = [] }
 
 -- the map, and the counts so far
-pub record Noticed : Type 0 where
+pub record MapTally : Type 0 where
   pub map : List Entry
   pub counts : Counts
 
 -- a map with counts
-abbrev pub noticed : List Entry → Counts → Noticed
-noticed m c = record { map = m; counts = c }
+abbrev pub mapTally : List Entry → Counts → MapTally
+mapTally m c = record { map = m; counts = c }
 
 -- 01: counts value events put, value events not put, refusals 1, bodies the parser takes, refusals 2 to 5, ends
-unfoldable pub hear : ℕ → ℤ → Event → Noticed → Noticed
-hear places node more h = h
-hear places node (value v) h =
-    if (room places node (h .map)) (noticed (putIn (entry node v) (h .map)) (tick Stored (h .counts)))
-    (noticed (h .map) (tick Unplaced (h .counts)))
-hear places node (body b) h = noticed (h .map) (tick (bodyMark (definitionOf b)) (h .counts))
-hear places node end h = noticed (h .map) (tick Ended (h .counts))
-hear places node (refused n) h = noticed (h .map) (tick (refusalMark n) (h .counts))
+unfoldable pub machineEvent : ℕ → ℤ → Event → MapTally → MapTally
+machineEvent places node more h = h
+machineEvent places node (value v) h =
+    if (room places node (h .map)) (mapTally (putIn (entry node v) (h .map)) (tick Stored (h .counts)))
+    (mapTally (h .map) (tick Unplaced (h .counts)))
+machineEvent places node (body b) h = mapTally (h .map) (tick (bodyMark (definitionOf b)) (h .counts))
+machineEvent places node end h = mapTally (h .map) (tick Ended (h .counts))
+machineEvent places node (refused n) h = mapTally (h .map) (tick (refusalMark n) (h .counts))
 
--- readings one after the other
-unfoldable pub hearAll : ℕ → List Reading → Noticed → Noticed
-hearAll places [] h = h
-hearAll places (r ∷ rs) h = hearAll places rs (hear places (r .node) (r .event) h)
+-- events one after the other
+unfoldable pub machineEvents : ℕ → List StreamEvent → MapTally → MapTally
+machineEvents places [] h = h
+machineEvents places (r ∷ rs) h = machineEvents places rs (machineEvent places (r .node) (r .event) h)
 
 -- what a feed makes of the map, with counts from 0
-abbrev pub heardFrom : ℕ → Machine → List ℕ → Noticed
-heardFrom places s bytes = hearAll places (readings (s .decoder) bytes) (noticed (s .map) none)
+abbrev pub machineFeed : ℕ → Machine → List ℕ → MapTally
+machineFeed places s bytes = machineEvents places (events (s .decoder) bytes) (mapTally (s .map) zeroCounts)
 
 -- 01: a feed meets 7 by the places alone, then 14; a set 7, 10, 1, 6 by the map, 9, else puts
 unfoldable pub machineStep : ℕ → Machine → Call → Step Machine
@@ -116,8 +115,8 @@ machineStep places s (feed bytes) =
     if (not (placesAllowed places)) (refuse s 7)
     (if (ltb 65536 (length bytes)) (refuse s 14)
     (record {
-      state = record { decoder = stateAfter (s .decoder) bytes; map = heardFrom places s bytes .map };
-      outcome = fed (heardFrom places s bytes .counts);
+      state = record { decoder = stateAfter (s .decoder) bytes; map = machineFeed places s bytes .map };
+      outcome = fed (machineFeed places s bytes .counts);
     }))
 machineStep places s (set id v out) =
     if (not (placesAllowed places)) (refuse s 7)

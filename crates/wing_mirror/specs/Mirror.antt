@@ -1,6 +1,6 @@
 -- The mirror: what feed and set make of a table, and what they answer.
 use Prim.Native.Nat.{ℕ}
-use mathlib.Core.Bool.{Bool, true, false, not}
+use mathlib.Core.Bool.{not}
 use mathlib.Core.List.{List, _++_}
 use lib.Dec.{ltb, leb}
 use lib.IntN.{ℤ}
@@ -17,38 +17,38 @@ use Rattle.wing_wire.specs.declared.unit.Answer.{Answer}
 use Rattle.wing_wire.specs.declared.write.Written.{Written}
 use Rattle.wing_wire.specs.declared.write.Written.the-variants.{Bytes, Refused}
 use Rattle.wing_mirror.specs.Rows.{Table}
-use Rattle.wing_mirror.specs.Record.{Entry, entry}
+use Rattle.wing_mirror.specs.Record.{entry}
 use Rattle.wing_mirror.specs.Table.{table, usable, put, fits}
 use Rattle.wing_mirror.specs.Call.{tooLong, notText}
-use Rattle.wing_mirror.specs.Counts.{none, tick, refusalMark, bodyMark}
+use Rattle.wing_mirror.specs.Counts.{zeroCounts, tick, refusalMark, bodyMark}
 use Rattle.wing_mirror.specs.declared.answer.Counts.{Counts}
 use Rattle.wing_mirror.specs.declared.counts.Mark.the-variants.{Stored, Unplaced, Ended}
 use Rattle.wing_mirror.specs.declared.answer.FeedAnswer.{FeedAnswer}
-use Rattle.wing_mirror.specs.declared.answer.FeedAnswer.the-variants.{Taken, Refused as Unfed}
+use Rattle.wing_mirror.specs.declared.answer.FeedAnswer.the-variants.{Taken, Refused as FeedRefused}
 use Rattle.wing_mirror.specs.declared.answer.FeedReply.{FeedReply}
 use Rattle.wing_mirror.specs.declared.answer.SetReply.{SetReply}
 
 -- a table, and the counts of a feed so far
-pub record Tallied : Type 0 where
+pub record TableTally : Type 0 where
   pub table : Table
   pub counts : Counts
 
 -- a table with counts
-abbrev pub tallied : Table → Counts → Tallied
-tallied t c = record { table = t; counts = c }
+abbrev pub tableTally : Table → Counts → TableTally
+tableTally t c = record { table = t; counts = c }
 
 -- 01: a value is stored at its node, or has no place; a definition leaves the table alone
-unfoldable pub keepEvent : ℤ → Event → Tallied → Tallied
+unfoldable pub keepEvent : ℤ → Event → TableTally → TableTally
 keepEvent node more k = k
 keepEvent node (value v) k =
-    if (fits (entry node v) (k .table)) (tallied (put (entry node v) (k .table)) (tick Stored (k .counts)))
-    (tallied (k .table) (tick Unplaced (k .counts)))
-keepEvent node (body b) k = tallied (k .table) (tick (bodyMark (definitionOf b)) (k .counts))
-keepEvent node end k = tallied (k .table) (tick Ended (k .counts))
-keepEvent node (refused n) k = tallied (k .table) (tick (refusalMark n) (k .counts))
+    if (fits (entry node v) (k .table)) (tableTally (put (entry node v) (k .table)) (tick Stored (k .counts)))
+    (tableTally (k .table) (tick Unplaced (k .counts)))
+keepEvent node (body b) k = tableTally (k .table) (tick (bodyMark (definitionOf b)) (k .counts))
+keepEvent node end k = tableTally (k .table) (tick Ended (k .counts))
+keepEvent node (refused n) k = tableTally (k .table) (tick (refusalMark n) (k .counts))
 
 -- the same of an answer, whose bytes stand in the decoder's store
-abbrev pub keep : ℤ → Answer → List ℕ → Tallied → Tallied
+abbrev pub keep : ℤ → Answer → List ℕ → TableTally → TableTally
 keep node a s k = keepEvent node (eventOf a s s) k
 
 -- what a feed leaves
@@ -59,25 +59,25 @@ pub record Feeding : Type 0 where
   pub table : Table
 
 -- 01: a refused feed changes and counts nothing
-abbrev pub unfed : ℕ → State → Table → Feeding
-unfed why s t = record { answer = Unfed why; counts = none; state = s; table = t }
+abbrev pub refusedFeed : ℕ → State → Table → Feeding
+refusedFeed why s t = record { answer = FeedRefused why; counts = zeroCounts; state = s; table = t }
 
 -- 01: next until "more" (wing_wire's feedOf), each answer kept
-unfoldable pub fedAll : State → Table → List ℕ → Fed Tallied
-fedAll s t bytes = feedOf keep (record { control = s .control; store = s .store; memo = tallied t none }) bytes
+unfoldable pub fedAll : State → Table → List ℕ → Fed TableTally
+fedAll s t bytes = feedOf keep (record { control = s .control; store = s .store; memo = tableTally t zeroCounts }) bytes
 
 -- 01: a feed that is taken: the six counts, the state and the table
-abbrev pub fedFully : Fed Tallied → Feeding
-fedFully x = record { answer = Taken; counts = x .memo .counts; state = record { control = x .control; store = x .store }; table = x .memo .table }
+abbrev pub takenFeed : Fed TableTally → Feeding
+takenFeed x = record { answer = Taken; counts = x .memo .counts; state = record { control = x .control; store = x .store }; table = x .memo .table }
 
 -- 01: feed takes up to 65,536 bytes; 8, 7, 14
 unfoldable pub mirrorFeed : State → Table → List ℕ → Feeding
 mirrorFeed s t bytes =
     if (soundState s)
     (if (usable t)
-    (if (leb (length bytes) 65536) (fedFully (fedAll s t bytes)) (unfed 14 s t))
-    (unfed 7 s t))
-    (unfed 8 s t)
+    (if (leb (length bytes) 65536) (takenFeed (fedAll s t bytes)) (refusedFeed 14 s t))
+    (refusedFeed 7 s t))
+    (refusedFeed 8 s t)
 
 -- what the call leaves, by its reply and the lent buffer
 abbrev pub feeding : FeedReply → List ℕ → Feeding

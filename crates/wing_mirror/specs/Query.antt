@@ -15,10 +15,10 @@ use Rattle.wing_mirror.specs.Record.{Entry, entryIn}
 use Rattle.wing_mirror.specs.Table.{rows, usable, lookupOf}
 use Rattle.wing_mirror.specs.declared.answer.Lookup.{Lookup}
 use Rattle.wing_mirror.specs.declared.answer.Lookup.the-variants.{At, None, Refused}
-use Rattle.wing_mirror.specs.declared.answer.RecordAnswer.the-variants.{Record, Refused as Unread}
+use Rattle.wing_mirror.specs.declared.answer.RecordAnswer.the-variants.{Record, Refused as RecordRefused}
 use Rattle.wing_mirror.specs.declared.answer.RecordRead.{RecordRead}
 use Rattle.wing_mirror.specs.declared.answer.Same.{Same}
-use Rattle.wing_mirror.specs.declared.answer.Same.the-variants.{Yes, No, Refused as Uncompared}
+use Rattle.wing_mirror.specs.declared.answer.Same.the-variants.{Yes, No, Refused as SameRefused}
 
 -- 01: an id's record number, or none
 unfoldable pub answerOf : Found ℕ → Lookup
@@ -50,12 +50,12 @@ unfoldable pub readOf : Entry → RecordRead
 readOf e = record { answer = Record (e .id) (valueOf (e .value)); string = bytesBeside (e .value) }
 
 -- a refused read, with the bytes beside it all 0
-abbrev pub unread : ℕ → RecordRead
-unread why = record { answer = Unread why; string = replicate 256 0 }
+abbrev pub refusedRecord : ℕ → RecordRead
+refusedRecord why = record { answer = RecordRefused why; string = replicate 256 0 }
 
 -- 01: 7, then 14 for a number that is not below the count; else what the record of this number says
 unfoldable pub recordAnswer : Table → ℕ → RecordRead
-recordAnswer t number = if (usable t) (if (ltb number (t .count)) (readOf (entryIn (getD (rows t) number []))) (unread 14)) (unread 7)
+recordAnswer t number = if (usable t) (if (ltb number (t .count)) (readOf (entryIn (getD (rows t) number []))) (refusedRecord 14)) (refusedRecord 7)
 
 -- two lists of bytes are one
 unfoldable pub sameBytes : List ℕ → List ℕ → Bool
@@ -77,4 +77,4 @@ sameTables s t = if (eqb (s .count) (t .count)) (sameRows (rows s) (rows t)) fal
 
 -- 01: 7 for either table
 unfoldable pub sameAnswer : Table → Table → Same
-sameAnswer s t = if (usable s) (if (usable t) (if (sameTables s t) Yes No) (Uncompared 7)) (Uncompared 7)
+sameAnswer s t = if (usable s) (if (usable t) (if (sameTables s t) Yes No) (SameRefused 7)) (SameRefused 7)

@@ -18,8 +18,8 @@ abbrev pub replied : SetReply → List ℕ → Replied
 replied r buffer = record { answer = r .answer; after = table buffer (r .count) }
 
 -- refused, with the count as it was
-abbrev pub unkept : ℕ → ℕ → SetReply
-unkept why count = record { answer = Refused why; count = count }
+abbrev pub refusedSetReply : ℕ → ℕ → SetReply
+refusedSetReply why count = record { answer = Refused why; count = count }
 
 -- 01: the value is stored if its command is written; refused, the table is as it was
 unfoldable pub keptOf : Written → List ℕ → Table → Replied

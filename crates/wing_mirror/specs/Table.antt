@@ -27,8 +27,8 @@ abbrev pub rowAt : ℕ → List ℕ → List ℕ
 rowAt number buffer = take width (drop (width * number) buffer)
 
 -- the record of a number is there and has this key
-unfoldable pub heldAt : List ℕ → ℕ → ℕ → ℕ → Bool
-heldAt buffer count number key = if (ltb number count) (eqb (keyOf (rowAt number buffer)) key) false
+unfoldable pub hasKeyAt : List ℕ → ℕ → ℕ → ℕ → Bool
+hasKeyAt buffer count number key = if (ltb number count) (eqb (keyOf (rowAt number buffer)) key) false
 
 -- the record after that of a number, if there is one, has a higher key
 unfoldable pub belowNext : List ℕ → ℕ → ℕ → Bool

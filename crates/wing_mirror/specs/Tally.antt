@@ -5,8 +5,8 @@ use Rattle.wing_wire.specs.Stream.{Fed}
 use Rattle.wing_wire.specs.declared.state.Control.{Control}
 use Rattle.wing_wire.specs.declared.state.State.{State}
 use Rattle.wing_mirror.specs.Table.{table}
-use Rattle.wing_mirror.specs.Counts.{none, tick}
-use Rattle.wing_mirror.specs.Mirror.{Tallied, tallied}
+use Rattle.wing_mirror.specs.Counts.{zeroCounts, tick}
+use Rattle.wing_mirror.specs.Mirror.{TableTally, tableTally}
 use Rattle.wing_mirror.specs.declared.answer.Counts.{Counts}
 use Rattle.wing_mirror.specs.declared.answer.FeedAnswer.the-variants.{Refused}
 use Rattle.wing_mirror.specs.declared.answer.FeedReply.{FeedReply}
@@ -15,8 +15,8 @@ use Rattle.wing_mirror.specs.declared.keep.Tally.{Tally}
 use Rattle.wing_mirror.specs.declared.keep.FedOn.{FedOn}
 
 -- the same, by what the code holds and the lent buffer
-abbrev pub tallyOf : Tally → List ℕ → Tallied
-tallyOf t buffer = tallied (table buffer (t .count)) (t .counts)
+abbrev pub tallyOf : Tally → List ℕ → TableTally
+tallyOf t buffer = tableTally (table buffer (t .count)) (t .counts)
 
 -- one count more
 abbrev pub ticked : ℕ → Counts → Mark → Tally
@@ -27,9 +27,9 @@ abbrev pub stateOf : Control → List ℕ → State
 stateOf c s = record { control = c; store = s }
 
 -- a refused feed's reply
-abbrev pub refusedReply : ℕ → State → ℕ → FeedReply
-refusedReply why s count = record { answer = Refused why; counts = none; state = s; count = count }
+abbrev pub refusedFeedReply : ℕ → State → ℕ → FeedReply
+refusedFeedReply why s count = record { answer = Refused why; counts = zeroCounts; state = s; count = count }
 
 -- what a feed leaves, with the store and the table that were lent
-abbrev pub fedOf : FedOn → List ℕ → List ℕ → Fed Tallied
+abbrev pub fedOf : FedOn → List ℕ → List ℕ → Fed TableTally
 fedOf r store buffer = record { control = r .control; store = store; memo = tallyOf (r .tally) buffer }

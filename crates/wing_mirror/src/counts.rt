@@ -1,7 +1,7 @@
 // The six counts of a feed.
 ghost use mathlib.Core.Path.{_≡_};
 ghost use Prim.Native.Nat.{_<_};
-ghost use Rattle.wing_mirror.specs.Counts.{none as noneOf, tick as tickOf, total, refusalMark, bodyMark};
+ghost use Rattle.wing_mirror.specs.Counts.{zeroCounts, tick as tickOf, total, refusalMark, bodyMark};
 use crate::answer::Counts;
 use wing_node::definition::Parsed;
 
@@ -16,8 +16,8 @@ pub enum Mark {
     Uncounted,
 }
 
-pub(crate) fn none() -> Counts
-    ensures { λ r. ⌜ r ≡ noneOf ⌝ }
+pub(crate) fn zero_counts() -> Counts
+    ensures { λ r. ⌜ r ≡ zeroCounts ⌝ }
 {
     Counts {
         stored: 0,

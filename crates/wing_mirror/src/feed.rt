@@ -5,11 +5,11 @@ ghost use Prim.Native.Nat.{_≤_};
 ghost use lib.ListN.{length};
 ghost use Rattle.wing_wire.specs.State.{soundState};
 ghost use Rattle.wing_mirror.specs.Table.{table as tableOf, usable};
-ghost use Rattle.wing_mirror.specs.Mirror.{fedAll, fedFully, feeding, mirrorFeed};
-ghost use Rattle.wing_mirror.specs.Tally.{fedOf, stateOf, refusedReply};
+ghost use Rattle.wing_mirror.specs.Mirror.{fedAll, takenFeed, feeding, mirrorFeed};
+ghost use Rattle.wing_mirror.specs.Tally.{fedOf, stateOf, refusedFeedReply};
 use crate::answer::FeedAnswer;
 use crate::answer::FeedReply;
-use crate::counts::none;
+use crate::counts::zero_counts;
 use crate::keep::FedOn;
 use crate::keep::Tally;
 use crate::keep::keep_answer;
@@ -25,7 +25,7 @@ fn feed_on(c: Control, store: &mut [u8], table: &mut [u8], count: usize, bytes: 
     requires { ⌜ (soundState (stateOf c (now store)) ≡ true) × (length (now store) ≡ 4096) × (usable (tableOf (now table) count) ≡ true) × (length (now bytes) ≤ 65536) ⌝ }
     ensures { λ r. ⌜ fedOf r (now (store .exit)) (now (table .exit)) ≡ fedAll (stateOf c (now (store .entry))) (tableOf (now (table .entry)) count) (now (bytes .entry)) ⌝ }
 {
-    let counts = none();
+    let counts = zero_counts();
     let mut t = Tally {
         count: count,
         counts: counts,
@@ -50,7 +50,7 @@ fn feed_on(c: Control, store: &mut [u8], table: &mut [u8], count: usize, bytes: 
 
 fn fed(state: State, table: &mut [u8], count: usize, bytes: &[u8]) -> FeedReply
     requires { ⌜ (soundState state ≡ true) × (usable (tableOf (now table) count) ≡ true) × (length (now bytes) ≤ 65536) ⌝ }
-    ensures { λ r. ⌜ feeding r (now (table .exit)) ≡ fedFully (fedAll state (tableOf (now (table .entry)) count) (now (bytes .entry))) ⌝ }
+    ensures { λ r. ⌜ feeding r (now (table .exit)) ≡ takenFeed (fedAll state (tableOf (now (table .entry)) count) (now (bytes .entry))) ⌝ }
 {
     let c = state.control;
     let mut store = state.store;
@@ -70,10 +70,10 @@ fn fed(state: State, table: &mut [u8], count: usize, bytes: &[u8]) -> FeedReply
 }
 
 // 01: a refused feed changes and counts nothing.
-fn unfed(why: u8, state: State, count: usize) -> FeedReply
-    ensures { λ r. ⌜ r ≡ refusedReply why state count ⌝ }
+fn refused(why: u8, state: State, count: usize) -> FeedReply
+    ensures { λ r. ⌜ r ≡ refusedFeedReply why state count ⌝ }
 {
-    let counts = none();
+    let counts = zero_counts();
     FeedReply {
         answer: FeedAnswer::Refused(why),
         counts: counts,
@@ -92,9 +92,9 @@ pub fn feed(state: State, table: &mut [u8], count: usize, bytes: &[u8]) -> FeedR
             if bytes.len() <= 65536 {
                 return fed(state, table, count, bytes);
             }
-            return unfed(14, state, count);
+            return refused(14, state, count);
         }
-        return unfed(7, state, count);
+        return refused(7, state, count);
     }
-    unfed(8, state, count)
+    refused(8, state, count)
 }

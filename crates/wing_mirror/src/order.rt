@@ -5,7 +5,7 @@ ghost use Prim.Native.Nat.{_+_, _*_, _≤_};
 ghost use lib.ListN.{length};
 ghost use Rattle.wing_mirror.specs.Rows.{records, below, rising};
 ghost use Rattle.wing_mirror.specs.Record.{width, keyOf};
-ghost use Rattle.wing_mirror.specs.Table.{rowAt, heldAt};
+ghost use Rattle.wing_mirror.specs.Table.{rowAt, hasKeyAt};
 use crate::record;
 use wing_wire::state::State;
 
@@ -35,9 +35,9 @@ pub(crate) fn search(table: &[u8], count: usize, key: u32) -> usize
 }
 
 // The record of a number has this key.
-pub(crate) fn held(table: &[u8], count: usize, number: usize, key: u32) -> bool
+pub(crate) fn has_key(table: &[u8], count: usize, number: usize, key: u32) -> bool
     requires { ⌜ width * count ≤ length (now table) ⌝ }
-    ensures { λ r. ⌜ r ≡ heldAt (now (table .entry)) count number key ⌝ }
+    ensures { λ r. ⌜ r ≡ hasKeyAt (now (table .entry)) count number key ⌝ }
 {
     if number < count {
         return key_at(table, number) == key;

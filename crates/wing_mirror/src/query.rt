@@ -7,13 +7,13 @@ ghost use Rattle.wing_node.specs.Value.{string as stringOf};
 ghost use Rattle.wing_mirror.specs.Rows.{records, rising, numberOf};
 ghost use Rattle.wing_mirror.specs.Record.{width, keyOf, entry, entryIn};
 ghost use Rattle.wing_mirror.specs.Table.{table as tableOf, rowAt};
-ghost use Rattle.wing_mirror.specs.Query.{lookupAnswer, answerOf, readOf, besideZeros, unread, recordAnswer, sameBytes, sameTables, sameAnswer};
+ghost use Rattle.wing_mirror.specs.Query.{lookupAnswer, answerOf, readOf, besideZeros, refusedRecord, recordAnswer, sameBytes, sameTables, sameAnswer};
 use crate::answer::Lookup;
 use crate::answer::RecordAnswer;
 use crate::answer::RecordRead;
 use crate::answer::Same;
 use crate::bytes::lay;
-use crate::order::held;
+use crate::order::has_key;
 use crate::order::search;
 use crate::record::least;
 use crate::record::rank;
@@ -27,7 +27,7 @@ fn number_of(table: &[u8], count: usize, key: u32) -> Lookup
     ensures { λ r. ⌜ r ≡ answerOf (numberOf keyOf key (records width count (now (table .entry)))) ⌝ }
 {
     let number = search(table, count, key);
-    if held(table, count, number, key) {
+    if has_key(table, count, number, key) {
         return Lookup::At(number);
     }
     Lookup::None
@@ -44,7 +44,7 @@ pub fn lookup(table: &[u8], count: usize, id: i32) -> Lookup
 }
 
 fn refused(why: u8) -> RecordRead
-    ensures { λ r. ⌜ r ≡ unread why ⌝ }
+    ensures { λ r. ⌜ r ≡ refusedRecord why ⌝ }
 {
     RecordRead {
         answer: RecordAnswer::Refused(why),

@@ -9,7 +9,7 @@ ghost use Rattle.wing_wire.specs.Command.{setBytes};
 ghost use Rattle.wing_mirror.specs.Record.{width, storable};
 ghost use Rattle.wing_mirror.specs.Table.{table as tableOf, usable};
 ghost use Rattle.wing_mirror.specs.Mirror.{mirrorSet, setting};
-ghost use Rattle.wing_mirror.specs.Sets.{replied, keptOf, unkept};
+ghost use Rattle.wing_mirror.specs.Sets.{replied, keptOf, refusedSetReply};
 use crate::answer::SetReply;
 use crate::record::lay_record;
 use crate::record::least;
@@ -23,7 +23,7 @@ use wing_wire::state::State;
 use wing_wire::write::Written;
 
 fn refused(why: u8, count: usize) -> SetReply
-    ensures { λ r. ⌜ r ≡ unkept why count ⌝ }
+    ensures { λ r. ⌜ r ≡ refusedSetReply why count ⌝ }
 {
     SetReply {
         answer: Written::Refused(why),
@@ -89,8 +89,8 @@ pub fn set_int(table: &mut [u8], count: usize, out: &mut [u8], id: i32, value: i
     ensures { λ r. ⌜ setting r (now (out .exit)) (now (table .exit)) ≡ mirrorSet id (integer value) (tableOf (now (table .entry)) count) (now (out .entry)) ⌝ }
 {
     if is_usable(table, count) {
-        let none = [0u8; 0];
-        return set_value(table, count, out, id, Value::Integer(value), &none);
+        let empty = [0u8; 0];
+        return set_value(table, count, out, id, Value::Integer(value), &empty);
     }
     refused(7, count)
 }
@@ -100,8 +100,8 @@ pub fn set_float(table: &mut [u8], count: usize, out: &mut [u8], id: i32, bits: 
     ensures { λ r. ⌜ setting r (now (out .exit)) (now (table .exit)) ≡ mirrorSet id (float bits) (tableOf (now (table .entry)) count) (now (out .entry)) ⌝ }
 {
     if is_usable(table, count) {
-        let none = [0u8; 0];
-        return set_value(table, count, out, id, Value::Float(bits), &none);
+        let empty = [0u8; 0];
+        return set_value(table, count, out, id, Value::Float(bits), &empty);
     }
     refused(7, count)
 }

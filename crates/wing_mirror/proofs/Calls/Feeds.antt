@@ -19,21 +19,21 @@ use Rattle.wing_wire.proofs.Laws.{decoder-laws}
 use Rattle.wing_mirror.specs.Rows.{Table, All}
 use Rattle.wing_mirror.specs.Record.{entry}
 use Rattle.wing_mirror.specs.Table.{usable, fits}
-use Rattle.wing_mirror.specs.Counts.{none, total, added}
+use Rattle.wing_mirror.specs.Counts.{zeroCounts, total, addCounts}
 use Rattle.wing_mirror.specs.Call.{tooLong, notText}
-use Rattle.wing_mirror.specs.Mirror.{Tallied, tallied, keepEvent, keep, Feeding, fedAll, fedFully, mirrorFeed, mirrorSet}
-use Rattle.wing_mirror.specs.Machine.{Reading, readings}
+use Rattle.wing_mirror.specs.Mirror.{TableTally, tableTally, keepEvent, keep, Feeding, fedAll, takenFeed, mirrorFeed, mirrorSet}
+use Rattle.wing_mirror.specs.Machine.{StreamEvent, events}
 use Rattle.wing_mirror.specs.declared.answer.Counts.{Counts}
 use Rattle.wing_mirror.specs.declared.answer.FeedAnswer.the-variants.{Taken}
 use Rattle.wing_mirror.proofs.Records.Lasting.{entry-usable}
 use Rattle.wing_mirror.proofs.Calls.Turns.{value-usable}
-use Rattle.wing_mirror.proofs.Histories.Along.{handed, few-readings}
-use Rattle.wing_mirror.proofs.Calls.Tallies.{handed-total, atop, added-none, keep-adds}
-use Rattle.wing_mirror.proofs.Histories.Decodes.{ProperEvent, ProperReading, WellState, after-well, readings-proper}
-use Rattle.wing_mirror.proofs.Calls.Outcomes.{feed-8, feed-7, feed-14, feed-taken, fed-readings, text-storable, set-10, set-1, set-6, set-9, set-sent}
+use Rattle.wing_mirror.proofs.Histories.Along.{foldEvents, few-events}
+use Rattle.wing_mirror.proofs.Calls.Tallies.{fold-total, atop, add-zero-counts, keep-adds}
+use Rattle.wing_mirror.proofs.Histories.Decodes.{ValidEvent, ValidStreamEvent, ValidState, after-valid, events-valid}
+use Rattle.wing_mirror.proofs.Calls.Outcomes.{feed-8, feed-7, feed-14, feed-taken, fed-events, text-storable, set-10, set-1, set-6, set-9, set-sent}
 
--- one reading leaves a usable table usable
-keep-usable : (node : ℤ) (e : Event) (k : Tallied) → ProperEvent node e → usable (k .table) ≡ true → usable (keepEvent node e k .table) ≡ true
+-- one event leaves a usable table usable
+keep-usable : (node : ℤ) (e : Event) (k : TableTally) → ValidEvent node e → usable (k .table) ≡ true → usable (keepEvent node e k .table) ≡ true
 unfolding keepEvent
 keep-usable node more k p u = u
 keep-usable node (value v) k p u = value-usable node v k (p .text) u
@@ -42,24 +42,24 @@ keep-usable node end k p u = u
 keep-usable node (refused n) k p u = u
 
 -- so do all of them
-handed-usable : (rs : List Reading) (k : Tallied) → All ProperReading rs → usable (k .table) ≡ true → usable (handed keepEvent rs k .table) ≡ true
-unfolding handed
-handed-usable [] k p u = u
-handed-usable (r ∷ rs) k p u = handed-usable rs (keepEvent (r .node) (r .event) k) (p .1) (keep-usable (r .node) (r .event) k (p .0) u)
+fold-usable : (rs : List StreamEvent) (k : TableTally) → All ValidStreamEvent rs → usable (k .table) ≡ true → usable (foldEvents keepEvent rs k .table) ≡ true
+unfolding foldEvents
+fold-usable [] k p u = u
+fold-usable (r ∷ rs) k p u = fold-usable rs (keepEvent (r .node) (r .event) k) (p .1) (keep-usable (r .node) (r .event) k (p .0) u)
 
 -- a feed leaves a usable table usable and a sound state sound
 pub feed-sound : (s : State) (t : Table) (bytes : List ℕ) → InRange (s .control) (s .store) → AreBytes bytes → soundState s ≡ true → usable t ≡ true →
     (usable (mirrorFeed s t bytes .table) ≡ true) × (soundState (mirrorFeed s t bytes .state) ≡ true)
 feed-sound s t bytes inside are g u = go (leb (length bytes) 65536) refl
   where
-    w : WellState s
+    w : ValidState s
     w = record { sound = g; inside = inside }
 
     go : (b : Bool) → leb (length bytes) 65536 ≡ b → (usable (mirrorFeed s t bytes .table) ≡ true) × (soundState (mirrorFeed s t bytes .state) ≡ true)
     go false q = rw (feed-14 s t bytes g u (leb-false (length bytes) 65536 q)) (u, g)
     go true q =
-        rw (feed-taken s t bytes g u (leb-true (length bytes) 65536 q), fed-readings s t bytes)
-        (handed-usable (readings s bytes) (tallied t none) (readings-proper s bytes are w) u, after-well s bytes are w .sound)
+        rw (feed-taken s t bytes g u (leb-true (length bytes) 65536 q), fed-events s t bytes)
+        (fold-usable (events s bytes) (tableTally t zeroCounts) (events-valid s bytes are w) u, after-valid s bytes are w .sound)
 
 -- a set leaves a usable table usable
 pub set-sound : (id : ℤ) (v : NodeValue) (t : Table) (out : List ℕ) → usable t ≡ true → usable (mirrorSet id v t out .table) ≡ true
@@ -82,21 +82,21 @@ feed-counts s t bytes = go (soundState s) refl (usable t) refl (leb (length byte
     go true p false q c r = rw (feed-7 s t bytes p q) (omega arith)
     go true p true q false r = rw (feed-14 s t bytes p q (leb-false (length bytes) 65536 r)) (omega arith)
     go true p true q true r =
-        rw (feed-taken s t bytes p q (leb-true (length bytes) 65536 r), fed-readings s t bytes)
-        (omega (arith, handed-total (readings s bytes) (tallied t none), few-readings s bytes p))
+        rw (feed-taken s t bytes p q (leb-true (length bytes) 65536 r), fed-events s t bytes)
+        (omega (arith, fold-total (events s bytes) (tableTally t zeroCounts), few-events s bytes p))
 
 -- a feed that begins with counts c
-from-counts : (x : Fed Tallied) (c : Counts) (bytes : List ℕ) →
-    feedOf keep (record { control = x .control; store = x .store; memo = tallied (x .memo .table) c }) bytes
-    ≡ (let y = feedOf keep (record { control = x .control; store = x .store; memo = tallied (x .memo .table) none }) bytes in
+from-counts : (x : Fed TableTally) (c : Counts) (bytes : List ℕ) →
+    feedOf keep (record { control = x .control; store = x .store; memo = tableTally (x .memo .table) c }) bytes
+    ≡ (let y = feedOf keep (record { control = x .control; store = x .store; memo = tableTally (x .memo .table) zeroCounts }) bytes in
     record { control = y .control; store = y .store; memo = atop c (y .memo) })
 from-counts x c bytes =
-    ap (λ (d : Counts). feedOf keep (record { control = x .control; store = x .store; memo = tallied (x .memo .table) d }) bytes) (sym (added-none c))
-    ∙ sym (decoder-laws .feed .along keep keep (atop c) (λ node a t k. keep-adds c node (eventOf a t t) k) (record { control = x .control; store = x .store; memo = tallied (x .memo .table) none }) bytes)
+    ap (λ (d : Counts). feedOf keep (record { control = x .control; store = x .store; memo = tableTally (x .memo .table) d }) bytes) (sym (add-zero-counts c))
+    ∙ sym (decoder-laws .feed .along keep keep (atop c) (λ node a t k. keep-adds c node (eventOf a t t) k) (record { control = x .control; store = x .store; memo = tableTally (x .memo .table) zeroCounts }) bytes)
 
 -- two taken feeds, the second on what the first leaves, as one: counts add
 abbrev pub together : Feeding → Feeding → Feeding
-together x y = record { answer = Taken; counts = added (x .counts) (y .counts); state = y .state; table = y .table }
+together x y = record { answer = Taken; counts = addCounts (x .counts) (y .counts); state = y .state; table = y .table }
 
 -- a feed on what another leaves
 abbrev pub onwards : Feeding → List ℕ → Feeding
@@ -107,12 +107,12 @@ pub feed-joined : (s : State) (t : Table) (a b : List ℕ) → InRange (s .contr
     mirrorFeed s t (a ++ b) ≡ together (mirrorFeed s t a) (onwards (mirrorFeed s t a) b)
 unfolding fedAll
 feed-joined s t a b inside are g u few =
-    let z : Fed Tallied = record { control = s .control; store = s .store; memo = tallied t none } in
+    let z : Fed TableTally = record { control = s .control; store = s .store; memo = tableTally t zeroCounts } in
     let x : Feeding = mirrorFeed s t a in
     let k = feed-sound s t a inside are g u in
-    let first : x ≡ fedFully (fedAll s t a) = feed-taken s t a g u (omega (arith, length-append a b)) in
-    let second : onwards x b ≡ fedFully (fedAll (x .state) (x .table) b) = feed-taken (x .state) (x .table) b (k .1) (k .0) (omega (arith, length-append a b)) in
+    let first : x ≡ takenFeed (fedAll s t a) = feed-taken s t a g u (omega (arith, length-append a b)) in
+    let second : onwards x b ≡ takenFeed (fedAll (x .state) (x .table) b) = feed-taken (x .state) (x .table) b (k .1) (k .0) (omega (arith, length-append a b)) in
     feed-taken s t (a ++ b) g u few
-    ∙ ap fedFully (decoder-laws .feed .pieces keep z a b ∙ from-counts (feedOf keep z a) (feedOf keep z a .memo .counts) b)
-    ∙ ap (λ (f : Feeding). together f (fedFully (fedAll (f .state) (f .table) b))) (sym first)
+    ∙ ap takenFeed (decoder-laws .feed .pieces keep z a b ∙ from-counts (feedOf keep z a) (feedOf keep z a .memo .counts) b)
+    ∙ ap (λ (f : Feeding). together f (takenFeed (fedAll (f .state) (f .table) b))) (sym first)
     ∙ ap (together x) (sym second)

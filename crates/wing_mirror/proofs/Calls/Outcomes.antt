@@ -18,37 +18,37 @@ use Rattle.wing_mirror.specs.Rows.{Table}
 use Rattle.wing_mirror.specs.Record.{entry, storable}
 use Rattle.wing_mirror.specs.Table.{usable, put, fits}
 use Rattle.wing_mirror.specs.Call.{tooLong, notText}
-use Rattle.wing_mirror.specs.Counts.{none}
-use Rattle.wing_mirror.specs.Mirror.{tallied, keepEvent, unfed, fedAll, fedFully, mirrorFeed, refusedSet, mirrorSet}
-use Rattle.wing_mirror.specs.Machine.{decoded, readings}
-use Rattle.wing_mirror.proofs.Histories.Along.{handed, feed-readings}
+use Rattle.wing_mirror.specs.Counts.{zeroCounts}
+use Rattle.wing_mirror.specs.Mirror.{tableTally, keepEvent, refusedFeed, fedAll, takenFeed, mirrorFeed, refusedSet, mirrorSet}
+use Rattle.wing_mirror.specs.Machine.{decodeAll, events}
+use Rattle.wing_mirror.proofs.Histories.Along.{foldEvents, feed-events}
 
 module _ (s : State) (t : Table) (bytes : List ℕ) where
   -- 01: state unsound
-  pub feed-8 : soundState s ≡ false → mirrorFeed s t bytes ≡ unfed 8 s t
+  pub feed-8 : soundState s ≡ false → mirrorFeed s t bytes ≡ refusedFeed 8 s t
   unfolding mirrorFeed
   feed-8 g = rw g
 
   module _ (g : soundState s ≡ true) where
     -- 01: table unsound or places outside 1–1,024
-    pub feed-7 : usable t ≡ false → mirrorFeed s t bytes ≡ unfed 7 s t
+    pub feed-7 : usable t ≡ false → mirrorFeed s t bytes ≡ refusedFeed 7 s t
     unfolding mirrorFeed
     feed-7 u = rw (g, u)
 
     -- 01: feed over 65,536 bytes
-    pub feed-14 : usable t ≡ true → 65536 < length bytes → mirrorFeed s t bytes ≡ unfed 14 s t
+    pub feed-14 : usable t ≡ true → 65536 < length bytes → mirrorFeed s t bytes ≡ refusedFeed 14 s t
     unfolding mirrorFeed
     feed-14 u l = rw (g, u, lt-leb (length bytes) 65536 l)
 
     -- otherwise every answer is kept
-    pub feed-taken : usable t ≡ true → length bytes ≤ 65536 → mirrorFeed s t bytes ≡ fedFully (fedAll s t bytes)
+    pub feed-taken : usable t ≡ true → length bytes ≤ 65536 → mirrorFeed s t bytes ≡ takenFeed (fedAll s t bytes)
     unfolding mirrorFeed
     feed-taken u l = rw (g, u, le-leb (length bytes) 65536 l)
 
   -- the mirror keeps what the machine reads
-  pub fed-readings : fedAll s t bytes ≡ record { control = decoded s bytes .control; store = decoded s bytes .store; memo = handed keepEvent (readings s bytes) (tallied t none) }
+  pub fed-events : fedAll s t bytes ≡ record { control = decodeAll s bytes .control; store = decodeAll s bytes .store; memo = foldEvents keepEvent (events s bytes) (tableTally t zeroCounts) }
   unfolding fedAll
-  fed-readings = feed-readings keepEvent s (tallied t none) bytes
+  fed-events = feed-events keepEvent s (tableTally t zeroCounts) bytes
 
 -- what passes both tests may be kept
 pub text-storable : (v : NodeValue) → tooLong v ≡ false → notText v ≡ false → storable v ≡ true

@@ -25,9 +25,9 @@ use Rattle.wing_wire.proofs.Laws.{decoder-laws}
 use Rattle.wing_mirror.specs.Rows.{Table, takes, store}
 use Rattle.wing_mirror.specs.Record.{keyOf, recordOf, entry, storable}
 use Rattle.wing_mirror.specs.Table.{table, usable, fits, put}
-use Rattle.wing_mirror.specs.Puts.{Done, putOf, done}
-use Rattle.wing_mirror.specs.Counts.{none, tick, total}
-use Rattle.wing_mirror.specs.Mirror.{Tallied, tallied, keep, keepEvent}
+use Rattle.wing_mirror.specs.Puts.{PutResult, putOf, putResult}
+use Rattle.wing_mirror.specs.Counts.{zeroCounts, tick, total}
+use Rattle.wing_mirror.specs.Mirror.{TableTally, tableTally, keep, keepEvent}
 use Rattle.wing_mirror.specs.declared.answer.Counts.{Counts}
 use Rattle.wing_mirror.specs.declared.store.Kept.{Kept as Placed}
 use Rattle.wing_mirror.specs.declared.counts.Mark.the-variants.{Stored, Unplaced}
@@ -52,40 +52,40 @@ smaller c s bytes p =
 -- ---- what is kept of an answer
 
 -- a put of a value's record, and the mark that says whether it was taken
-module _ (node : ℤ) (v : NodeValue) (t : Table) (counts : Counts) (r : List ℕ) (p : Placed) (buffer : List ℕ) (e : r ≡ recordOf (entry node v)) (d : done p buffer ≡ putOf r t) where
-  abbrev Chosen : Bool → Done
+module _ (node : ℤ) (v : NodeValue) (t : Table) (counts : Counts) (r : List ℕ) (p : Placed) (buffer : List ℕ) (e : r ≡ recordOf (entry node v)) (d : putResult p buffer ≡ putOf r t) where
+  abbrev Chosen : Bool → PutResult
   Chosen b = if b (record { after = store 264 keyOf (recordOf (entry node v)) t; taken = true }) (record { after = t; taken = false })
 
-  chosen : done p buffer ≡ Chosen (takes 264 keyOf (recordOf (entry node v)) t)
+  chosen : putResult p buffer ≡ Chosen (takes 264 keyOf (recordOf (entry node v)) t)
   unfolding putOf
   chosen = d ∙ ap (λ (x : List ℕ). putOf x t) e
 
-  pub stored-kept : p .taken ≡ true → tallied (table buffer (p .count)) (tick Stored counts) ≡ keepEvent node (value v) (tallied t counts)
+  pub stored-kept : p .taken ≡ true → tableTally (table buffer (p .count)) (tick Stored counts) ≡ keepEvent node (value v) (tableTally t counts)
   unfolding keepEvent put fits
   stored-kept m = go (takes 264 keyOf (recordOf (entry node v)) t) chosen
     where
-      go : (b : Bool) → done p buffer ≡ Chosen b →
-          tallied (table buffer (p .count)) (tick Stored counts) ≡ if b (tallied (store 264 keyOf (recordOf (entry node v)) t) (tick Stored counts)) (tallied t (tick Unplaced counts))
-      go true q = ap (λ (x : Done). tallied (x .after) (tick Stored counts)) q
-      go false q = absurd (false≢true (sym (ap (λ (x : Done). x .taken) q) ∙ m))
+      go : (b : Bool) → putResult p buffer ≡ Chosen b →
+          tableTally (table buffer (p .count)) (tick Stored counts) ≡ if b (tableTally (store 264 keyOf (recordOf (entry node v)) t) (tick Stored counts)) (tableTally t (tick Unplaced counts))
+      go true q = ap (λ (x : PutResult). tableTally (x .after) (tick Stored counts)) q
+      go false q = absurd (false≢true (sym (ap (λ (x : PutResult). x .taken) q) ∙ m))
 
-  pub unplaced-kept : p .taken ≡ false → tallied (table buffer (p .count)) (tick Unplaced counts) ≡ keepEvent node (value v) (tallied t counts)
+  pub unplaced-kept : p .taken ≡ false → tableTally (table buffer (p .count)) (tick Unplaced counts) ≡ keepEvent node (value v) (tableTally t counts)
   unfolding keepEvent put fits
   unplaced-kept m = go (takes 264 keyOf (recordOf (entry node v)) t) chosen
     where
-      go : (b : Bool) → done p buffer ≡ Chosen b →
-          tallied (table buffer (p .count)) (tick Unplaced counts) ≡ if b (tallied (store 264 keyOf (recordOf (entry node v)) t) (tick Stored counts)) (tallied t (tick Unplaced counts))
-      go true q = absurd (false≢true (sym m ∙ ap (λ (x : Done). x .taken) q))
-      go false q = ap (λ (x : Done). tallied (x .after) (tick Unplaced counts)) q
+      go : (b : Bool) → putResult p buffer ≡ Chosen b →
+          tableTally (table buffer (p .count)) (tick Unplaced counts) ≡ if b (tableTally (store 264 keyOf (recordOf (entry node v)) t) (tick Stored counts)) (tableTally t (tick Unplaced counts))
+      go true q = absurd (false≢true (sym m ∙ ap (λ (x : PutResult). x .taken) q))
+      go false q = ap (λ (x : PutResult). tableTally (x .after) (tick Unplaced counts)) q
 
 -- a value that may be kept leaves the table usable
-pub value-usable : (node : ℤ) (v : NodeValue) (k : Tallied) → storable v ≡ true → usable (k .table) ≡ true → usable (keepEvent node (value v) k .table) ≡ true
+pub value-usable : (node : ℤ) (v : NodeValue) (k : TableTally) → storable v ≡ true → usable (k .table) ≡ true → usable (keepEvent node (value v) k .table) ≡ true
 unfolding keepEvent
 value-usable node v k h u =
-    branch (λ (x : Tallied). usable (x .table) ≡ true) (fits (entry node v) (k .table)) (tallied (put (entry node v) (k .table)) (tick Stored (k .counts))) (tallied (k .table) (tick Unplaced (k .counts))) (λ f. entry-usable (entry node v) (k .table) h u f) (λ _. u)
+    branch (λ (x : TableTally). usable (x .table) ≡ true) (fits (entry node v) (k .table)) (tableTally (put (entry node v) (k .table)) (tick Stored (k .counts))) (tableTally (k .table) (tick Unplaced (k .counts))) (λ f. entry-usable (entry node v) (k .table) h u f) (λ _. u)
 
 -- what is kept of an answer within its bounds leaves the table usable
-pub kept-usable : (node : ℤ) (a : Answer) (s : List ℕ) (k : Tallied) → Within a s → usable (k .table) ≡ true → usable (keep node a s k .table) ≡ true
+pub kept-usable : (node : ℤ) (a : Answer) (s : List ℕ) (k : TableTally) → Within a s → usable (k .table) ≡ true → usable (keep node a s k .table) ≡ true
 unfolding eventOf keepEvent storable
 kept-usable node More s k w u = u
 kept-usable node (Integer x) s k w u = value-usable node (integer x) k refl u
@@ -101,29 +101,29 @@ abbrev pub left : List ℕ → Control → ℕ → ℕ
 left bytes c i = 2 * (length bytes - i) + waiting (c .escape .pending)
 
 -- a decoder, and what a feed has kept so far
-abbrev pub fed : Control → List ℕ → Tallied → Fed Tallied
+abbrev pub fed : Control → List ℕ → TableTally → Fed TableTally
 fed c s k = record { control = c; store = s; memo = k }
 
 -- where a feed stands: the bytes up to i are taken
-pub record Underway (bytes : List ℕ) (start : Fed Tallied) (c : Control) (s : List ℕ) (k : Tallied) (i : ℕ) : Type 0 where
+pub record FeedInvariant (bytes : List ℕ) (start : Fed TableTally) (c : Control) (s : List ℕ) (k : TableTally) (i : ℕ) : Type 0 where
   pub within : i ≤ length bytes
   pub same : feedOf keep (fed c s k) (drop i bytes) ≡ feedOf keep start bytes
   pub bounded : TokenWithin (c .token)
   pub ready : usable (k .table) ≡ true
   pub few : total (k .counts) + left bytes c i ≤ 131073
 
-pub begun : (bytes : List ℕ) (c : Control) (s : List ℕ) (t : Table) (counts : Counts) → counts ≡ none → length bytes ≤ 65536 → TokenWithin (c .token) → usable t ≡ true →
-    Underway bytes (fed c s (tallied t none)) c s (tallied t counts) 0
+pub begun : (bytes : List ℕ) (c : Control) (s : List ℕ) (t : Table) (counts : Counts) → counts ≡ zeroCounts → length bytes ≤ 65536 → TokenWithin (c .token) → usable t ≡ true →
+    FeedInvariant bytes (fed c s (tableTally t zeroCounts)) c s (tableTally t counts) 0
 begun bytes c s t counts e h g u =
     record {
       within = omega arith;
-      same = ap (λ (x : Counts). feedOf keep (fed c s (tallied t x)) bytes) e;
+      same = ap (λ (x : Counts). feedOf keep (fed c s (tableTally t x)) bytes) e;
       bounded = g;
       ready = u;
       few = omega (arith, ap (λ (x : Counts). total x) e, waiting-one (c .escape .pending));
     }
 
-module _ {bytes : List ℕ} {start : Fed Tallied} {c : Control} {s : List ℕ} {k : Tallied} {i : ℕ} (g : Underway bytes start c s k i)
+module _ {bytes : List ℕ} {start : Fed TableTally} {c : Control} {s : List ℕ} {k : TableTally} {i : ℕ} (g : FeedInvariant bytes start c s k i)
     (r : Advanced) (t : List ℕ) (e : run r t ≡ advanceOf c s (take (length bytes - i) (drop i bytes))) where
   -- the bytes lent are those not taken yet
   said : run r t ≡ advanceOf c s (drop i bytes)
@@ -141,23 +141,23 @@ module _ {bytes : List ℕ} {start : Fed Tallied} {c : Control} {s : List ℕ} {
       let h : isMore (advanceOf c s (drop i bytes) .heard .told .answer) ≡ true = ap (λ (x : Run). isMore (x .heard .told .answer)) (sym said) ∙ m in
       ap (λ (x : Run). fed (x .heard .told .control) (x .heard .store) k) said ∙ sym (decoder-laws .feed .ends keep (fed c s k) (drop i bytes) h) ∙ g .same
 
-  pub turned : isMore (r .answer) ≡ false → left bytes (r .control) (i + r .taken) + 1 ≤ left bytes c i
-  turned m =
+  pub less-left : isMore (r .answer) ≡ false → left bytes (r .control) (i + r .taken) + 1 ≤ left bytes c i
+  less-left m =
       let h : isMore (advanceOf c s (drop i bytes) .heard .told .answer) ≡ false = ap (λ (x : Run). isMore (x .heard .told .answer)) (sym said) ∙ m in
       let n = ap (λ (x : Run). x .taken) said in
       let p = ap (λ (x : Run). waiting (x .heard .told .control .escape .pending)) said in
       omega (arith, smaller c s (drop i bytes) h, inside)
 
   -- what was answered is within bounds
-  pub heard-bounded : HeardWithin (length s) (run r t .heard)
-  heard-bounded = subst (λ (x : Run). HeardWithin (length s) (x .heard)) (sym said) (decoder-laws .next .bounded c s (drop i bytes) (g .bounded))
+  pub answer-bounded : HeardWithin (length s) (run r t .heard)
+  answer-bounded = subst (λ (x : Run). HeardWithin (length s) (x .heard)) (sym said) (decoder-laws .next .bounded c s (drop i bytes) (g .bounded))
 
   -- after a turn, with what was kept and released
   turn : isMore (r .answer) ≡ false →
-      Underway bytes start (r .control) (released (r .answer) t) (keep (r .control .node) (r .answer) t k) (i + r .taken)
+      FeedInvariant bytes start (r .control) (released (r .answer) t) (keep (r .control .node) (r .answer) t k) (i + r .taken)
   turn m =
       let h : isMore (advanceOf c s (drop i bytes) .heard .told .answer) ≡ false = ap (λ (x : Run). isMore (x .heard .told .answer)) (sym said) ∙ m in
-      let w = heard-bounded in
+      let w = answer-bounded in
       record {
         within = inside;
         same =
@@ -167,11 +167,11 @@ module _ {bytes : List ℕ} {start : Fed Tallied} {c : Control} {s : List ℕ} {
             ∙ g .same;
         bounded = w .token;
         ready = kept-usable (r .control .node) (r .answer) t k (w .within) (g .ready);
-        few = let f = g .few in omega (arith, turned m, keep-total (r .control .node) (eventOf (r .answer) t t) k);
+        few = let f = g .few in omega (arith, less-left m, keep-total (r .control .node) (eventOf (r .answer) t t) k);
       }
 
-  pub again : isMore (r .answer) ≡ false → (t′ : List ℕ) → t′ ≡ released (r .answer) t → (k′ : Tallied) → k′ ≡ keep (r .control .node) (r .answer) t k →
-      Underway bytes start (r .control) t′ k′ (i + r .taken)
+  pub again : isMore (r .answer) ≡ false → (t′ : List ℕ) → t′ ≡ released (r .answer) t → (k′ : TableTally) → k′ ≡ keep (r .control .node) (r .answer) t k →
+      FeedInvariant bytes start (r .control) t′ k′ (i + r .taken)
   again m t′ et k′ ek =
-      subst (λ (x : List ℕ). Underway bytes start (r .control) x k′ (i + r .taken)) (sym et)
-      (subst (λ (x : Tallied). Underway bytes start (r .control) (released (r .answer) t) x (i + r .taken)) (sym ek) (turn m))
+      subst (λ (x : List ℕ). FeedInvariant bytes start (r .control) x k′ (i + r .taken)) (sym et)
+      (subst (λ (x : TableTally). FeedInvariant bytes start (r .control) (released (r .answer) t) x (i + r .taken)) (sym ek) (turn m))

@@ -12,23 +12,23 @@ use Rattle.wing_mirror.specs.Call.{Call, TypedCall}
 use Rattle.wing_mirror.specs.Machine.{newMachine}
 use Rattle.wing_mirror.specs.History.{rank, inOrder, mirrorRun, machineRun, placesIn, Agree, Equal, SameMap}
 use Rattle.wing_mirror.proofs.Tables.Members.{one-list}
-use Rattle.wing_mirror.proofs.Histories.Maps.{Proper, Fine, all-order, order-rising}
+use Rattle.wing_mirror.proofs.Histories.Maps.{ValidEntry, ValidMap, all-order, order-rising}
 use Rattle.wing_mirror.proofs.Tables.Images.{all-also}
 use Rattle.wing_mirror.proofs.Records.Ids.{rising-ids}
 use Rattle.wing_mirror.proofs.Histories.Mirrored.{rows-image, recs-back, rest-image, size-image}
 use Rattle.wing_mirror.proofs.Histories.InOrder.{order-in, in-order}
-use Rattle.wing_mirror.proofs.Histories.Wells.{start, run-well}
+use Rattle.wing_mirror.proofs.Histories.Invariant.{invariant-new, invariant-run}
 use Rattle.wing_mirror.proofs.Histories.Simulates.{whole-image}
 
--- the map that a history leaves is fine
-pub map-fine : (places : ℕ) (calls : List Call) → All TypedCall calls → Fine places (machineRun places calls .state .map)
-map-fine places calls t = run-well places newMachine calls t (start places) .fine
+-- the map that a history leaves is valid
+pub map-valid : (places : ℕ) (calls : List Call) → All TypedCall calls → ValidMap places (machineRun places calls .state .map)
+map-valid places calls t = invariant-run places newMachine calls t (invariant-new places) .map
 
 -- the mirror and the machine agree
 pub run-agrees : (buffer : List ℕ) (calls : List Call) → All TypedCall calls → Agree buffer (mirrorRun buffer calls) (machineRun (placesIn buffer) calls)
 run-agrees buffer calls t =
     let m : List Entry = machineRun (placesIn buffer) calls .state .map in
-    let g : Fine (placesIn buffer) m = map-fine (placesIn buffer) calls t in
+    let g : ValidMap (placesIn buffer) m = map-valid (placesIn buffer) calls t in
     rw (whole-image buffer calls t) (record {
       outcomes = refl;
       decoders = refl;
@@ -45,9 +45,9 @@ pub run-order : (places : ℕ) (calls : List Call) → All TypedCall calls →
     × SameMap (inOrder (machineRun places calls .state .map)) (machineRun places calls .state .map)
 run-order places calls t =
     let m : List Entry = machineRun places calls .state .map in
-    let f : Fine places m = map-fine places calls t in
+    let f : ValidMap places m = map-valid places calls t in
     let typed : All (λ (e : Entry). InBits 31 (e .id)) (inOrder m) =
-    all-also Proper (λ (e : Entry). InBits 31 (e .id)) (inOrder m) (λ e p. p .node) (all-order Proper m (f .proper)) in
+    all-also ValidEntry (λ (e : Entry). InBits 31 (e .id)) (inOrder m) (λ e p. p .node) (all-order ValidEntry m (f .valid)) in
     (sym (rising-ids (inOrder m) typed) ∙ order-rising m, λ e. (order-in e m, in-order e m (f .apart)))
 
 -- two mirrors are equal exactly if their machines' maps hold the same
@@ -62,11 +62,11 @@ run-equal b c xs ys tx ty = (there, back)
     n : List Entry
     n = machineRun (placesIn c) ys .state .map
 
-    fm : Fine (placesIn b) m
-    fm = map-fine (placesIn b) xs tx
+    fm : ValidMap (placesIn b) m
+    fm = map-valid (placesIn b) xs tx
 
-    fn : Fine (placesIn c) n
-    fn = map-fine (placesIn c) ys ty
+    fn : ValidMap (placesIn c) n
+    fn = map-valid (placesIn c) ys ty
 
     there : Equal (mirrorRun b xs .state .table) (mirrorRun c ys .state .table) → SameMap m n
     there q e = (

@@ -1,4 +1,4 @@
--- A feed with any handler is its readings, each handed to the handler.
+-- A feed with any handler is its events, each handed to the handler.
 use Prim.Native.Nat.{ℕ, _+_, _≤_}
 use mathlib.Core.Bool.{true}
 use mathlib.Core.Path.{_≡_, refl, sym, _∙_, ap}
@@ -12,32 +12,32 @@ use Rattle.wing_wire.specs.Reader.{Event, eventOf}
 use Rattle.wing_wire.specs.declared.state.State.{State}
 use Rattle.wing_wire.specs.DecoderLaws.{count}
 use Rattle.wing_wire.proofs.Laws.{decoder-laws}
-use Rattle.wing_mirror.specs.Machine.{Reading, reading, noted, decoded, readings}
+use Rattle.wing_mirror.specs.Machine.{StreamEvent, streamEvent, appendEvent, decodeAll, events}
 
--- readings handed on one after the other
-unfoldable pub handed : {M : Type 0} → (ℤ → Event → M → M) → List Reading → M → M
-handed h [] m = m
-handed h (r ∷ rs) m = handed h rs (h (r .node) (r .event) m)
+-- events handed on one after the other
+unfoldable pub foldEvents : {M : Type 0} → (ℤ → Event → M → M) → List StreamEvent → M → M
+foldEvents h [] m = m
+foldEvents h (r ∷ rs) m = foldEvents h rs (h (r .node) (r .event) m)
 
--- one reading more
-handed-last : {M : Type 0} (h : ℤ → Event → M → M) (rs : List Reading) (r : Reading) (m : M) → handed h (rs ++ (r ∷ [])) m ≡ h (r .node) (r .event) (handed h rs m)
-unfolding handed
-handed-last h [] r m = refl
-handed-last h (x ∷ rs) r m = handed-last h rs r (h (x .node) (x .event) m)
+-- one event more
+fold-last : {M : Type 0} (h : ℤ → Event → M → M) (rs : List StreamEvent) (r : StreamEvent) (m : M) → foldEvents h (rs ++ (r ∷ [])) m ≡ h (r .node) (r .event) (foldEvents h rs m)
+unfolding foldEvents
+fold-last h [] r m = refl
+fold-last h (x ∷ rs) r m = fold-last h rs r (h (x .node) (x .event) m)
 
--- control, store and memo of a feed, from the machine's reading of the bytes
-pub feed-readings : {M : Type 0} (h : ℤ → Event → M → M) (s : State) (m : M) (bytes : List ℕ) →
+-- control, store and memo of a feed, from the machine's events of the bytes
+pub feed-events : {M : Type 0} (h : ℤ → Event → M → M) (s : State) (m : M) (bytes : List ℕ) →
     feedOf (λ node a t n. h node (eventOf a t t) n) (record { control = s .control; store = s .store; memo = m }) bytes
-    ≡ record { control = decoded s bytes .control; store = decoded s bytes .store; memo = handed h (readings s bytes) m }
-unfolding decoded handed
-feed-readings {M} h s m bytes =
-    sym (decoder-laws .feed .along noted (λ node a t n. h node (eventOf a t t) n) (λ (rs : List Reading). handed h rs m)
-    (λ node a t rs. handed-last h rs (reading node (eventOf a t t)) m) (record { control = s .control; store = s .store; memo = [] }) bytes)
+    ≡ record { control = decodeAll s bytes .control; store = decodeAll s bytes .store; memo = foldEvents h (events s bytes) m }
+unfolding decodeAll foldEvents
+feed-events {M} h s m bytes =
+    sym (decoder-laws .feed .along appendEvent (λ node a t n. h node (eventOf a t t) n) (λ (rs : List StreamEvent). foldEvents h rs m)
+    (λ node a t rs. fold-last h rs (streamEvent node (eventOf a t t)) m) (record { control = s .control; store = s .store; memo = [] }) bytes)
 
--- a sound state gives at most one reading more than there are bytes
-pub few-readings : (s : State) (bytes : List ℕ) → soundState s ≡ true → length (readings s bytes) ≤ length bytes + 1
-unfolding decoded
-few-readings s bytes g =
-    let x : Fed (List Reading) = record { control = s .control; store = s .store; memo = [] } in
-    let e = decoder-laws .feed .along noted count length (λ node a t rs. length-append rs (reading node (eventOf a t t) ∷ []) ∙ omega arith) x bytes in
+-- a sound state gives at most one event more than there are bytes
+pub few-events : (s : State) (bytes : List ℕ) → soundState s ≡ true → length (events s bytes) ≤ length bytes + 1
+unfolding decodeAll
+few-events s bytes g =
+    let x : Fed (List StreamEvent) = record { control = s .control; store = s .store; memo = [] } in
+    let e = decoder-laws .feed .along appendEvent count length (λ node a t rs. length-append rs (streamEvent node (eventOf a t t) ∷ []) ∙ omega arith) x bytes in
     omega (arith, ap (λ (y : Fed ℕ). y .memo) e, decoder-laws .sound .few (record { control = s .control; store = s .store; memo = 0 }) bytes g)

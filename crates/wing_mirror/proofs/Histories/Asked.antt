@@ -1,14 +1,14 @@
 -- Demand 3: what a mirror answers after any history when it is compared or recalled.
 use Prim.Native.Nat.{ℕ}
 use mathlib.Core.Bool.{Bool, true, false}
-use mathlib.Core.Path.{_≡_, refl, sym, _∙_, ap}
+use mathlib.Core.Path.{_≡_, refl, _∙_, ap}
 use mathlib.Core.Logic.{_↔_}
 use mathlib.Core.List.{List}
 use native.Mathlib.Omega.{arith}
 use Rattle.wing_node.specs.Bool.{if}
 use Rattle.wing_mirror.specs.Rows.{Table, All}
 use Rattle.wing_mirror.specs.Record.{Entry}
-use Rattle.wing_mirror.specs.Table.{rows, placesAllowed, usable}
+use Rattle.wing_mirror.specs.Table.{placesAllowed, usable}
 use Rattle.wing_mirror.specs.Query.{sameTables, sameAnswer}
 use Rattle.wing_mirror.specs.Recall.{recallOf}
 use Rattle.wing_mirror.specs.Call.{Call, TypedCall}
@@ -18,27 +18,27 @@ use Rattle.wing_mirror.specs.declared.answer.Same.the-variants.{Yes, No,
 use Rattle.wing_mirror.proofs.Records.Equals.{same-decides}
 use Rattle.wing_mirror.proofs.Histories.Mirrored.{usable-image}
 use Rattle.wing_mirror.proofs.Histories.Simulates.{whole-image}
-use Rattle.wing_mirror.proofs.Histories.Agrees.{map-fine, run-equal}
+use Rattle.wing_mirror.proofs.Histories.Agrees.{map-valid, run-equal}
 
 -- a mirror with 1 to 1,024 places is usable after any history
 run-usable : (b : List ℕ) (calls : List Call) → All TypedCall calls → placesAllowed (placesIn b) ≡ true → usable (mirrorRun b calls .state .table) ≡ true
 run-usable b calls t r =
     let m : List Entry = machineRun (placesIn b) calls .state .map in
-    rw (whole-image b calls t) (usable-image b m (map-fine (placesIn b) calls t) ∙ r)
+    rw (whole-image b calls t) (usable-image b m (map-valid (placesIn b) calls t) ∙ r)
 
-abbrev mark : Same → ℕ
-mark Yes = 0
-mark No = 1
-mark (Refused n) = 2
+abbrev sameNumber : Same → ℕ
+sameNumber Yes = 0
+sameNumber No = 1
+sameNumber (Refused n) = 2
 
 -- the call says yes exactly if count and records are equal
 says-same : (t u : Table) → usable t ≡ true → usable u ≡ true → ((sameAnswer t u ≡ Yes) ↔ Equal t u)
 unfolding sameAnswer
-says-same t u p q = rw (p, q) (λ e. told (sameTables t u) refl e, λ e. rw (same-decides t u .whole (e .counts, e .records)))
+says-same t u p q = rw (p, q) (λ e. from-answer (sameTables t u) refl e, λ e. rw (same-decides t u .whole (e .counts, e .records)))
   where
-    told : (s : Bool) → sameTables t u ≡ s → if s Yes No ≡ Yes → Equal t u
-    told true e h = let d = same-decides t u .right e in record { counts = d .0; records = d .1 }
-    told false e h = absurd (let z = ap mark h in omega arith)
+    from-answer : (s : Bool) → sameTables t u ≡ s → if s Yes No ≡ Yes → Equal t u
+    from-answer true e h = let d = same-decides t u .right e in record { counts = d .0; records = d .1 }
+    from-answer false e h = absurd (let z = ap sameNumber h in omega arith)
 
 pub comparing : Comparing
 comparing b c xs ys tx ty p q =

@@ -20,7 +20,7 @@ use Rattle.wing_mirror.specs.Call.{Call, feed, set, tooLong, notText, ru
 use Rattle.wing_mirror.specs.Mirror.{mirrorFeed, mirrorSet}
 use Rattle.wing_mirror.specs.History.{Mirror, feedOutcome, setOutcome, mirrorStep, Bounded, Each}
 use Rattle.wing_mirror.specs.declared.answer.FeedAnswer.{FeedAnswer}
-use Rattle.wing_mirror.specs.declared.answer.FeedAnswer.the-variants.{Taken, Refused as Unfed}
+use Rattle.wing_mirror.specs.declared.answer.FeedAnswer.the-variants.{Taken, Refused as FeedRefused}
 use Rattle.wing_mirror.proofs.Calls.Outcomes.{set-7, set-10, set-1, set-6, set-9, set-sent}
 use Rattle.wing_mirror.proofs.Calls.Feeds.{feed-counts}
 
@@ -46,7 +46,7 @@ step-bounded m (feed bytes) = go (mirrorFeed (m .decoder) (m .table) bytes .answ
   where
     go : (a : FeedAnswer) → total (mirrorFeed (m .decoder) (m .table) bytes .counts) ≤ length bytes + 1 → Bounded (feed bytes) (feedOutcome a (mirrorFeed (m .decoder) (m .table) bytes .counts))
     go Taken h = h
-    go (Unfed n) h = tt
+    go (FeedRefused n) h = tt
 step-bounded m (set id v out) = go (mirrorSet id v (m .table) out .answer) (mirrorSet id v (m .table) out .out) (set-length id v (m .table) out)
   where
     go : (a : Written) (left : List ℕ) → length left ≡ length out → Bounded (set id v out) (setOutcome a left)

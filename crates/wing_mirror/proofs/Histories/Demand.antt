@@ -1,5 +1,5 @@
 -- Demand 3, as specs/History states it.
-use Prim.Native.Nat.{ℕ, _≤_}
+use Prim.Native.Nat.{ℕ}
 use mathlib.Core.Bool.{Bool, true, false}
 use mathlib.Core.Path.{_≡_, refl, sym, _∙_, ap}
 use mathlib.Core.List.{List, _++_, map}
@@ -15,12 +15,12 @@ use Rattle.wing_mirror.specs.Record.{Entry, width, recordOf, entryIn}
 use Rattle.wing_mirror.specs.Table.{rows, usable}
 use Rattle.wing_mirror.specs.Call.{feed}
 use Rattle.wing_mirror.specs.Recall.{recallBytes, recallOf}
-use Rattle.wing_mirror.specs.History.{rank, inOrder, newMirror, mirrorRun, machineRun, placesIn, Agree, Equal, Agreement, RisingOrder, Equality, RebuiltBy, Rebuilding, RebuildingTables, Bounds, Histories}
+use Rattle.wing_mirror.specs.History.{rank, inOrder, newMirror, mirrorRun, machineRun, placesIn, RebuiltBy, Rebuilding, RebuildingTables, Histories}
 use Rattle.wing_mirror.proofs.Tables.Chunks.{length-records}
-use Rattle.wing_mirror.proofs.Histories.Maps.{Proper, all-order, order-rising}
-use Rattle.wing_mirror.proofs.Records.Entries.{rows-proper, rows-back, rows-rise, rows-signed}
+use Rattle.wing_mirror.proofs.Histories.Maps.{ValidEntry, all-order, order-rising}
+use Rattle.wing_mirror.proofs.Records.Entries.{rows-valid, rows-back, rows-rise, rows-signed}
 use Rattle.wing_mirror.proofs.Histories.Rebuilt.{order-own, map-rebuilt}
-use Rattle.wing_mirror.proofs.Histories.Agrees.{map-fine, run-agrees, run-order, run-equal}
+use Rattle.wing_mirror.proofs.Histories.Agrees.{map-valid, run-agrees, run-order, run-equal}
 use Rattle.wing_mirror.proofs.Histories.Asked.{comparing, recalling}
 use Rattle.wing_mirror.proofs.Histories.Bounds.{run-bounded}
 
@@ -38,14 +38,14 @@ recall-wrote t out n = go (usable t) refl (ltb (length out) (length (recallBytes
     go true q false e = let k : length bytes ≡ n = cc in (refl, rw (← k) (take-append-seam bytes (drop (length bytes) out)))
     go false q s e = absurd (let z : _≡_ {A = ℕ} 0 1 = cc in omega arith)
 
--- a table whose records say proper entries in rising order, and are the records of these
-module _ (t : Table) (proper : All Proper (map entryIn (rows t))) (up : rising rank (map entryIn (rows t)) ≡ true) (back : map recordOf (map entryIn (rows t)) ≡ rows t) where
+-- a table whose records say valid entries in rising order, and are the records of these
+module _ (t : Table) (valid : All ValidEntry (map entryIn (rows t))) (up : rising rank (map entryIn (rows t)) ≡ true) (back : map recordOf (map entryIn (rows t)) ≡ rows t) where
   rebuilds : RebuiltBy (recallBytes t) t
   unfolding recallBytes
   rebuilds buffer n l pieces typed short q =
       let es : List Entry = map entryIn (rows t) in
       let k : length es ≡ t .count = length-map (rows t) entryIn ∙ length-records width (t .count) (t .buffer) in
-      let m = map-rebuilt (placesIn buffer) es proper up (omega arith) n pieces short q in
+      let m = map-rebuilt (placesIn buffer) es valid up (omega arith) n pieces short q in
       let g = run-agrees buffer (map feed pieces) typed in
       record {
         counts = g .counts ∙ ap length m ∙ k;
@@ -56,7 +56,7 @@ module _ (t : Table) (proper : All Proper (map entryIn (rows t))) (up : rising r
 rebuilding-tables : RebuildingTables
 rebuilding-tables t b out n e =
     let w = recall-wrote t out n e in
-    rw (w .1) (rebuilds t (rows-proper t b (w .0)) (rows-rise t b (w .0)) (rows-back t b (w .0)))
+    rw (w .1) (rebuilds t (rows-valid t b (w .0)) (rows-rise t b (w .0)) (rows-back t b (w .0)))
 
 -- of any mirror after any history
 rebuilding : Rebuilding
@@ -64,9 +64,9 @@ rebuilding b calls typed out n e =
     let g = run-agrees b calls typed in
     let t : Table = mirrorRun b calls .state .table in
     let m : List Entry = machineRun (placesIn b) calls .state .map in
-    let f = map-fine (placesIn b) calls typed in
+    let f = map-valid (placesIn b) calls typed in
     rw (recall-wrote t out n e .1)
-    (rebuilds t (rw (g .entries) (all-order Proper m (f .proper))) (rw (g .entries) (order-rising m)) (ap (map recordOf) (g .entries) ∙ sym (g .records)))
+    (rebuilds t (rw (g .entries) (all-order ValidEntry m (f .valid))) (rw (g .entries) (order-rising m)) (ap (map recordOf) (g .entries) ∙ sym (g .records)))
 
 pub histories : Histories
 histories =

@@ -17,20 +17,20 @@ use Rattle.wing_mirror.proofs.Tables.Ordered.{all-insert, insert-again,
 use Rattle.wing_mirror.proofs.Records.Ids.{same-rank}
 
 -- an entry as the types of the code have it, with a value that set and decoder let through
-pub record Proper (e : Entry) : Type 0 where
+pub record ValidEntry (e : Entry) : Type 0 where
   pub node : InBits 31 (e .id)
   pub typed : Typed (e .value)
   pub text : storable (e .value) ≡ true
 
 -- a node is in the map exactly if its rank is in the order
-pub has-holds : (e : Entry) (m : List Entry) → Proper e → All Proper m → has (e .id) m ≡ holds rank (rank e) (inOrder m)
+pub has-holds : (e : Entry) (m : List Entry) → ValidEntry e → All ValidEntry m → has (e .id) m ≡ holds rank (rank e) (inOrder m)
 unfolding has inOrder holds
 has-holds e [] p a = refl
 has-holds e (x ∷ m) p a =
     rw (same-rank (x .id) (e .id) (a .0 .node) (p .node), has-holds e m p (a .1)) (sym (holds-insert rank (rank e) x (inOrder m)))
 
 -- a put into the map is a put into the order
-pub put-order : (e : Entry) (m : List Entry) → Proper e → All Proper m → inOrder (putIn e m) ≡ insert rank e (inOrder m)
+pub put-order : (e : Entry) (m : List Entry) → ValidEntry e → All ValidEntry m → inOrder (putIn e m) ≡ insert rank e (inOrder m)
 unfolding putIn inOrder
 put-order e [] p a = refl
 put-order e (x ∷ m) p a = go (eqb (rank x) (rank e)) refl (put-order e m p (a .1))
@@ -87,27 +87,27 @@ all-put P e (x ∷ m) p h = go (sameId (x .id) (e .id)) (all-put P e m p (h .1))
     go true ih = (p, h .1)
     go false ih = (h .0, ih)
 
--- few enough, no node twice, each entry proper
-pub record Fine (places : ℕ) (m : List Entry) : Type 0 where
+-- few enough, no node twice, each entry valid
+pub record ValidMap (places : ℕ) (m : List Entry) : Type 0 where
   pub few : length m ≤ places
   pub apart : length (inOrder m) ≡ length m
-  pub proper : All Proper m
+  pub valid : All ValidEntry m
 
--- the empty map is fine
-pub fine-none : (places : ℕ) → Fine places []
+-- the empty map is valid
+pub valid-empty : (places : ℕ) → ValidMap places []
 unfolding inOrder
-fine-none places = record { few = omega arith; apart = refl; proper = tt }
+valid-empty places = record { few = omega arith; apart = refl; valid = tt }
 
 -- a put leaves no node twice
-pub apart-put : (places : ℕ) (e : Entry) (m : List Entry) → Fine places m → Proper e → length (inOrder (putIn e m)) ≡ length (putIn e m)
+pub apart-put : (places : ℕ) (e : Entry) (m : List Entry) → ValidMap places m → ValidEntry e → length (inOrder (putIn e m)) ≡ length (putIn e m)
 apart-put places e m g p =
-    rw (put-order e m p (g .proper), length-insert rank e (inOrder m) (order-rising m), g .apart, length-put e m, has-holds e m p (g .proper))
+    rw (put-order e m p (g .valid), length-insert rank e (inOrder m) (order-rising m), g .apart, length-put e m, has-holds e m p (g .valid))
 
--- a put that has room leaves a fine map fine
-pub fine-put : (places : ℕ) (e : Entry) (m : List Entry) → Fine places m → Proper e → room places (e .id) m ≡ true → Fine places (putIn e m)
+-- a put that has room leaves a valid map valid
+pub valid-put : (places : ℕ) (e : Entry) (m : List Entry) → ValidMap places m → ValidEntry e → room places (e .id) m ≡ true → ValidMap places (putIn e m)
 unfolding room
-fine-put places e m g p q =
-    record { few = rw (length-put e m) (go (has (e .id) m) q); apart = apart-put places e m g p; proper = all-put Proper e m p (g .proper) }
+valid-put places e m g p q =
+    record { few = rw (length-put e m) (go (has (e .id) m) q); apart = apart-put places e m g p; valid = all-put ValidEntry e m p (g .valid) }
   where
     go : (t : Bool) → if t true (ltb (length m) places) ≡ true → (if t (length m) (suc (length m))) ≤ places
     go true r = g .few

@@ -17,16 +17,16 @@ use Rattle.wing_mirror.proofs.Tables.Chunks.{Wide, records-laid, length
 use Rattle.wing_mirror.proofs.Tables.Images.{Stands, holds-map, rising-map, insert-map, all-map, all-also, every-all}
 use Rattle.wing_mirror.proofs.Records.Formed.{record-width, record-form, record-key}
 use Rattle.wing_mirror.proofs.Records.Trips.{entry-back}
-use Rattle.wing_mirror.proofs.Histories.Maps.{Proper, has-holds, put-order, order-rising, put-grows, all-order, Fine, apart-put}
+use Rattle.wing_mirror.proofs.Histories.Maps.{ValidEntry, has-holds, put-order, order-rising, put-grows, all-order, ValidMap, apart-put}
 
 -- the records of a map
 abbrev pub recs : List Entry → List (List ℕ)
 recs m = map recordOf (inOrder m)
 
-module _ (places : ℕ) (m : List Entry) (g : Fine places m) where
+module _ (places : ℕ) (m : List Entry) (g : ValidMap places m) where
   -- each record stands where its entry does
   stands : All (Stands keyOf rank recordOf) (inOrder m)
-  stands = all-also Proper (Stands keyOf rank recordOf) (inOrder m) (λ e p. record-key e (p .node)) (all-order Proper m (g .proper))
+  stands = all-also ValidEntry (Stands keyOf rank recordOf) (inOrder m) (λ e p. record-key e (p .node)) (all-order ValidEntry m (g .valid))
 
   -- as many records as entries
   pub length-recs : length (recs m) ≡ length m
@@ -34,13 +34,13 @@ module _ (places : ℕ) (m : List Entry) (g : Fine places m) where
 
   -- each record has 264 bytes
   pub wide : Wide width (recs m)
-  wide = all-map recordOf Proper (λ (r : List ℕ). length r ≡ width) (inOrder m) (λ e p. record-width e) (all-order Proper m (g .proper))
+  wide = all-map recordOf ValidEntry (λ (r : List ℕ). length r ≡ width) (inOrder m) (λ e p. record-width e) (all-order ValidEntry m (g .valid))
 
   -- the records say the entries
   pub recs-back : map entryIn (recs m) ≡ inOrder m
-  recs-back = go (inOrder m) (all-order Proper m (g .proper))
+  recs-back = go (inOrder m) (all-order ValidEntry m (g .valid))
     where
-      go : (es : List Entry) → All Proper es → map entryIn (map recordOf es) ≡ es
+      go : (es : List Entry) → All ValidEntry es → map entryIn (map recordOf es) ≡ es
       go [] a = refl
       go (e ∷ es) a = rw (entry-back (e .id) (e .value) (a .0 .node) (a .0 .typed) (a .0 .text), go es (a .1))
 
@@ -49,26 +49,26 @@ module _ (places : ℕ) (m : List Entry) (g : Fine places m) where
   unfolding checked
   recs-checked =
       rw (
-        every-all wellFormed (recs m) (all-map recordOf Proper (λ (r : List ℕ). wellFormed r ≡ true) (inOrder m) (λ e p. record-form e (p .text)) (all-order Proper m (g .proper))),
+        every-all wellFormed (recs m) (all-map recordOf ValidEntry (λ (r : List ℕ). wellFormed r ≡ true) (inOrder m) (λ e p. record-form e (p .text)) (all-order ValidEntry m (g .valid))),
         rising-map keyOf rank recordOf (inOrder m) stands,
         order-rising m,
       )
 
   -- a record with its id is there exactly if the node is in the map
-  pub holds-recs : (e : Entry) → Proper e → holds keyOf (keyOf (recordOf e)) (recs m) ≡ has (e .id) m
+  pub holds-recs : (e : Entry) → ValidEntry e → holds keyOf (keyOf (recordOf e)) (recs m) ≡ has (e .id) m
   holds-recs e p =
-      ap (λ (k : ℕ). holds keyOf k (recs m)) (record-key e (p .node)) ∙ holds-map keyOf rank recordOf (rank e) (inOrder m) stands ∙ sym (has-holds e m p (g .proper))
+      ap (λ (k : ℕ). holds keyOf k (recs m)) (record-key e (p .node)) ∙ holds-map keyOf rank recordOf (rank e) (inOrder m) stands ∙ sym (has-holds e m p (g .valid))
 
   -- a record put in its place is an entry put into the map
-  pub insert-recs : (e : Entry) → Proper e → insert keyOf (recordOf e) (recs m) ≡ recs (putIn e m)
+  pub insert-recs : (e : Entry) → ValidEntry e → insert keyOf (recordOf e) (recs m) ≡ recs (putIn e m)
   insert-recs e p =
-      sym (insert-map keyOf rank recordOf e (inOrder m) (record-key e (p .node)) stands) ∙ ap (map recordOf) (sym (put-order e m p (g .proper)))
+      sym (insert-map keyOf rank recordOf e (inOrder m) (record-key e (p .node)) stands) ∙ ap (map recordOf) (sym (put-order e m p (g .valid)))
 
 -- the map in the buffer, whose other bytes are as they were at first
 abbrev pub tableOf : List ℕ → List Entry → Table
 tableOf buffer m = table (laid width (recs m) buffer) (length m)
 
-module _ (buffer : List ℕ) (m : List Entry) (g : Fine (placesIn buffer) m) where
+module _ (buffer : List ℕ) (m : List Entry) (g : ValidMap (placesIn buffer) m) where
   -- the records that stand in the buffer
   pub rows-image : rows (tableOf buffer m) ≡ recs m
   unfolding laid
@@ -96,12 +96,12 @@ module _ (buffer : List ℕ) (m : List Entry) (g : Fine (placesIn buffer) m) whe
       go false = refl
 
   -- 6 by the map
-  pub fits-image : (e : Entry) → Proper e → fits e (tableOf buffer m) ≡ room (placesIn buffer) (e .id) m
+  pub fits-image : (e : Entry) → ValidEntry e → fits e (tableOf buffer m) ≡ room (placesIn buffer) (e .id) m
   unfolding fits takes room
   fits-image e p = rw (rows-image, size-image, holds-recs (placesIn buffer) m g e p)
 
   -- a put into the table is a put into the map
-  pub put-image : (e : Entry) → Proper e → put e (tableOf buffer m) ≡ tableOf buffer (putIn e m)
+  pub put-image : (e : Entry) → ValidEntry e → put e (tableOf buffer m) ≡ tableOf buffer (putIn e m)
   unfolding put store
   put-image e p =
       let n : length (recs (putIn e m)) ≡ length (putIn e m) = length-map (inOrder (putIn e m)) recordOf ∙ apart-put (placesIn buffer) e m g p in

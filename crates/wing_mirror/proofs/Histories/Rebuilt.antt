@@ -5,44 +5,37 @@ use mathlib.Core.Path.{_≡_, refl, sym, _∙_, ap}
 use mathlib.Core.Logic.{inl, inr}
 use mathlib.Core.List.{List, [], _∷_, _++_, map, append-nil, append-assoc}
 use native.Mathlib.Omega.{arith}
-use borrow.Author.Tests.{lt-ltb, le-ltb, eqb-true}
-use lib.Dec.{ltb, eqb}
-use lib.IntN.{ℤ, pos, negsuc}
+use borrow.Author.Tests.{lt-ltb, le-ltb}
+use lib.IntN.{ℤ}
 use lib.ListN.{length, length-append}
 use Rattle.wing_node.specs.Bool.{if}
 use Rattle.wing_wire.specs.Reader.{Event, more, value, body, end, refused}
 use Rattle.wing_wire.specs.State.{freshState}
-use Rattle.wing_mirror.specs.Rows.{joined, rising, insert, In, All}
+use Rattle.wing_mirror.specs.Rows.{joined, rising, In, All}
 use Rattle.wing_mirror.specs.Record.{Entry, entry}
 use Rattle.wing_mirror.specs.Table.{placesAllowed}
-use Rattle.wing_mirror.specs.Counts.{none}
+use Rattle.wing_mirror.specs.Counts.{zeroCounts}
 use Rattle.wing_mirror.specs.Call.{feed, runAll}
-use Rattle.wing_mirror.specs.Machine.{Reading, sameId, has, putIn, room, Machine, newMachine, Noticed, noticed, hear, hearAll, stateAfter, readings, machineStep}
+use Rattle.wing_mirror.specs.Machine.{StreamEvent, sameId, has, putIn, room, Machine, newMachine, MapTally, mapTally, machineEvent, machineEvents, stateAfter, events, machineStep}
 use Rattle.wing_mirror.specs.Recall.{setOf}
 use Rattle.wing_mirror.specs.History.{rank, inOrder, machineRun}
 use Rattle.wing_mirror.proofs.Tables.Ordered.{insert-front, rising-head, rising-tail}
 use Rattle.wing_mirror.proofs.Tables.Members.{above}
-use Rattle.wing_mirror.proofs.Histories.Along.{handed}
-use Rattle.wing_mirror.proofs.Histories.Maps.{Proper}
-use Rattle.wing_mirror.proofs.Histories.Recalls.{readings-pieces, told, recall-told}
+use Rattle.wing_mirror.proofs.Records.Ids.{same-id}
+use Rattle.wing_mirror.proofs.Histories.Along.{foldEvents}
+use Rattle.wing_mirror.proofs.Histories.Maps.{ValidEntry}
+use Rattle.wing_mirror.proofs.Histories.Recalls.{events-pieces, entryEvent, recall-events}
 
--- readings handed on in two lists
-handed-append : {M : Type 0} (h : ℤ → Event → M → M) (xs ys : List Reading) (m : M) → handed h (xs ++ ys) m ≡ handed h ys (handed h xs m)
-unfolding handed
-handed-append h [] ys m = refl
-handed-append h (x ∷ xs) ys m = handed-append h xs ys (h (x .node) (x .event) m)
+-- events handed on in two lists
+fold-append : {M : Type 0} (h : ℤ → Event → M → M) (xs ys : List StreamEvent) (m : M) → foldEvents h (xs ++ ys) m ≡ foldEvents h ys (foldEvents h xs m)
+unfolding foldEvents
+fold-append h [] ys m = refl
+fold-append h (x ∷ xs) ys m = fold-append h xs ys (h (x .node) (x .event) m)
 
 -- the last of a list is in it
 in-last : {A : Type 0} (e : A) (xs ys : List A) → In e (xs ++ (e ∷ ys))
 in-last e [] ys = inl refl
 in-last e (x ∷ xs) ys = inr (in-last e xs ys)
-
--- the same id is one id
-same-id : (i j : ℤ) → sameId i j ≡ true → i ≡ j
-same-id (pos m) (pos n) e = ap pos (eqb-true m n e)
-same-id (pos m) (negsuc n) e = absurd (let z : _≡_ {A = Bool} false true = e in let w : _≡_ {A = ℕ} 0 1 = cc in omega arith)
-same-id (negsuc m) (pos n) e = absurd (let z : _≡_ {A = Bool} false true = e in let w : _≡_ {A = ℕ} 0 1 = cc in omega arith)
-same-id (negsuc m) (negsuc n) e = ap negsuc (eqb-true m n e)
 
 -- a node that stands before all of a map is not in it
 has-not : (e : Entry) (m es : List Entry) → rising rank (m ++ (e ∷ es)) ≡ true → has (e .id) m ≡ false
@@ -73,72 +66,72 @@ order-own [] r = refl
 order-own (e ∷ es) r = rw (order-own es (rising-tail rank e es r)) (insert-front rank e es (rising-head rank e es r))
 
 module _ (places : ℕ) where
-  -- what a reading makes of the map alone
-  unfoldable learn : ℤ → Event → List Entry → List Entry
-  learn node more m = m
-  learn node (value v) m = if (room places node m) (putIn (entry node v) m) m
-  learn node (body b) m = m
-  learn node end m = m
-  learn node (refused n) m = m
+  -- what an event makes of the map alone
+  unfoldable mapEvent : ℤ → Event → List Entry → List Entry
+  mapEvent node more m = m
+  mapEvent node (value v) m = if (room places node m) (putIn (entry node v) m) m
+  mapEvent node (body b) m = m
+  mapEvent node end m = m
+  mapEvent node (refused n) m = m
 
-  if-map : (t : Bool) (x y : Noticed) → (if t x y) .map ≡ if t (x .map) (y .map)
+  if-map : (t : Bool) (x y : MapTally) → (if t x y) .map ≡ if t (x .map) (y .map)
   if-map true x y = refl
   if-map false x y = refl
 
-  hear-map : (node : ℤ) (e : Event) (h : Noticed) → hear places node e h .map ≡ learn node e (h .map)
-  unfolding hear learn
-  hear-map node more h = refl
-  hear-map node (value v) h = if-map (room places node (h .map)) _ _
-  hear-map node (body b) h = refl
-  hear-map node end h = refl
-  hear-map node (refused n) h = refl
+  machine-event-map : (node : ℤ) (e : Event) (h : MapTally) → machineEvent places node e h .map ≡ mapEvent node e (h .map)
+  unfolding machineEvent mapEvent
+  machine-event-map node more h = refl
+  machine-event-map node (value v) h = if-map (room places node (h .map)) _ _
+  machine-event-map node (body b) h = refl
+  machine-event-map node end h = refl
+  machine-event-map node (refused n) h = refl
 
-  hear-all-map : (rs : List Reading) (h : Noticed) → hearAll places rs h .map ≡ handed learn rs (h .map)
-  unfolding hearAll handed
-  hear-all-map [] h = refl
-  hear-all-map (r ∷ rs) h = hear-all-map rs (hear places (r .node) (r .event) h) ∙ ap (handed learn rs) (hear-map (r .node) (r .event) h)
+  machine-events-map : (rs : List StreamEvent) (h : MapTally) → machineEvents places rs h .map ≡ foldEvents mapEvent rs (h .map)
+  unfolding machineEvents foldEvents
+  machine-events-map [] h = refl
+  machine-events-map (r ∷ rs) h = machine-events-map rs (machineEvent places (r .node) (r .event) h) ∙ ap (foldEvents mapEvent rs) (machine-event-map (r .node) (r .event) h)
 
   -- the machine after an accepted feed
   abbrev fedTo : Machine → List ℕ → Machine
-  fedTo s p = record { decoder = stateAfter (s .decoder) p; map = handed learn (readings (s .decoder) p) (s .map) }
+  fedTo s p = record { decoder = stateAfter (s .decoder) p; map = foldEvents mapEvent (events (s .decoder) p) (s .map) }
 
   one-feed : placesAllowed places ≡ true → (s : Machine) (p : List ℕ) → length p ≤ 65536 → machineStep places s (feed p) .state ≡ fedTo s p
   unfolding machineStep
   one-feed r s p a =
       rw (r, le-ltb 65536 (length p) a)
-      (ap (λ (m : List Entry). record { decoder = stateAfter (s .decoder) p; map = m }) (hear-all-map (readings (s .decoder) p) (noticed (s .map) none)))
+      (ap (λ (m : List Entry). record { decoder = stateAfter (s .decoder) p; map = m }) (machine-events-map (events (s .decoder) p) (mapTally (s .map) zeroCounts)))
 
   -- feeds in a row are one feed of their bytes joined
   feeds : placesAllowed places ≡ true → (s : Machine) (p : List ℕ) (ps : List (List ℕ)) → All (λ (q : List ℕ). length q ≤ 65536) (p ∷ ps) →
-      runAll (machineStep places) s (map feed (p ∷ ps)) .state .map ≡ handed learn (readings (s .decoder) (joined (p ∷ ps))) (s .map)
+      runAll (machineStep places) s (map feed (p ∷ ps)) .state .map ≡ foldEvents mapEvent (events (s .decoder) (joined (p ∷ ps))) (s .map)
   unfolding runAll joined
   feeds r s p [] a = ap (λ (x : Machine). x .map) (one-feed r s p (a .0)) ∙ rw (append-nil p)
   feeds r s p (q ∷ ps) a =
       ap (λ (x : Machine). runAll (machineStep places) x (map feed (q ∷ ps)) .state .map) (one-feed r s p (a .0))
       ∙ feeds r (fedTo s p) q ps (a .1)
-      ∙ sym (ap (λ (rs : List Reading). handed learn rs (s .map)) (readings-pieces (s .decoder) p (joined (q ∷ ps))) ∙ handed-append learn (readings (s .decoder) p) _ (s .map))
+      ∙ sym (ap (λ (rs : List StreamEvent). foldEvents mapEvent rs (s .map)) (events-pieces (s .decoder) p (joined (q ∷ ps))) ∙ fold-append mapEvent (events (s .decoder) p) _ (s .map))
 
-  learn-new : (e : Entry) (m : List Entry) → has (e .id) m ≡ false → length m < places → learn (e .id) (value (e .value)) m ≡ m ++ (e ∷ [])
-  unfolding learn room
-  learn-new e m h l = rw (h, lt-ltb (length m) places l) (put-last e m h)
+  map-event-new : (e : Entry) (m : List Entry) → has (e .id) m ≡ false → length m < places → mapEvent (e .id) (value (e .value)) m ≡ m ++ (e ∷ [])
+  unfolding mapEvent room
+  map-event-new e m h l = rw (h, lt-ltb (length m) places l) (put-last e m h)
 
-  -- rising entries, learnt one after the other
-  learn-all : (es m : List Entry) → rising rank (m ++ es) ≡ true → length m + length es ≤ places → handed learn (map told es) m ≡ m ++ es
-  unfolding handed
-  learn-all [] m r l = sym (append-nil m)
-  learn-all (e ∷ es) m r l =
+  -- rising entries, put into the map one after the other
+  map-events : (es m : List Entry) → rising rank (m ++ es) ≡ true → length m + length es ≤ places → foldEvents mapEvent (map entryEvent es) m ≡ m ++ es
+  unfolding foldEvents
+  map-events [] m r l = sym (append-nil m)
+  map-events (e ∷ es) m r l =
       let n = length-append m (e ∷ []) in
-      ap (handed learn (map told es)) (learn-new e m (has-not e m es r) (omega arith))
-      ∙ learn-all es (m ++ (e ∷ [])) (rw (append-assoc m (e ∷ []) es) r) (omega arith) ∙ append-assoc m (e ∷ []) es
+      ap (foldEvents mapEvent (map entryEvent es)) (map-event-new e m (has-not e m es r) (omega arith))
+      ∙ map-events es (m ++ (e ∷ [])) (rw (append-assoc m (e ∷ []) es) r) (omega arith) ∙ append-assoc m (e ∷ []) es
 
   -- the machine that is fed it, in any pieces
-  pub map-rebuilt : (es : List Entry) → All Proper es → rising rank es ≡ true → length es ≤ places → placesAllowed places ≡ true →
+  pub map-rebuilt : (es : List Entry) → All ValidEntry es → rising rank es ≡ true → length es ≤ places → placesAllowed places ≡ true →
       (pieces : List (List ℕ)) → All (λ (q : List ℕ). length q ≤ 65536) pieces → joined pieces ≡ 0xdf ∷ 0xd1 ∷ joined (map setOf es) →
       machineRun places (map feed pieces) .state .map ≡ es
   unfolding joined
   map-rebuilt es p r l n [] a q = cc
   map-rebuilt es p r l n (x ∷ xs) a q =
       feeds n newMachine x xs a
-      ∙ ap (λ (bytes : List ℕ). handed learn (readings freshState bytes) []) q
-      ∙ ap (λ (rs : List Reading). handed learn rs []) (recall-told es p)
-      ∙ learn-all es [] r (omega arith)
+      ∙ ap (λ (bytes : List ℕ). foldEvents mapEvent (events freshState bytes) []) q
+      ∙ ap (λ (rs : List StreamEvent). foldEvents mapEvent rs []) (recall-events es p)
+      ∙ map-events es [] r (omega arith)

@@ -18,32 +18,32 @@ use Rattle.wing_wire.specs.declared.state.State.{State}
 use Rattle.wing_wire.proofs.Laws.{decoder-laws}
 use Rattle.wing_mirror.specs.Rows.{joined, All}
 use Rattle.wing_mirror.specs.Record.{Entry, storable, Typed}
-use Rattle.wing_mirror.specs.Machine.{Reading, reading, noted, decoded, stateAfter, readings}
+use Rattle.wing_mirror.specs.Machine.{StreamEvent, streamEvent, appendEvent, decodeAll, stateAfter, events}
 use Rattle.wing_mirror.specs.Recall.{setOf}
 use Rattle.wing_mirror.proofs.Records.Usables.{both}
-use Rattle.wing_mirror.proofs.Histories.Maps.{Proper}
+use Rattle.wing_mirror.proofs.Histories.Maps.{ValidEntry}
 
--- the readings of bytes that come in two pieces are those of each, one after the other
-pub decoded-pieces : (s : State) (a b : List ℕ) →
-    decoded s (a ++ b) ≡ record { control = decoded (stateAfter s a) b .control; store = decoded (stateAfter s a) b .store; memo = readings s a ++ readings (stateAfter s a) b }
-unfolding decoded
-decoded-pieces s a b =
-    let x : Fed (List Reading) = record { control = s .control; store = s .store; memo = [] } in
-    let y : Fed (List Reading) = feedOf noted x a in
-    decoder-laws .feed .pieces noted x a b
-    ∙ ap (λ (l : List Reading). feedOf noted (record { control = y .control; store = y .store; memo = l }) b) (sym (append-nil (y .memo)))
-    ∙ sym (decoder-laws .feed .along noted noted (λ (ms : List Reading). y .memo ++ ms) (λ node t l ms. sym (append-assoc (y .memo) ms (reading node (eventOf t l l) ∷ [])))
+-- the events of bytes that come in two pieces are those of each, one after the other
+pub decode-pieces : (s : State) (a b : List ℕ) →
+    decodeAll s (a ++ b) ≡ record { control = decodeAll (stateAfter s a) b .control; store = decodeAll (stateAfter s a) b .store; memo = events s a ++ events (stateAfter s a) b }
+unfolding decodeAll
+decode-pieces s a b =
+    let x : Fed (List StreamEvent) = record { control = s .control; store = s .store; memo = [] } in
+    let y : Fed (List StreamEvent) = feedOf appendEvent x a in
+    decoder-laws .feed .pieces appendEvent x a b
+    ∙ ap (λ (l : List StreamEvent). feedOf appendEvent (record { control = y .control; store = y .store; memo = l }) b) (sym (append-nil (y .memo)))
+    ∙ sym (decoder-laws .feed .along appendEvent appendEvent (λ (ms : List StreamEvent). y .memo ++ ms) (λ node t l ms. sym (append-assoc (y .memo) ms (streamEvent node (eventOf t l l) ∷ [])))
     (record { control = y .control; store = y .store; memo = [] }) b)
 
-pub readings-pieces : (s : State) (a b : List ℕ) → readings s (a ++ b) ≡ readings s a ++ readings (stateAfter s a) b
-readings-pieces s a b = ap (λ (x : Fed (List Reading)). x .memo) (decoded-pieces s a b)
+pub events-pieces : (s : State) (a b : List ℕ) → events s (a ++ b) ≡ events s a ++ events (stateAfter s a) b
+events-pieces s a b = ap (λ (x : Fed (List StreamEvent)). x .memo) (decode-pieces s a b)
 
 -- the second piece goes on from what the first left
-onward : (s : State) (a b : List ℕ) (x : Fed (List Reading)) → decoded s a ≡ x → readings s (a ++ b) ≡ x .memo ++ readings (record { control = x .control; store = x .store }) b
+onward : (s : State) (a b : List ℕ) (x : Fed (List StreamEvent)) → decodeAll s a ≡ x → events s (a ++ b) ≡ x .memo ++ events (record { control = x .control; store = x .store }) b
 onward s a b x e =
-    readings-pieces s a b ∙ ap (λ (y : Fed (List Reading)). y .memo ++ readings (record { control = y .control; store = y .store }) b) e
+    events-pieces s a b ∙ ap (λ (y : Fed (List StreamEvent)). y .memo ++ events (record { control = y .control; store = y .store }) b) e
 
--- a proper entry's value is one that a set order holds
+-- a valid entry's value is one that a set order holds
 settable : (v : NodeValue) → Typed v → storable v ≡ true → Settable v
 unfolding storable
 settable (integer x) t h = t
@@ -55,35 +55,35 @@ abbrev rest : ℤ → State
 rest node = calmState (pos 1) node (replicate 4096 0)
 
 -- 01: df d1
-opened : decoded freshState (0xdf ∷ 0xd1 ∷ []) ≡ record { control = rest (pos 0) .control; store = rest (pos 0) .store; memo = [] }
-unfolding decoded freshState
-opened = decoder-laws .feed .channel noted (negsuc 0) (pos 0) (replicate 4096 0) [] 1 (omega arith)
+opened : decodeAll freshState (0xdf ∷ 0xd1 ∷ []) ≡ record { control = rest (pos 0) .control; store = rest (pos 0) .store; memo = [] }
+unfolding decodeAll freshState
+opened = decoder-laws .feed .channel appendEvent (negsuc 0) (pos 0) (replicate 4096 0) [] 1 (omega arith)
 
 rest-sound : (node : ℤ) → soundState (rest node) ≡ true
 unfolding soundState soundEscape soundPending soundToken soundCounts storedBy zeros
 rest-sound node = refl
 
 -- an entry as it is read
-abbrev pub told : Entry → Reading
-told e = reading (e .id) (value (e .value))
+abbrev pub entryEvent : Entry → StreamEvent
+entryEvent e = streamEvent (e .id) (value (e .value))
 
 -- a set order is its value at its node
-set-told : (node : ℤ) (e : Entry) → Proper e → decoded (rest node) (setOf e) ≡ record { control = rest (e .id) .control; store = rest (e .id) .store; memo = told e ∷ [] }
-unfolding decoded
-set-told node e h =
-    decoder-laws .feed .order (λ n x rs. rs ++ (reading n x ∷ [])) (pos 1) node (e .id) (replicate 4096 0) (e .value) [] (setOf e ∷ []) (h .node) (settable (e .value) (h .typed) (h .text))
+set-event : (node : ℤ) (e : Entry) → ValidEntry e → decodeAll (rest node) (setOf e) ≡ record { control = rest (e .id) .control; store = rest (e .id) .store; memo = entryEvent e ∷ [] }
+unfolding decodeAll
+set-event node e h =
+    decoder-laws .feed .order (λ n x rs. rs ++ (streamEvent n x ∷ [])) (pos 1) node (e .id) (replicate 4096 0) (e .value) [] (setOf e ∷ []) (h .node) (settable (e .value) (h .typed) (h .text))
     (length-replicate {A = ℕ} 4096 0) (rest-sound node) (append-nil (setOf e))
 
 -- set orders one after the other are their values in order
-sets-told : (es : List Entry) (node : ℤ) → All Proper es → readings (rest node) (joined (map setOf es)) ≡ map told es
+set-events : (es : List Entry) (node : ℤ) → All ValidEntry es → events (rest node) (joined (map setOf es)) ≡ map entryEvent es
 unfolding joined
-sets-told [] node h = none
+set-events [] node h = no-bytes
   where
-    none : readings (rest node) [] ≡ []
-    none = unfold decoded in ap (λ (x : Fed (List Reading)). x .memo) (decoder-laws .feed .none noted (record { control = rest node .control; store = rest node .store; memo = [] }) refl)
-sets-told (e ∷ es) node h =
-    onward (rest node) (setOf e) (joined (map setOf es)) _ (set-told node e (h .0)) ∙ ap (λ (l : List Reading). told e ∷ l) (sets-told es (e .id) (h .1))
+    no-bytes : events (rest node) [] ≡ []
+    no-bytes = unfold decodeAll in ap (λ (x : Fed (List StreamEvent)). x .memo) (decoder-laws .feed .none appendEvent (record { control = rest node .control; store = rest node .store; memo = [] }) refl)
+set-events (e ∷ es) node h =
+    onward (rest node) (setOf e) (joined (map setOf es)) _ (set-event node e (h .0)) ∙ ap (λ (l : List StreamEvent). entryEvent e ∷ l) (set-events es (e .id) (h .1))
 
 -- what recall writes
-pub recall-told : (es : List Entry) → All Proper es → readings freshState (0xdf ∷ 0xd1 ∷ joined (map setOf es)) ≡ map told es
-recall-told es h = onward freshState (0xdf ∷ 0xd1 ∷ []) (joined (map setOf es)) _ opened ∙ sets-told es (pos 0) h
+pub recall-events : (es : List Entry) → All ValidEntry es → events freshState (0xdf ∷ 0xd1 ∷ joined (map setOf es)) ≡ map entryEvent es
+recall-events es h = onward freshState (0xdf ∷ 0xd1 ∷ []) (joined (map setOf es)) _ opened ∙ set-events es (pos 0) h

@@ -16,19 +16,19 @@ use Rattle.wing_wire.specs.Command.{setBytes}
 use Rattle.wing_mirror.specs.Rows.{Table, All}
 use Rattle.wing_mirror.specs.Record.{entry}
 use Rattle.wing_mirror.specs.Table.{placesAllowed, usable, put, fits}
-use Rattle.wing_mirror.specs.Counts.{none}
+use Rattle.wing_mirror.specs.Counts.{zeroCounts}
 use Rattle.wing_mirror.specs.Call.{Call, feed, set, tooLong, notText, fed, sent, Step, History, runAll, TypedCall}
-use Rattle.wing_mirror.specs.Mirror.{Tallied, tallied, keepEvent, fedFully, Feeding, Setting}
-use Rattle.wing_mirror.specs.Machine.{Machine, newMachine, noticed, room, stateAfter, readings, heardFrom, machineStep}
+use Rattle.wing_mirror.specs.Mirror.{TableTally, tableTally, keepEvent, takenFeed, Feeding, Setting}
+use Rattle.wing_mirror.specs.Machine.{Machine, newMachine, mapTally, room, stateAfter, events, machineFeed, machineStep}
 use Rattle.wing_mirror.specs.History.{Mirror, newMirror, feedOutcome, setOutcome, mirrorStep, placesIn, inOrder}
 use Rattle.wing_mirror.proofs.Tables.Chunks.{laid-nil}
-use Rattle.wing_mirror.proofs.Histories.Along.{handed}
-use Rattle.wing_mirror.proofs.Histories.Maps.{Proper}
+use Rattle.wing_mirror.proofs.Histories.Along.{foldEvents}
+use Rattle.wing_mirror.proofs.Histories.Maps.{ValidEntry}
 use Rattle.wing_mirror.proofs.Histories.Mirrored.{tableOf, usable-image, fits-image, put-image}
-use Rattle.wing_mirror.proofs.Histories.Decodes.{readings-proper}
-use Rattle.wing_mirror.proofs.Histories.Hears.{talliedOf, keep-all-image}
-use Rattle.wing_mirror.proofs.Calls.Outcomes.{feed-7, feed-14, feed-taken, fed-readings, set-7, set-10, set-1, set-6, set-9, set-sent}
-use Rattle.wing_mirror.proofs.Histories.Wells.{Well, start, set-proper, step-well}
+use Rattle.wing_mirror.proofs.Histories.Decodes.{events-valid}
+use Rattle.wing_mirror.proofs.Histories.Events.{tableTallyOf, keep-all-image}
+use Rattle.wing_mirror.proofs.Calls.Outcomes.{feed-7, feed-14, feed-taken, fed-events, set-7, set-10, set-1, set-6, set-9, set-sent}
+use Rattle.wing_mirror.proofs.Histories.Invariant.{Invariant, invariant-new, set-valid, invariant-step}
 
 module _ (buffer : List ℕ) where
   -- the mirror that a machine makes of the buffer
@@ -48,7 +48,7 @@ module _ (buffer : List ℕ) where
   afterSet s x = record { state = record { decoder = s .decoder; table = x .table }; outcome = setOutcome (x .answer) (x .out) }
 
   -- a feed
-  feed-image : (s : Machine) (bytes : List ℕ) → AreBytes bytes → Well (placesIn buffer) s →
+  feed-image : (s : Machine) (bytes : List ℕ) → AreBytes bytes → Invariant (placesIn buffer) s →
       mirrorStep (mirrorOf s) (feed bytes) ≡ imageStep (machineStep (placesIn buffer) s (feed bytes))
   unfolding mirrorStep machineStep
   feed-image s bytes t w = go (placesAllowed (placesIn buffer)) refl (ltb 65536 (length bytes)) refl
@@ -60,10 +60,10 @@ module _ (buffer : List ℕ) where
       g = w .decoder .sound
 
       u : usable T ≡ placesAllowed (placesIn buffer)
-      u = usable-image buffer (s .map) (w .fine)
+      u = usable-image buffer (s .map) (w .map)
 
-      heard : handed keepEvent (readings (s .decoder) bytes) (tallied T none) ≡ talliedOf buffer (heardFrom (placesIn buffer) s bytes)
-      heard = keep-all-image buffer (readings (s .decoder) bytes) (noticed (s .map) none) (readings-proper (s .decoder) bytes t (w .decoder)) (w .fine)
+      events-counted : foldEvents keepEvent (events (s .decoder) bytes) (tableTally T zeroCounts) ≡ tableTallyOf buffer (machineFeed (placesIn buffer) s bytes)
+      events-counted = keep-all-image buffer (events (s .decoder) bytes) (mapTally (s .map) zeroCounts) (events-valid (s .decoder) bytes t (w .decoder)) (w .map)
 
       go : (a : Bool) → placesAllowed (placesIn buffer) ≡ a → (b : Bool) → ltb 65536 (length bytes) ≡ b →
           mirrorStep (mirrorOf s) (feed bytes) ≡ imageStep (machineStep (placesIn buffer) s (feed bytes))
@@ -72,11 +72,11 @@ module _ (buffer : List ℕ) where
       go true p false q =
           rw (p, q)
           (ap afterFeed (feed-taken (s .decoder) T bytes g (u ∙ p) (ltb-false 65536 (length bytes) q))
-          ∙ ap (λ (x : Fed Tallied). afterFeed (fedFully x)) (fed-readings (s .decoder) T bytes)
-          ∙ ap (λ (k : Tallied). record { state = record { decoder = stateAfter (s .decoder) bytes; table = k .table }; outcome = fed (k .counts) }) heard)
+          ∙ ap (λ (x : Fed TableTally). afterFeed (takenFeed x)) (fed-events (s .decoder) T bytes)
+          ∙ ap (λ (k : TableTally). record { state = record { decoder = stateAfter (s .decoder) bytes; table = k .table }; outcome = fed (k .counts) }) events-counted)
 
   -- a set
-  set-image : (s : Machine) (id : ℤ) (v : NodeValue) (out : List ℕ) → TypedCall (set id v out) → Well (placesIn buffer) s →
+  set-image : (s : Machine) (id : ℤ) (v : NodeValue) (out : List ℕ) → TypedCall (set id v out) → Invariant (placesIn buffer) s →
       mirrorStep (mirrorOf s) (set id v out) ≡ imageStep (machineStep (placesIn buffer) s (set id v out))
   unfolding mirrorStep machineStep
   set-image s id v out t w =
@@ -86,7 +86,7 @@ module _ (buffer : List ℕ) where
       T = tableOf buffer (s .map)
 
       u : usable T ≡ placesAllowed (placesIn buffer)
-      u = usable-image buffer (s .map) (w .fine)
+      u = usable-image buffer (s .map) (w .map)
 
       go : (a : Bool) → placesAllowed (placesIn buffer) ≡ a → (b : Bool) → tooLong v ≡ b → (c : Bool) → notText v ≡ c → (d : Bool) → room (placesIn buffer) id (s .map) ≡ d →
           (l : Bool) → ltb (length out) (length (setBytes id v)) ≡ l → mirrorStep (mirrorOf s) (set id v out) ≡ imageStep (machineStep (placesIn buffer) s (set id v out))
@@ -95,11 +95,11 @@ module _ (buffer : List ℕ) where
       go true p false q true r d e l f = rw (p, q, r) (ap (afterSet s) (set-1 id v T out (u ∙ p) q r))
       go true p false q false r d e l f = last d e l f
         where
-          k : Proper (entry id v)
-          k = set-proper id v (t .0) (t .1) q r
+          k : ValidEntry (entry id v)
+          k = set-valid id v (t .0) (t .1) q r
 
           i : fits (entry id v) T ≡ room (placesIn buffer) id (s .map)
-          i = fits-image buffer (s .map) (w .fine) (entry id v) k
+          i = fits-image buffer (s .map) (w .map) (entry id v) k
 
           last : (d : Bool) → room (placesIn buffer) id (s .map) ≡ d → (l : Bool) → ltb (length out) (length (setBytes id v)) ≡ l →
               mirrorStep (mirrorOf s) (set id v out) ≡ imageStep (machineStep (placesIn buffer) s (set id v out))
@@ -109,10 +109,10 @@ module _ (buffer : List ℕ) where
               rw (p, q, r, e, f)
               (ap (afterSet s) (set-sent id v T out (u ∙ p) q r (i ∙ e) f)
               ∙ ap (λ (o : List ℕ). record { state = record { decoder = s .decoder; table = put (entry id v) T }; outcome = sent o }) (take-at (setBytes id v) (drop (length (setBytes id v)) out) (length (setBytes id v)) refl)
-              ∙ ap (λ (x : Table). record { state = record { decoder = s .decoder; table = x }; outcome = sent (setBytes id v) }) (put-image buffer (s .map) (w .fine) (entry id v) k))
+              ∙ ap (λ (x : Table). record { state = record { decoder = s .decoder; table = x }; outcome = sent (setBytes id v) }) (put-image buffer (s .map) (w .map) (entry id v) k))
 
   -- any call
-  pub step-image : (s : Machine) (c : Call) → TypedCall c → Well (placesIn buffer) s → mirrorStep (mirrorOf s) c ≡ imageStep (machineStep (placesIn buffer) s c)
+  pub step-image : (s : Machine) (c : Call) → TypedCall c → Invariant (placesIn buffer) s → mirrorStep (mirrorOf s) c ≡ imageStep (machineStep (placesIn buffer) s c)
   step-image s (feed bytes) t w = feed-image s bytes t w
   step-image s (set id v out) t w = set-image s id v out t w
 
@@ -121,14 +121,14 @@ module _ (buffer : List ℕ) where
   imageRun r = record { state = mirrorOf (r .state); outcomes = r .outcomes }
 
   -- any list of calls
-  run-image : (s : Machine) (cs : List Call) → All TypedCall cs → Well (placesIn buffer) s →
+  run-image : (s : Machine) (cs : List Call) → All TypedCall cs → Invariant (placesIn buffer) s →
       runAll mirrorStep (mirrorOf s) cs ≡ imageRun (runAll (machineStep (placesIn buffer)) s cs)
   unfolding runAll
   run-image s [] t w = refl
   run-image s (c ∷ cs) t w =
       ap (λ (x : Step Mirror). record { state = runAll mirrorStep (x .state) cs .state; outcomes = x .outcome ∷ runAll mirrorStep (x .state) cs .outcomes }) (step-image s c (t .0) w)
       ∙ ap (λ (x : History Mirror). record { state = x .state; outcomes = machineStep (placesIn buffer) s c .outcome ∷ x .outcomes })
-      (run-image (machineStep (placesIn buffer) s c .state) cs (t .1) (step-well (placesIn buffer) s c (t .0) w))
+      (run-image (machineStep (placesIn buffer) s c .state) cs (t .1) (invariant-step (placesIn buffer) s c (t .0) w))
 
   -- a fresh mirror is the image of the new machine
   start-image : mirrorOf newMachine ≡ newMirror buffer
@@ -137,4 +137,4 @@ module _ (buffer : List ℕ) where
 
   -- the mirror's whole state is given by the machine's and the first bytes of the buffer
   pub whole-image : (cs : List Call) → All TypedCall cs → runAll mirrorStep (newMirror buffer) cs ≡ imageRun (runAll (machineStep (placesIn buffer)) newMachine cs)
-  whole-image cs t = ap (λ (x : Mirror). runAll mirrorStep x cs) (sym start-image) ∙ run-image newMachine cs t (start (placesIn buffer))
+  whole-image cs t = ap (λ (x : Mirror). runAll mirrorStep x cs) (sym start-image) ∙ run-image newMachine cs t (invariant-new (placesIn buffer))

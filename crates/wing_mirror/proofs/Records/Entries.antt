@@ -1,4 +1,4 @@
--- What the records of a usable table say: proper entries, whose records they are, in the same order.
+-- What the records of a usable table say: valid entries, whose records they are, in the same order.
 use Prim.Native.Nat.{ℕ, zero, suc, _^_, _<_, _*_, _≤_}
 use mathlib.Core.Bool.{true}
 use mathlib.Core.Path.{_≡_, refl, sym, _∙_, ap, ap₂}
@@ -22,7 +22,7 @@ use Rattle.wing_mirror.specs.Table.{rows, every, checked, soundTable, us
 use Rattle.wing_mirror.specs.History.{rank}
 use Rattle.wing_mirror.proofs.Tables.Images.{Stands, rising-map, all-also}
 use Rattle.wing_mirror.proofs.Records.Ids.{rising-ids}
-use Rattle.wing_mirror.proofs.Histories.Maps.{Proper}
+use Rattle.wing_mirror.proofs.Histories.Maps.{ValidEntry}
 use Rattle.wing_mirror.proofs.Records.Trips.{read-storable, record-back}
 use Rattle.wing_mirror.proofs.Records.Usables.{both, room, formed, up}
 
@@ -54,10 +54,10 @@ module _ (r : List ℕ) (g : Row r) where
       branch Typed (eqb (kindIn r) 0) (integer (signed 31 (big (take 4 (payloadIn r))))) _ (λ _. signed-in 31 (big (take 4 (payloadIn r))) value-below)
       (λ _. branch Typed (eqb (kindIn r) 1) (float (big (take 4 (payloadIn r)))) (string (take (lengthIn r) (payloadIn r))) (λ _. omega (arith, value-below)) (λ _. tt))
 
-  -- its entry is proper
-  pub row-proper : Proper (entryIn r)
+  -- its entry is valid
+  pub row-valid : ValidEntry (entryIn r)
   unfolding entryIn
-  row-proper =
+  row-valid =
       record { node = signed-in 31 (big (take 4 r)) id-below; typed = value-typed; text = read-storable r (g .wide) (g .bytes) (g .form) }
 
   -- and stands where it does
@@ -75,9 +75,9 @@ all-rows (suc n) buffer h b e =
       all-rows n (drop width buffer) (omega (arith, length-drop width buffer)) (digits-drop 256 width buffer b) (f .1),
     )
 
-entries-proper : (rs : List (List ℕ)) → All Row rs → All Proper (map entryIn rs)
-entries-proper [] a = tt
-entries-proper (r ∷ rs) a = (row-proper r (a .0), entries-proper rs (a .1))
+entries-valid : (rs : List (List ℕ)) → All Row rs → All ValidEntry (map entryIn rs)
+entries-valid [] a = tt
+entries-valid (r ∷ rs) a = (row-valid r (a .0), entries-valid rs (a .1))
 
 entries-stand : (rs : List (List ℕ)) → All Row rs → All (Stands rank keyOf entryIn) rs
 entries-stand [] a = tt
@@ -93,8 +93,8 @@ module _ (t : Table) (b : AreBytes (t .buffer)) (u : usable t ≡ true) where
   pub each : All Row (rows t)
   each = all-rows (t .count) (t .buffer) (room t u) (are-digits (t .buffer) b) (formed t u)
 
-  pub rows-proper : All Proper (map entryIn (rows t))
-  rows-proper = entries-proper (rows t) each
+  pub rows-valid : All ValidEntry (map entryIn (rows t))
+  rows-valid = entries-valid (rows t) each
 
   pub rows-back : map recordOf (map entryIn (rows t)) ≡ rows t
   rows-back = records-same (rows t) each
@@ -109,4 +109,4 @@ rows-signed t b h e =
     let each : All Row (rows t) = all-rows (t .count) (t .buffer) (omega (arith, h, mul-div-le (length (t .buffer)) width)) (are-digits (t .buffer) b) e in
     let stand = rising-map rank keyOf entryIn (rows t) (entries-stand (rows t) each) in
     rw (le-leb (t .count) (places width t) h, e)
-    (sym stand ∙ rising-ids (map entryIn (rows t)) (all-also Proper (λ (x : Entry). InBits 31 (x .id)) (map entryIn (rows t)) (λ x p. p .node) (entries-proper (rows t) each)))
+    (sym stand ∙ rising-ids (map entryIn (rows t)) (all-also ValidEntry (λ (x : Entry). InBits 31 (x .id)) (map entryIn (rows t)) (λ x p. p .node) (entries-valid (rows t) each)))

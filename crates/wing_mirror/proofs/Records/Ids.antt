@@ -1,10 +1,10 @@
 -- Ids of 32 bits stand in the order by their signed numbers, and are the same exactly if they stand at the same place.
 use Prim.Native.Nat.{ℕ, suc, _+_, _-_, _^_, _<_, _≤_}
-use mathlib.Core.Bool.{true, false}
+use mathlib.Core.Bool.{Bool, true, false}
 use mathlib.Core.Path.{_≡_, refl, sym, _∙_, ap}
 use mathlib.Core.List.{List, [], _∷_}
 use native.Mathlib.Omega.{arith}
-use borrow.Author.Tests.{lt-ltb, le-ltb, eq-eqb, ne-eqb}
+use borrow.Author.Tests.{lt-ltb, le-ltb, eq-eqb, ne-eqb, eqb-true}
 use lib.Dec.{eqb, ltb}
 use lib.IntN.{ℤ, pos, negsuc}
 use lib.Signed.{ltZ}
@@ -26,6 +26,13 @@ eqb-iff a b c d f g = go (cmp a b)
     go (low h) = differ (omega arith)
     go (same h) = eq-eqb a b h ∙ sym (eq-eqb c d (f h))
     go (high h) = differ (omega arith)
+
+-- the same id is one id
+pub same-id : (i j : ℤ) → sameId i j ≡ true → i ≡ j
+same-id (pos m) (pos n) e = ap pos (eqb-true m n e)
+same-id (pos m) (negsuc n) e = absurd (let z : _≡_ {A = Bool} false true = e in let w : _≡_ {A = ℕ} 0 1 = cc in omega arith)
+same-id (negsuc m) (pos n) e = absurd (let z : _≡_ {A = Bool} false true = e in let w : _≡_ {A = ℕ} 0 1 = cc in omega arith)
+same-id (negsuc m) (negsuc n) e = ap negsuc (eqb-true m n e)
 
 -- bits below 2^31 go up
 flip-low : (n : ℕ) → n < 0x80000000 → flipped n ≡ n + 0x80000000

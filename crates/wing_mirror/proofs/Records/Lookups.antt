@@ -5,9 +5,9 @@ use mathlib.Core.Path.{_≡_, refl, sym, _∙_, ap}
 use mathlib.Core.Logic.{_↔_}
 use mathlib.Core.List.{List, [], _∷_}
 use native.Mathlib.Omega.{arith}
-use borrow.Author.Tests.{lt-ltb, ltb-true, leb-true, eq-eqb, eqb-true}
-use lib.Dec.{ltb, leb, eqb}
-use lib.IntN.{ℤ, pos, negsuc}
+use borrow.Author.Tests.{lt-ltb, ltb-true, leb-true, eq-eqb}
+use lib.Dec.{ltb, leb}
+use lib.IntN.{ℤ}
 use lib.ListN.{length, getD, replicate, length-replicate}
 use Rattle.wing_node.specs.Bool.{if}
 use Rattle.wing_node.specs.Result.{Result, ok, refused}
@@ -15,31 +15,22 @@ use Rattle.wing_node.specs.Signed.{InBits}
 use Rattle.wing_node.specs.Utf8.{utf8}
 use Rattle.wing_node.specs.Value.{NodeValue, integer, float, string, meant}
 use Rattle.wing_wire.specs.Range.{AreBytes}
-use Rattle.wing_mirror.specs.Rows.{Table, Found, found, nothing, holds, below, rising, numberOf, All}
+use Rattle.wing_mirror.specs.Rows.{Table, found, nothing, holds, below, numberOf, All}
 use Rattle.wing_mirror.specs.Record.{Entry, entry, rankOf, keyOf, entryIn, storable}
 use Rattle.wing_mirror.specs.Table.{rows, usable, lookupOf}
-use Rattle.wing_mirror.specs.Machine.{sameId}
-use Rattle.wing_mirror.specs.Query.{answerOf, lookupAnswer, valueOf, bytesBeside, readOf, unread, recordAnswer}
+use Rattle.wing_mirror.specs.Query.{answerOf, lookupAnswer, valueOf, bytesBeside, readOf, recordAnswer}
 use Rattle.wing_mirror.specs.Answers.{lookupResult, entryResult, recordResult}
 use Rattle.wing_mirror.specs.Lookups.{RecordOf, Lookups}
-use Rattle.wing_mirror.specs.declared.answer.Lookup.the-variants.{Refused as NotLookedUp}
-use Rattle.wing_mirror.specs.declared.answer.RecordRead.{RecordRead}
 use Rattle.wing_mirror.proofs.Tables.Chunks.{length-records}
 use Rattle.wing_mirror.proofs.Tables.Numbers.{placed, found-at}
-use Rattle.wing_mirror.proofs.Records.Ids.{same-rank}
+use Rattle.wing_mirror.proofs.Records.Ids.{same-id, same-rank}
 use Rattle.wing_mirror.proofs.Records.Usables.{both, up}
 use Rattle.wing_mirror.proofs.Records.Formed.{take-over}
-use Rattle.wing_mirror.proofs.Records.Entries.{Row, row-proper, row-stands, each}
+use Rattle.wing_mirror.proofs.Records.Entries.{Row, row-valid, row-stands, each}
 
 -- ids that stand at one place are one
-same-one : (i j : ℤ) → sameId i j ≡ true → i ≡ j
-same-one (pos m) (pos n) e = ap pos (eqb-true m n e)
-same-one (pos m) (negsuc n) e = absurd (let z : _≡_ {A = Bool} false true = e in let w : _≡_ {A = ℕ} 0 1 = cc in omega arith)
-same-one (negsuc m) (pos n) e = absurd (let z : _≡_ {A = Bool} false true = e in let w : _≡_ {A = ℕ} 0 1 = cc in omega arith)
-same-one (negsuc m) (negsuc n) e = ap negsuc (eqb-true m n e)
-
 rank-one : (i j : ℤ) → InBits 31 i → InBits 31 j → rankOf i ≡ rankOf j → i ≡ j
-rank-one i j h k e = same-one i j (same-rank i j h k ∙ eq-eqb (rankOf i) (rankOf j) e)
+rank-one i j h k e = same-id i j (same-rank i j h k ∙ eq-eqb (rankOf i) (rankOf j) e)
 
 -- what a read of an entry's record says is the entry
 value-read : (id : ℤ) (v : NodeValue) → storable v ≡ true → recordResult (readOf (entry id v)) ≡ ok (entry id v)
@@ -51,22 +42,22 @@ value-read id (string s) h =
     ap (λ (x : List ℕ). ok (entry id (string x))) (take-over s (replicate 256 0) (omega (arith, length-replicate {A = ℕ} 256 0)))
 
 -- an element of a list all of which have it
-all-at : {A : Type 0} (P : A → Type 0) (none : A) (xs : List A) (n : ℕ) → All P xs → n < length xs → P (getD xs n none)
-all-at P none [] n a l = absurd (omega arith)
-all-at P none (x ∷ xs) zero a l = a .0
-all-at P none (x ∷ xs) (suc n) a l = all-at P none xs n (a .1) (omega arith)
+all-at : {A : Type 0} (P : A → Type 0) (default : A) (xs : List A) (n : ℕ) → All P xs → n < length xs → P (getD xs n default)
+all-at P default [] n a l = absurd (omega arith)
+all-at P default (x ∷ xs) zero a l = a .0
+all-at P default (x ∷ xs) (suc n) a l = all-at P default xs n (a .1) (omega arith)
 
 -- a refusal is no value
 no-value : {A : Type 0} (n : ℕ) (a : A) → refused n ≡ ok a → ⊥
 no-value n a e = let z : _≡_ {A = ℕ} 0 1 = cc in omega arith
 
-unlooked : (t : Table) (id : ℤ) → usable t ≡ false → lookupResult (lookupAnswer t id) ≡ refused 7
+lookup-refused : (t : Table) (id : ℤ) → usable t ≡ false → lookupResult (lookupAnswer t id) ≡ refused 7
 unfolding lookupAnswer lookupResult
-unlooked t id q = rw q
+lookup-refused t id q = rw q
 
-unrecorded : (t : Table) (n : ℕ) → usable t ≡ false → recordResult (recordAnswer t n) ≡ refused 7
+record-refused : (t : Table) (n : ℕ) → usable t ≡ false → recordResult (recordAnswer t n) ≡ refused 7
 unfolding recordAnswer entryResult
-unrecorded t n q = rw q
+record-refused t n q = rw q
 
 module _ (t : Table) (b : AreBytes (t .buffer)) (u : usable t ≡ true) where
   abbrev row : ℕ → List ℕ
@@ -82,7 +73,7 @@ module _ (t : Table) (b : AreBytes (t .buffer)) (u : usable t ≡ true) where
   pub read-row : (n : ℕ) → n < t .count → recordResult (recordAnswer t n) ≡ ok (entryIn (row n))
   unfolding recordAnswer
   read-row n l =
-      rw (u, lt-ltb n (t .count) l) (value-read (entryIn (row n) .id) (entryIn (row n) .value) (row-proper (row n) (formed n l) .text))
+      rw (u, lt-ltb n (t .count) l) (value-read (entryIn (row n) .id) (entryIn (row n) .value) (row-valid (row n) (formed n l) .text))
 
   -- its key is its id's
   key-row : (n : ℕ) → n < t .count → keyOf (row n) ≡ rankOf (entryIn (row n) .id)
@@ -111,11 +102,11 @@ module _ (t : Table) (b : AreBytes (t .buffer)) (u : usable t ≡ true) where
         let l : n < t .count = omega (arith, p .0, counted) in
         let e = entryIn (row n) in
         let k : rankOf (e .id) ≡ rankOf id = sym (key-row n l) ∙ p .1 in
-        record { value = e .value; read = read-row n l ∙ ap (λ (j : ℤ). ok (entry j (e .value))) (rank-one (e .id) id (row-proper (row n) (formed n l) .node) i k) }
+        record { value = e .value; read = read-row n l ∙ ap (λ (j : ℤ). ok (entry j (e .value))) (rank-one (e .id) id (row-valid (row n) (formed n l) .node) i k) }
 
     -- a record of this id is found
-    held : (n : ℕ) → RecordOf t n id → (holds keyOf (rankOf id) (rows t) ≡ true) × (below keyOf (rankOf id) (rows t) ≡ n)
-    held n r = go (ltb n (t .count)) refl
+    id-found : (n : ℕ) → RecordOf t n id → (holds keyOf (rankOf id) (rows t) ≡ true) × (below keyOf (rankOf id) (rows t) ≡ n)
+    id-found n r = go (ltb n (t .count)) refl
       where
         go : (x : Bool) → ltb n (t .count) ≡ x → (holds keyOf (rankOf id) (rows t) ≡ true) × (below keyOf (rankOf id) (rows t) ≡ n)
         go true q =
@@ -128,7 +119,7 @@ module _ (t : Table) (b : AreBytes (t .buffer)) (u : usable t ≡ true) where
 
     -- lookup and record read, both ways
     pub at-row : (n : ℕ) → (lookupResult (lookupAnswer t id) ≡ ok (found n) ↔ RecordOf t n id)
-    at-row n = (λ e. from (holds keyOf (rankOf id) (rows t)) refl (sym looked ∙ e), λ r. looked ∙ rw (held n r .0, held n r .1))
+    at-row n = (λ e. from (holds keyOf (rankOf id) (rows t)) refl (sym looked ∙ e), λ r. looked ∙ rw (id-found n r .0, id-found n r .1))
       where
         from : (h : Bool) → holds keyOf (rankOf id) (rows t) ≡ h → ok (if h (found (below keyOf (rankOf id) (rows t))) nothing) ≡ ok (found n) → RecordOf t n id
         from true q e = let z : below keyOf (rankOf id) (rows t) ≡ n = cc in rw z at (there q)
@@ -139,7 +130,7 @@ module _ (t : Table) (b : AreBytes (t .buffer)) (u : usable t ≡ true) where
       where
         from : (h : Bool) → holds keyOf (rankOf id) (rows t) ≡ h → ok (if h (found (below keyOf (rankOf id) (rows t))) nothing) ≡ ok nothing → (n : ℕ) → RecordOf t n id → ⊥
         from true q e n r = let z : found (below keyOf (rankOf id) (rows t)) ≡ nothing = cc in let w : _≡_ {A = ℕ} 0 1 = cc in omega arith
-        from false q e n r = let z : _≡_ {A = Bool} true false = sym (held n r .0) ∙ q in let w : _≡_ {A = ℕ} 0 1 = cc in omega arith
+        from false q e n r = let z : _≡_ {A = Bool} true false = sym (id-found n r .0) ∙ q in let w : _≡_ {A = ℕ} 0 1 = cc in omega arith
 
         back : (h : Bool) → holds keyOf (rankOf id) (rows t) ≡ h → ((n : ℕ) → RecordOf t n id → ⊥) → ok (if h (found (below keyOf (rankOf id) (rows t))) nothing) ≡ ok nothing
         back true q f = absurd (f (below keyOf (rankOf id) (rows t)) (there q))
@@ -150,10 +141,10 @@ unusable : (t : Table) (id : ℤ) (n : ℕ) → usable t ≡ false → (lookupRe
 unusable t id n q = (λ e. absurd (no-value 7 (found n) (sym looks ∙ e)), λ r. absurd (no-value 7 (entry id (r .value)) (sym reads ∙ r .read)))
   where
     looks : lookupResult (lookupAnswer t id) ≡ refused 7
-    looks = unlooked t id q
+    looks = lookup-refused t id q
 
     reads : recordResult (recordAnswer t n) ≡ refused 7
-    reads = unrecorded t n q
+    reads = record-refused t n q
 
 pub lookups : Lookups
 lookups = record { at = λ t id n b i. go t id n b i (usable t) refl; none = λ t id b i u. none-row t b u id i }

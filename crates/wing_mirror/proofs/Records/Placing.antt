@@ -12,16 +12,16 @@ use lib.Seq.{sets, sets-eq}
 use Rattle.wing_node.specs.Bool.{if}
 use Rattle.wing_mirror.specs.Rows.{records, holds, below, rising, insert, takes, store}
 use Rattle.wing_mirror.specs.Record.{keyOf}
-use Rattle.wing_mirror.specs.Table.{table, heldAt, usable}
-use Rattle.wing_mirror.specs.Puts.{Done, putOf}
+use Rattle.wing_mirror.specs.Table.{table, hasKeyAt, usable}
+use Rattle.wing_mirror.specs.Puts.{PutResult, putOf}
 use Rattle.wing_mirror.proofs.Tables.Ordered.{length-insert}
 use Rattle.wing_mirror.proofs.Tables.Chunks.{length-records}
 use Rattle.wing_mirror.proofs.Tables.Stays.{store-new, store-over}
-use Rattle.wing_mirror.proofs.Tables.Laying.{filled}
-use Rattle.wing_mirror.proofs.Tables.Keys.{place-most, held-in, held-is}
+use Rattle.wing_mirror.proofs.Tables.Laying.{gap-laid}
+use Rattle.wing_mirror.proofs.Tables.Keys.{place-most, has-key-in, has-key-is}
 use Rattle.wing_mirror.proofs.Records.Usables.{room, up}
 
-abbrev kept : List ℕ → ℕ → Done
+abbrev kept : List ℕ → ℕ → PutResult
 kept buffer count = record { after = table buffer count; taken = true }
 
 module _ (b r : List ℕ) (n : ℕ) (rise : rising keyOf (records 264 n b) ≡ true) (wide : length r ≡ 264) where
@@ -53,7 +53,7 @@ module _ (b r : List ℕ) (n : ℕ) (rise : rising keyOf (records 264 n b) ≡ t
   unfolding putOf takes store
   put-new q h c e =
       let f : 264 * n + 264 ≤ length b = omega (arith, mul-div-le (length b) 264) in
-      rw (q, lt-ltb n (length b / 264) h, counted false q, e, filled b n at r (place-most b n (keyOf r)) f wide)
+      rw (q, lt-ltb n (length b / 264) h, counted false q, e, gap-laid b n at r (place-most b n (keyOf r)) f wide)
       (ap₂ (λ (x : List ℕ) (m : ℕ). kept x m) (sym (store-new 264 keyOf r (table b n) rise q (place-most b n (keyOf r)))) (omega arith))
 
 -- the same, as the code has them: a key k and a place p that were found
@@ -66,13 +66,13 @@ module _ (b r : List ℕ) (n : ℕ) (u : usable (table b n) ≡ true) (wide : le
   p-is = ep ∙ ap (λ (x : ℕ). below keyOf x (records 264 n b)) ek
 
   -- h is what the test for the key said
-  module _ (h : Bool) (eh : h ≡ heldAt b n p k) where
+  module _ (h : Bool) (eh : h ≡ hasKeyAt b n p k) where
     holds-is : (t : Bool) → h ≡ t → holds keyOf (keyOf r) (records 264 n b) ≡ t
-    holds-is t q = ap (λ (x : ℕ). holds keyOf x (records 264 n b)) (sym ek) ∙ held-is b n k rise p ep t (sym eh ∙ q)
+    holds-is t q = ap (λ (x : ℕ). holds keyOf x (records 264 n b)) (sym ek) ∙ has-key-is b n k rise p ep t (sym eh ∙ q)
 
     pub over-it : (c : List ℕ) → h ≡ true → c ≡ sets b (264 * p) r → kept c n ≡ putOf r (table b n)
     over-it c q e =
-        let l : at b r n rise wide < n = rw p-is at (held-in b n p k (sym eh ∙ q)) in
+        let l : at b r n rise wide < n = rw p-is at (has-key-in b n p k (sym eh ∙ q)) in
         rw (e, p-is) (put-over b r n rise wide (holds-is true q) l (room (table b n) u))
 
     pub none-free : h ≡ false → length b / 264 ≤ n → record { after = table b n; taken = false } ≡ putOf r (table b n)

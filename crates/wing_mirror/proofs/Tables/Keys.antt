@@ -10,7 +10,7 @@ use lib.ListN.{length, drop}
 use Rattle.wing_node.specs.Bool.{if}
 use Rattle.wing_mirror.specs.Rows.{found, nothing, records, holds, below, rising, numberOf}
 use Rattle.wing_mirror.specs.Record.{keyOf}
-use Rattle.wing_mirror.specs.Table.{heldAt}
+use Rattle.wing_mirror.specs.Table.{hasKeyAt}
 use Rattle.wing_mirror.proofs.Tables.Ordered.{Cmp, cmp, low, same, high, rising-head, rising-tail, over-holds}
 use Rattle.wing_mirror.proofs.Tables.Chunks.{length-records}
 use Rattle.wing_mirror.proofs.Tables.Stays.{drop-records}
@@ -50,9 +50,9 @@ pub in-place : (b : List ℕ) (n k p : ℕ) → p ≡ below keyOf k (records 264
 in-place b n k p e = rw e (place-most b n k)
 
 -- a number that is there
-pub held-in : (b : List ℕ) (n p k : ℕ) → heldAt b n p k ≡ true → p < n
-unfolding heldAt
-held-in b n p k h = go (ltb p n) refl
+pub has-key-in : (b : List ℕ) (n p k : ℕ) → hasKeyAt b n p k ≡ true → p < n
+unfolding hasKeyAt
+has-key-in b n p k h = go (ltb p n) refl
   where
     go : (t : Bool) → ltb p n ≡ t → p < n
     go true q = ltb-true p n q
@@ -65,25 +65,25 @@ module _ (b : List ℕ) (n k : ℕ) (up : rising keyOf (records 264 n b) ≡ tru
   abbrev at : ℕ
   at = below keyOf k rs
 
-  pub held-holds : heldAt b n at k ≡ holds keyOf k rs
-  unfolding heldAt hit
-  held-holds = go (ltb at n) refl
+  pub has-key-holds : hasKeyAt b n at k ≡ holds keyOf k rs
+  unfolding hasKeyAt hit
+  has-key-holds = go (ltb at n) refl
     where
       first : holds keyOf k rs ≡ hit keyOf k (from n at b)
       first = holds-hit keyOf k rs up ∙ ap (hit keyOf k) (drop-records 264 at n b (place-most b n k))
 
-      go : (t : Bool) → ltb at n ≡ t → heldAt b n at k ≡ holds keyOf k rs
+      go : (t : Bool) → ltb at n ≡ t → hasKeyAt b n at k ≡ holds keyOf k rs
       go true q = rw q (sym (first ∙ ap (hit keyOf k) (from-next n at b (ltb-true at n q))))
       go false q = rw q (sym (first ∙ ap (hit keyOf k) (from-none n at b (ltb-false at n q))))
 
   module _ (p : ℕ) (e : p ≡ at) where
-    pub held-is : (t : Bool) → heldAt b n p k ≡ t → holds keyOf k rs ≡ t
-    held-is t h = sym held-holds ∙ ap (λ (x : ℕ). heldAt b n x k) (sym e) ∙ h
+    pub has-key-is : (t : Bool) → hasKeyAt b n p k ≡ t → holds keyOf k rs ≡ t
+    has-key-is t h = sym has-key-holds ∙ ap (λ (x : ℕ). hasKeyAt b n x k) (sym e) ∙ h
 
-    pub number-there : heldAt b n p k ≡ true → numberOf keyOf k rs ≡ found p
+    pub number-there : hasKeyAt b n p k ≡ true → numberOf keyOf k rs ≡ found p
     unfolding numberOf
-    number-there h = rw (held-is true h) (ap found (sym e))
+    number-there h = rw (has-key-is true h) (ap found (sym e))
 
-    pub number-none : heldAt b n p k ≡ false → numberOf keyOf k rs ≡ nothing
+    pub number-none : hasKeyAt b n p k ≡ false → numberOf keyOf k rs ≡ nothing
     unfolding numberOf
-    number-none h = rw (held-is false h)
+    number-none h = rw (has-key-is false h)

@@ -15,7 +15,7 @@ use Rattle.wing_node.specs.Value.{NodeValue}
 use Rattle.wing_node.specs.Field.{bytesOf, put, putAt}
 use Rattle.wing_node.proofs.Numerals.Numbers.{length-digitsIn}
 use Rattle.wing_node.proofs.Numerals.Placed.{put-whole}
-use Rattle.wing_wire.specs.Reader.{over, filled as zeroFilled}
+use Rattle.wing_wire.specs.Reader.{over, filled}
 use Rattle.wing_mirror.specs.Record.{entry, kindOf, payloadOf, recordOf, laidFrom}
 
 pub sets-append : (vs ws l : List ℕ) (i : ℕ) → sets (sets l i vs) (i + length vs) ws ≡ sets l i (vs ++ ws)
@@ -31,10 +31,10 @@ lay-more out src at i h =
     rw (add-one i, take-suc src i 0 h) ((rw l at (sets-append (take i src) (getD src i 0 ∷ []) out at)))
 
 -- the gap, filled
-pub filled : (b : List ℕ) (n k : ℕ) (rec : List ℕ) → k ≤ n → 264 * n + 264 ≤ length b → length rec ≡ 264 →
+pub gap-laid : (b : List ℕ) (n k : ℕ) (rec : List ℕ) → k ≤ n → 264 * n + 264 ≤ length b → length rec ≡ 264 →
     sets (take (264 * k + 264) b ++ (take (264 * n - 264 * k) (drop (264 * k) b) ++ drop (264 * n + 264) b)) (264 * k) rec
     ≡ take (264 * k) b ++ (rec ++ (take (264 * n - 264 * k) (drop (264 * k) b) ++ drop (264 * n + 264) b))
-filled b n k rec h f e =
+gap-laid b n k rec h f e =
     let t = take (264 * k + 264) b in
     let u = take (264 * n - 264 * k) (drop (264 * k) b) ++ drop (264 * n + 264) b in
     let lt : length t ≡ 264 * k + 264 = length-take-le (264 * k + 264) b (omega arith) in
@@ -75,7 +75,7 @@ unfolding digitsIn
 laid-eight d u kind n p = sets-after (bytesOf 4 u ++ (kind ∷ 0 ∷ bytesOf 2 n)) d p
 
 pub laid-whole : (u kind : ℕ) (p : List ℕ) →
-    laidFrom (sets (replicate 264 0) 0 (bytesOf 4 u)) kind p ≡ bytesOf 4 u ++ (kind ∷ 0 ∷ (bytesOf 2 (length p) ++ zeroFilled 256 p))
+    laidFrom (sets (replicate 264 0) 0 (bytesOf 4 u)) kind p ≡ bytesOf 4 u ++ (kind ∷ 0 ∷ (bytesOf 2 (length p) ++ filled 256 p))
 laid-whole u kind p = laid-eight (replicate 256 0) u kind (length p) p
 
 -- a string's bytes, the first n of those lent

@@ -11,9 +11,9 @@ use lib.Seq.{length-take-le, take-suc, drop-cons, set-at, getD-take}
 unfoldable pub moved : List ℕ → ℕ → ℕ → ℕ → List ℕ
 moved l i end w = take (i + w) l ++ (take (end - i) (drop i l) ++ drop (end + w) l)
 
-pub none : (l : List ℕ) (end w : ℕ) → l ≡ moved l end end w
+pub no-move : (l : List ℕ) (end w : ℕ) → l ≡ moved l end end w
 unfolding moved
-none l end w = let z : end - end ≡ 0 = omega arith in rw z (sym (take-append-drop (end + w) l))
+no-move l end w = let z : end - end ≡ 0 = omega arith in rw z (sym (take-append-drop (end + w) l))
 
 value : (l : List ℕ) (j end w : ℕ) → j < end → end + w ≤ length l → getD (moved l (suc j) end w) j 0 ≡ getD l j 0
 unfolding moved

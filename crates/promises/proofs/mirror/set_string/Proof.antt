@@ -23,12 +23,13 @@ same-length-2 c = search needs
 
 returns : tie.Need-returns
 returns c =
-    let k = c .before .before .before .before .before .before .before .before .before .before in
-    let t = table (now (k .args .table)) (k .args .count) in
-    let out = now (k .args .out) in
-    subst (λ (x : Setting). SetCall (k .args .id) (string (now (k .args .value))) t out (x .answer) (x .table) (x .out))
-    (sym (rw (toZ-ofZ (k .fits .id)) at (c .before .before .before .before .set-string .ensures)))
-    (set-call (k .args .id) (string (now (k .args .value))) t out (k .fits .id .sfits) tt)
+    let at-set-string = c .before .before .before .before in
+    let entry = at-set-string .before .before .before .before .before .before in
+    let t = table (now (entry .args .table)) (entry .args .count) in
+    let out = now (entry .args .out) in
+    subst (λ (x : Setting). SetCall (entry .args .id) (string (now (entry .args .value))) t out (x .answer) (x .table) (x .out))
+    (sym (rw (toZ-ofZ (entry .fits .id)) at (at-set-string .set-string .ensures)))
+    (set-call (entry .args .id) (string (now (entry .args .value))) t out (entry .fits .id .sfits) tt)
 
 pub set-string-spec : {M : Type 1} → statement M
 set-string-spec = tie.close (tie.spec set-string-requires same-length same-length-2 returns)

@@ -1,5 +1,5 @@
 -- The invariant: the bytes from i to the end are moved up by w, and the others are as they were (`moved`); a turn moves one more (law `again`).
-use Rattle.wing_mirror.proofs.Tables.Moves.{moved, none, again}
+use Rattle.wing_mirror.proofs.Tables.Moves.{moved, no-move, again}
 use lib.ListN.{length, length-set}
 use native.Mathlib.Omega.{arith}
 use mathlib.Core.Path.{_≡_, _∙_}
@@ -14,7 +14,7 @@ abbrev μ-loop : tie.MeasureT-loop
 μ-loop buf₀ from end w i₀ buf i = i - from
 
 loop-holds : tie.Need-loop-holds Inv-loop μ-loop
-loop-holds c = (omega arith, omega arith, omega arith, none _ _ _)
+loop-holds c = (omega arith, omega arith, omega arith, no-move _ _ _)
 
 sub-i : tie.Need-sub-i Inv-loop μ-loop
 sub-i c = omega arith

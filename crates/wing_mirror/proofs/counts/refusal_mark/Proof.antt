@@ -1,5 +1,5 @@
 -- Each return is the branch of `refusalMark` with that test of the number.
-use borrow.Author.Tests.{eq-eqb, le-leb, le-ltb, ne-eqb, lt-leb, lt-ltb}
+use borrow.Author.Tests.{eq-eqb, le-leb, ne-eqb, lt-leb}
 use Rattle.wing_mirror.specs.Counts.{refusalMark}
 use Rattle.wing_mirror.proofs.counts.refusal_mark.Statement.{statement}
 use Rattle.wing_mirror.proofs.counts.refusal_mark.Tie as tie

@@ -1,6 +1,6 @@
 -- In each arm one more in that count is what adding `one` of that mark gives, as the other counts get 0 more.
 use native.Mathlib.Nat.{add-zero}
-use Rattle.wing_mirror.specs.Counts.{order, one}
+use Rattle.wing_mirror.specs.Counts.{markNumber, one}
 use borrow.Author.Needs.{needs}
 use Rattle.wing_mirror.proofs.counts.tick.Statement.{statement}
 use Rattle.wing_mirror.proofs.counts.tick.Tie as tie
@@ -45,31 +45,31 @@ enum-told-7 : tie.Need-enum-told-7
 enum-told-7 c = search needs
 
 returns : tie.Need-returns
-unfolding one order
+unfolding one markNumber
 returns c = simp (c .before .enum-told .given .1, add-zero)
 
 returns-2 : tie.Need-returns-2
-unfolding one order
+unfolding one markNumber
 returns-2 c = simp (c .before .enum-told2 .given .1, add-zero)
 
 returns-3 : tie.Need-returns-3
-unfolding one order
+unfolding one markNumber
 returns-3 c = simp (c .before .enum-told3 .given .1, add-zero)
 
 returns-4 : tie.Need-returns-4
-unfolding one order
+unfolding one markNumber
 returns-4 c = simp (c .before .enum-told4 .given .1, add-zero)
 
 returns-5 : tie.Need-returns-5
-unfolding one order
+unfolding one markNumber
 returns-5 c = simp (c .before .enum-told5 .given .1, add-zero)
 
 returns-6 : tie.Need-returns-6
-unfolding one order
+unfolding one markNumber
 returns-6 c = simp (c .before .enum-told6 .given .1, add-zero)
 
 returns-7 : tie.Need-returns-7
-unfolding one order
+unfolding one markNumber
 returns-7 c = simp (c .enum-told7 .given .1, add-zero)
 
 pub tick-spec : {M : Type 1} → statement M

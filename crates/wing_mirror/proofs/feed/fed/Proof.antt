@@ -1,7 +1,7 @@
 -- The contract of `feed_on`, with the reply made of what it leaves.
 use mathlib.Core.Path.{ap}
 use Rattle.wing_wire.specs.Stream.{Fed}
-use Rattle.wing_mirror.specs.Mirror.{Tallied, fedFully}
+use Rattle.wing_mirror.specs.Mirror.{TableTally, takenFeed}
 use borrow.Author.Needs.{needs}
 use Rattle.wing_mirror.proofs.feed.fed.Statement.{statement}
 use Rattle.wing_mirror.proofs.feed.fed.Tie as tie
@@ -18,7 +18,7 @@ same-length c = search needs
 returns : tie.Need-returns
 returns c =
     let f = c .before .before .before .before .before .before .feed-on in
-    ap (λ (x : Fed Tallied). fedFully x) (f .ensures)
+    ap (λ (x : Fed TableTally). takenFeed x) (f .ensures)
 
 pub fed-spec : {M : Type 1} → statement M
 fed-spec =

@@ -1,4 +1,4 @@
--- Each return is the branch of `mirrorFeed` with that test, by the contracts of `is_sound`, `is_usable`, `fed` and `unfed`.
+-- Each return is the branch of `mirrorFeed` with that test, by the contracts of `is_sound`, `is_usable`, `fed` and `refused`.
 use mathlib.Core.Path.{sym, _∙_}
 use borrow.Author.Tests.{le-leb, lt-leb}
 use Rattle.wing_mirror.specs.Mirror.{mirrorFeed}
@@ -22,32 +22,32 @@ returns : tie.Need-returns
 unfolding mirrorFeed
 returns c = simp (← c .before .before .before .before .before .before .before .before .before .is-sound .ensures, c .before .before .before .before .before .before .before .before .if1 .taken, ← c .before .before .before .before .before .before .is-usable .ensures, c .before .before .before .before .before .if2 .taken, le-leb _ _ (c .before .before .before .before .if3 .taken), c .before .before .fed .ensures)
 
-unfed-requires : tie.Need-unfed-requires
-unfed-requires c κs = search needs
+refused-requires : tie.Need-refused-requires
+refused-requires c κs = search needs
 
 same-length-2 : tie.Need-same-length-2
 same-length-2 c = search needs
 
 returns-2 : tie.Need-returns-2
 unfolding mirrorFeed
-returns-2 c = simp (← c .before .before .before .before .before .before .is-sound .ensures, c .before .before .before .before .before .if1 .taken, ← c .before .before .before .is-usable .ensures, c .before .before .if2 .taken, lt-leb _ _ (c .before .if3 .left), c .unfed .ensures)
+returns-2 c = simp (← c .before .before .before .before .before .before .is-sound .ensures, c .before .before .before .before .before .if1 .taken, ← c .before .before .before .is-usable .ensures, c .before .before .if2 .taken, lt-leb _ _ (c .before .if3 .left), c .refused .ensures)
 
-unfed-requires-2 : tie.Need-unfed-requires-2
-unfed-requires-2 c κs = search needs
+refused-requires-2 : tie.Need-refused-requires-2
+refused-requires-2 c κs = search needs
 
 same-length-3 : tie.Need-same-length-3
 same-length-3 c = search needs
 
 returns-3 : tie.Need-returns-3
 unfolding mirrorFeed
-returns-3 c = simp (← c .before .before .before .before .before .is-sound .ensures, c .before .before .before .before .if1 .taken, ← c .before .before .is-usable .ensures, c .before .if2 .left, c .unfed2 .ensures)
+returns-3 c = simp (← c .before .before .before .before .before .is-sound .ensures, c .before .before .before .before .if1 .taken, ← c .before .before .is-usable .ensures, c .before .if2 .left, c .refused2 .ensures)
 
-unfed-requires-3 : tie.Need-unfed-requires-3
-unfed-requires-3 c κs = search needs
+refused-requires-3 : tie.Need-refused-requires-3
+refused-requires-3 c κs = search needs
 
 returns-4 : tie.Need-returns-4
 unfolding mirrorFeed
-returns-4 c = simp (← c .before .before .is-sound .ensures, c .before .if1 .left, c .unfed3 .ensures)
+returns-4 c = simp (← c .before .before .is-sound .ensures, c .before .if1 .left, c .refused3 .ensures)
 
 pub feed-spec : {M : Type 1} → statement M
 feed-spec =
@@ -58,11 +58,11 @@ feed-spec =
     fed-requires
     same-length
     returns
-    unfed-requires
+    refused-requires
     same-length-2
     returns-2
-    unfed-requires-2
+    refused-requires-2
     same-length-3
     returns-3
-    unfed-requires-3
+    refused-requires-3
     returns-4)

@@ -42,10 +42,14 @@ enum-known-a-3 : tie.Need-enum-known-a-3
 enum-known-a-3 c = search needs
 
 slice-aggregate-keep-value-3 : tie.Need-slice-aggregate-keep-value-3
-slice-aggregate-keep-value-3 c = sym (length-take-le 256 (c .before .before .before .before .before .before .before .before .args .store .now) (omega arith))
+slice-aggregate-keep-value-3 c =
+    let start = c .before .before .before .before .before .before .before .before in
+    sym (length-take-le 256 (start .args .store .now) (omega arith))
 
 keep-value-requires-3 : tie.Need-keep-value-requires-3
-keep-value-requires-3 c κs = (c .before .before .before .before .before .before .before .before .pre .0, c .before .before .before .before .before .before .before .before .pre .1, omega (arith, length-take 256 (c .before .before .before .before .before .before .before .before .args .store .now)))
+keep-value-requires-3 c κs =
+    let start = c .before .before .before .before .before .before .before .before in
+    (start .pre .0, start .pre .1, omega (arith, length-take 256 (start .args .store .now)))
 
 enum-known-a-4 : tie.Need-enum-known-a-4
 enum-known-a-4 c = search needs
@@ -55,10 +59,10 @@ cast-keep-body c = search needs
 
 slice-aggregate-keep-body : tie.Need-slice-aggregate-keep-body
 slice-aggregate-keep-body c =
-    let s = c .before .before .before .before .before .before .before in
-    let w : c .before .before .a4 .given .0 .0 ≤ 4096 = rw (c .before .before .a4 .given .1) at (s .pre .3) in
-    let n = s .pre .2 in
-    sym (length-take-le (c .before .before .a4 .given .0 .0) (s .args .store .now) (omega arith))
+    let start = c .before .before .before .before .before .before .before in
+    let w : c .before .before .a4 .given .0 .0 ≤ 4096 = rw (c .before .before .a4 .given .1) at (start .pre .3) in
+    let n = start .pre .2 in
+    sym (length-take-le (c .before .before .a4 .given .0 .0) (start .args .store .now) (omega arith))
 
 keep-body-requires : tie.Need-keep-body-requires
 keep-body-requires c κs = search needs
@@ -88,10 +92,11 @@ same-length c = search needs
 returns-2 : tie.Need-returns-2
 unfolding eventOf meant
 returns-2 c =
-    let s = c .before .before .before .before .before .before .before .before .before .before .before in
-    let a = c .before .before .before .before .before .before .a .given in
+    let at-a = c .before .before .before .before .before .before in
+    let entry = at-a .before .before .before .before .before in
+    let a = at-a .a .given in
     let back : toZ w32 (ofZ w32 (a .0 .0)) ≡ a .0 .0 = search needs in
-    rw (a .1) (rw (toZ-ofZ (s .fits .node), back) at (c .before .before .keep-value .ensures))
+    rw (a .1) (rw (toZ-ofZ (entry .fits .node), back) at (c .before .before .keep-value .ensures))
 
 same-length-2 : tie.Need-same-length-2
 same-length-2 c = search needs
@@ -99,8 +104,9 @@ same-length-2 c = search needs
 returns-3 : tie.Need-returns-3
 unfolding eventOf meant
 returns-3 c =
-    let s = c .before .before .before .before .before .before .before .before .before .before .before in
-    rw (c .before .before .before .before .before .before .a2 .given .1) (rw (toZ-ofZ (s .fits .node)) at (c .before .before .keep-value2 .ensures))
+    let at-a2 = c .before .before .before .before .before .before in
+    let entry = at-a2 .before .before .before .before .before in
+    rw (at-a2 .a2 .given .1) (rw (toZ-ofZ (entry .fits .node)) at (c .before .before .keep-value2 .ensures))
 
 same-length-3 : tie.Need-same-length-3
 same-length-3 c = search needs
@@ -108,16 +114,18 @@ same-length-3 c = search needs
 returns-4 : tie.Need-returns-4
 unfolding eventOf meant
 returns-4 c =
-    let s = c .before .before .before .before .before .before .before .before .before .before .before in
-    let a = c .before .before .before .before .before .before .a3 .given in
-    let w = rw (a .1) at (s .pre .3) in
-    rw (a .1) (rw (toZ-ofZ (s .fits .node), take-take (a .0 .0) 256 (s .args .store .now) (w .0)) at (c .before .before .keep-value3 .ensures))
+    let at-a3 = c .before .before .before .before .before .before in
+    let entry = at-a3 .before .before .before .before .before in
+    let a = at-a3 .a3 .given in
+    let w = rw (a .1) at (entry .pre .3) in
+    rw (a .1) (rw (toZ-ofZ (entry .fits .node), take-take (a .0 .0) 256 (entry .args .store .now) (w .0)) at (c .before .before .keep-value3 .ensures))
 
 returns-5 : tie.Need-returns-5
 unfolding eventOf keepEvent
 returns-5 c =
-    let s = c .before .before .before .before .before .before .before .before in
-    rw (c .before .before .before .a4 .given .1) (ap (λ (x : Tally). tallyOf x (s .args .table .now)) (c .keep-body .ensures))
+    let at-a4 = c .before .before .before in
+    let start = at-a4 .before .before .before .before .before in
+    rw (at-a4 .a4 .given .1) (ap (λ (x : Tally). tallyOf x (start .args .table .now)) (c .keep-body .ensures))
 
 returns-6 : tie.Need-returns-6
 unfolding eventOf keepEvent
@@ -128,8 +136,9 @@ returns-6 c =
 returns-7 : tie.Need-returns-7
 unfolding eventOf keepEvent
 returns-7 c =
-    let s = c .before .before .before .before .before .before .before .before in
-    rw (c .before .before .before .a5 .given .1) (ap (λ (x : Tally). tallyOf x (s .args .table .now)) (rw (c .before .refusal-mark .ensures) at (c .mark2 .ensures)))
+    let at-a5 = c .before .before .before in
+    let start = at-a5 .before .before .before .before .before in
+    rw (at-a5 .a5 .given .1) (ap (λ (x : Tally). tallyOf x (start .args .table .now)) (rw (c .before .refusal-mark .ensures) at (c .mark2 .ensures)))
 
 pub keep-answer-spec : {M : Type 1} → statement M
 keep-answer-spec =

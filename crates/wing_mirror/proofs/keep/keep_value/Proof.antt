@@ -31,12 +31,14 @@ same-length c = search needs
 
 returns : tie.Need-returns
 returns c =
-    let s = c .before .before .before .before .before .before .before .before .before .before .before .before .before in
-    let l = c .before .before .before .before .before .before .before .before .before .lay-record in
-    let p = c .before .before .before .before .put in
-    let v = meant (s .args .value) (s .args .string .now) in
-    let e = l .ensures ∙ ap (λ (x : ℤ). recordOf (entry x v)) (toZ-ofZ (s .fits .node)) in
-    rw (c .mark .ensures) (stored-kept (s .args .node) v (table (s .args .table .now) (s .args .t .count)) (s .args .t .counts) (l .last .0) (p .result) (p .last .0) e (p .ensures) (c .before .if1 .taken))
+    let at-put = c .before .before .before .before in
+    let at-lay-record = at-put .before .before .before .before .before in
+    let start = at-lay-record .before .before .before .before in
+    let l = at-lay-record .lay-record in
+    let p = at-put .put in
+    let v = meant (start .args .value) (start .args .string .now) in
+    let e = l .ensures ∙ ap (λ (x : ℤ). recordOf (entry x v)) (toZ-ofZ (start .fits .node)) in
+    rw (c .mark .ensures) (stored-kept (start .args .node) v (table (start .args .table .now) (start .args .t .count)) (start .args .t .counts) (l .last .0) (p .result) (p .last .0) e (p .ensures) (c .before .if1 .taken))
 
 mark-requires-2 : tie.Need-mark-requires-2
 mark-requires-2 c κs = search needs
@@ -46,12 +48,14 @@ same-length-2 c = search needs
 
 returns-2 : tie.Need-returns-2
 returns-2 c =
-    let s = c .before .before .before .before .before .before .before .before .before .before .before .before .before in
-    let l = c .before .before .before .before .before .before .before .before .before .lay-record in
-    let p = c .before .before .before .before .put in
-    let v = meant (s .args .value) (s .args .string .now) in
-    let e = l .ensures ∙ ap (λ (x : ℤ). recordOf (entry x v)) (toZ-ofZ (s .fits .node)) in
-    rw (c .mark2 .ensures) (unplaced-kept (s .args .node) v (table (s .args .table .now) (s .args .t .count)) (s .args .t .counts) (l .last .0) (p .result) (p .last .0) e (p .ensures) (c .before .if1 .left))
+    let at-put = c .before .before .before .before in
+    let at-lay-record = at-put .before .before .before .before .before in
+    let start = at-lay-record .before .before .before .before in
+    let l = at-lay-record .lay-record in
+    let p = at-put .put in
+    let v = meant (start .args .value) (start .args .string .now) in
+    let e = l .ensures ∙ ap (λ (x : ℤ). recordOf (entry x v)) (toZ-ofZ (start .fits .node)) in
+    rw (c .mark2 .ensures) (unplaced-kept (start .args .node) v (table (start .args .table .now) (start .args .t .count)) (start .args .t .counts) (l .last .0) (p .result) (p .last .0) e (p .ensures) (c .before .if1 .left))
 
 pub keep-value-spec : {M : Type 1} → statement M
 keep-value-spec =

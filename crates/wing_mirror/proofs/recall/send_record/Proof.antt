@@ -31,14 +31,17 @@ same-length c = search needs
 
 returns : tie.Need-returns
 returns c =
-    let s = c .before .before .before .before .before .before .before .before .before .before in
-    let a = s .args in
-    let i = c .before .before .before .before .before .before .before .i32-at in
-    let x = c .before .before .before .i32-at2 in
+    let at-i32-at2 = c .before .before .before in
+    let at-if1 = at-i32-at2 .before .before in
+    let at-i32-at = at-if1 .before .before in
+    let entry = at-i32-at .before .before .before in
+    let a = entry .args in
+    let i = at-i32-at .i32-at in
+    let x = at-i32-at2 .i32-at2 in
     let back-i : toZ w32 (ofZ w32 (i .result)) ≡ i .result = search needs in
     let back-x : toZ w32 (ofZ w32 (x .result)) ≡ x .result = search needs in
     rw (back-i, back-x) at (c .before .before .set-int .ensures)
-    ∙ ap (λ (e : Entry). writeOf (setOf e) (a .out .now)) (integer-entry (a .rec .now) (s .pre .0) (i .result) (i .ensures) (x .result) (c .before .before .before .before .before .if1 .taken) (x .ensures))
+    ∙ ap (λ (e : Entry). writeOf (setOf e) (a .out .now)) (integer-entry (a .rec .now) (entry .pre .0) (i .result) (i .ensures) (x .result) (at-if1 .if1 .taken) (x .ensures))
 
 shared-slice-read-if2 : tie.Need-shared-slice-read-if2
 shared-slice-read-if2 c = search needs
@@ -54,13 +57,17 @@ same-length-2 c = search needs
 
 returns-2 : tie.Need-returns-2
 returns-2 c =
-    let s = c .before .before .before .before .before .before .before .before .before .before .before .before in
-    let a = s .args in
-    let i = c .before .before .before .before .before .before .before .before .before .i32-at in
-    let x = c .before .before .before .u32-at in
+    let at-u32-at = c .before .before .before in
+    let at-if2 = at-u32-at .before .before in
+    let at-if1 = at-if2 .before .before in
+    let at-i32-at = at-if1 .before .before in
+    let entry = at-i32-at .before .before .before in
+    let a = entry .args in
+    let i = at-i32-at .i32-at in
+    let x = at-u32-at .u32-at in
     let back-i : toZ w32 (ofZ w32 (i .result)) ≡ i .result = search needs in
     rw back-i at (c .before .before .set-float .ensures)
-    ∙ ap (λ (e : Entry). writeOf (setOf e) (a .out .now)) (float-entry (a .rec .now) (s .pre .0) (i .result) (i .ensures) (x .result) (c .before .before .before .before .before .before .before .if1 .left) (c .before .before .before .before .before .if2 .taken) (x .ensures))
+    ∙ ap (λ (e : Entry). writeOf (setOf e) (a .out .now)) (float-entry (a .rec .now) (entry .pre .0) (i .result) (i .ensures) (x .result) (at-if1 .if1 .left) (at-if2 .if2 .taken) (x .ensures))
 
 u16-at-requires : tie.Need-u16-at-requires
 u16-at-requires c κs = search needs
@@ -79,9 +86,10 @@ part-set-string-start c = search needs
 
 part-set-string-end : tie.Need-part-set-string-end
 part-set-string-end c =
-    let s = c .before .before .before .before .before .before .before .before .before in
-    let t = text (s .args .rec .now) (s .pre .0) (s .pre .1) (c .before .before .before .before .if1 .left) (c .before .before .if2 .left) in
-    omega (arith, t .0, c .before .u16-at .ensures, field-whole 2 (s .args .rec .now) 6 (omega arith))
+    let at-if1 = c .before .before .before .before in
+    let start = at-if1 .before .before .before .before .before in
+    let t = text (start .args .rec .now) (start .pre .0) (start .pre .1) (at-if1 .if1 .left) (c .before .before .if2 .left) in
+    omega (arith, t .0, c .before .u16-at .ensures, field-whole 2 (start .args .rec .now) 6 (omega arith))
 
 set-string-requires : tie.Need-set-string-requires
 set-string-requires c κs = search needs
@@ -91,14 +99,18 @@ same-length-3 c = search needs
 
 returns-3 : tie.Need-returns-3
 returns-3 c =
-    let s = c .before .before .before .before .before .before .before .before .before .before .before .before .before in
-    let a = s .args in
-    let i = c .before .before .before .before .before .before .before .before .before .before .i32-at in
-    let n = c .before .before .before .before .before .u16-at in
+    let at-u16-at = c .before .before .before .before .before in
+    let at-if2 = at-u16-at .before in
+    let at-if1 = at-if2 .before .before in
+    let at-i32-at = at-if1 .before .before in
+    let entry = at-i32-at .before .before .before in
+    let a = entry .args in
+    let i = at-i32-at .i32-at in
+    let n = at-u16-at .u16-at in
     let back-i : toZ w32 (ofZ w32 (i .result)) ≡ i .result = search needs in
     let z : 8 + n .result - 8 ≡ n .result = omega arith in
     rw (back-i, z) at (c .before .before .set-string .ensures)
-    ∙ string-order (a .rec .now) (s .pre .0) (s .pre .1) (i .result) (i .ensures) (n .result) (c .before .before .before .before .before .before .before .before .if1 .left) (c .before .before .before .before .before .before .if2 .left) (n .ensures) (a .out .now)
+    ∙ string-order (a .rec .now) (entry .pre .0) (entry .pre .1) (i .result) (i .ensures) (n .result) (at-if1 .if1 .left) (at-if2 .if2 .left) (n .ensures) (a .out .now)
 
 pub send-record-spec : {M : Type 1} → statement M
 send-record-spec =

@@ -51,12 +51,17 @@ same-length c = search needs
 returns : tie.Need-returns
 unfolding kindOf payloadOf meant
 returns c =
-    let a = c .before .before .before .before .before .before .before .before .before .before .before .before .before .before .before .before .before .before .args in
-    let v = c .before .before .before .before .before .before .value .given in
-    let b : c .before .before .before .before .before .before .before .before .before .before .put-i32 .last .0 ≡ sets (c .before .before .before .before .before .before .before .before .before .before .before .before .before .before .clear .last .0) 0 (bytesOf 4 (unsigned 31 (a .id))) = field-sets 4 (unsigned 31 (a .id)) 0 (c .before .before .before .before .before .before .before .before .before .before .before .before .before .before .clear .last .0) _ _ (omega arith) (omega (arith, c .before .before .before .before .before .before .before .before .before .before .before .before .before .before .clear .kept .0)) (c .before .before .before .before .before .before .before .before .before .before .put-i32 .ensures ∙ ap (λ (x : ℤ). putAt (bytesOf 4 (unsigned 31 x)) 0 (c .before .before .before .before .before .before .before .before .before .before .before .before .before .before .clear .last .0)) (toZ-ofZ (c .before .before .before .before .before .before .before .before .before .before .before .before .before .before .before .before .before .before .fits .id))) in
+    let at-of-i32 = c .before .before .before in
+    let at-value = at-of-i32 .before .before .before in
+    let at-put-i32 = at-value .before .before .before .before in
+    let at-clear = at-put-i32 .before .before .before .before in
+    let start = at-clear .before .before .before .before in
+    let a = start .args in
+    let v = at-value .value .given in
+    let b : at-put-i32 .put-i32 .last .0 ≡ sets (at-clear .clear .last .0) 0 (bytesOf 4 (unsigned 31 (a .id))) = field-sets 4 (unsigned 31 (a .id)) 0 (at-clear .clear .last .0) _ _ (omega arith) (omega (arith, at-clear .clear .kept .0)) (at-put-i32 .put-i32 .ensures ∙ ap (λ (x : ℤ). putAt (bytesOf 4 (unsigned 31 x)) 0 (at-clear .clear .last .0)) (toZ-ofZ (start .fits .id))) in
     let x = v .0 .0 in
     let back : toZ w32 (ofZ w32 x) ≡ x = search needs in
-    record-laid (a .id) (integer x) (a .out .now) (c .before .before .before .before .before .before .before .before .before .before .before .before .before .before .clear .last .0) (c .before .before .before .before .before .before .before .before .before .before .put-i32 .last .0) _ (c .before .before .before .before .before .before .before .before .before .before .before .before .before .before .before .before .before .before .pre .0) (c .before .before .before .before .before .before .before .before .before .before .before .before .before .before .clear .ensures) b (c .before .before .lay-number .ensures ∙ ap (λ (u : ℕ). laidFrom (c .before .before .before .before .before .before .before .before .before .before .put-i32 .last .0) 0 (bytesOf 4 u)) (c .before .before .before .of-i32 .ensures ∙ ap (unsigned 31) back))
+    record-laid (a .id) (integer x) (a .out .now) (at-clear .clear .last .0) (at-put-i32 .put-i32 .last .0) _ (start .pre .0) (at-clear .clear .ensures) b (c .before .before .lay-number .ensures ∙ ap (λ (u : ℕ). laidFrom (at-put-i32 .put-i32 .last .0) 0 (bytesOf 4 u)) (at-of-i32 .of-i32 .ensures ∙ ap (unsigned 31) back))
     ∙ ap (λ (w : NodeValue). recordOf (entry (a .id) w)) (simp (v .1))
 
 same-length-2 : tie.Need-same-length-2
@@ -65,10 +70,14 @@ same-length-2 c = search needs
 returns-2 : tie.Need-returns-2
 unfolding kindOf payloadOf meant
 returns-2 c =
-    let a = c .before .before .before .before .before .before .before .before .before .before .before .before .before .before .before .before .before .args in
-    let v = c .before .before .before .before .before .value2 .given in
-    let b : c .before .before .before .before .before .before .before .before .before .put-i32 .last .0 ≡ sets (c .before .before .before .before .before .before .before .before .before .before .before .before .before .clear .last .0) 0 (bytesOf 4 (unsigned 31 (a .id))) = field-sets 4 (unsigned 31 (a .id)) 0 (c .before .before .before .before .before .before .before .before .before .before .before .before .before .clear .last .0) _ _ (omega arith) (omega (arith, c .before .before .before .before .before .before .before .before .before .before .before .before .before .clear .kept .0)) (c .before .before .before .before .before .before .before .before .before .put-i32 .ensures ∙ ap (λ (x : ℤ). putAt (bytesOf 4 (unsigned 31 x)) 0 (c .before .before .before .before .before .before .before .before .before .before .before .before .before .clear .last .0)) (toZ-ofZ (c .before .before .before .before .before .before .before .before .before .before .before .before .before .before .before .before .before .fits .id))) in
-    record-laid (a .id) (float (v .0 .0)) (a .out .now) (c .before .before .before .before .before .before .before .before .before .before .before .before .before .clear .last .0) (c .before .before .before .before .before .before .before .before .before .put-i32 .last .0) _ (c .before .before .before .before .before .before .before .before .before .before .before .before .before .before .before .before .before .pre .0) (c .before .before .before .before .before .before .before .before .before .before .before .before .before .clear .ensures) b (c .before .before .lay-number2 .ensures)
+    let at-value2 = c .before .before .before .before .before in
+    let at-put-i32 = at-value2 .before .before .before .before in
+    let at-clear = at-put-i32 .before .before .before .before in
+    let start = at-clear .before .before .before .before in
+    let a = start .args in
+    let v = at-value2 .value2 .given in
+    let b : at-put-i32 .put-i32 .last .0 ≡ sets (at-clear .clear .last .0) 0 (bytesOf 4 (unsigned 31 (a .id))) = field-sets 4 (unsigned 31 (a .id)) 0 (at-clear .clear .last .0) _ _ (omega arith) (omega (arith, at-clear .clear .kept .0)) (at-put-i32 .put-i32 .ensures ∙ ap (λ (x : ℤ). putAt (bytesOf 4 (unsigned 31 x)) 0 (at-clear .clear .last .0)) (toZ-ofZ (start .fits .id))) in
+    record-laid (a .id) (float (v .0 .0)) (a .out .now) (at-clear .clear .last .0) (at-put-i32 .put-i32 .last .0) _ (start .pre .0) (at-clear .clear .ensures) b (c .before .before .lay-number2 .ensures)
     ∙ ap (λ (w : NodeValue). recordOf (entry (a .id) w)) (simp (v .1))
 
 same-length-3 : tie.Need-same-length-3
@@ -77,10 +86,14 @@ same-length-3 c = search needs
 returns-3 : tie.Need-returns-3
 unfolding kindOf payloadOf meant
 returns-3 c =
-    let a = c .before .before .before .before .before .before .before .before .before .before .before .before .before .before .before .before .before .args in
-    let v = c .before .before .before .before .before .value3 .given in
-    let b : c .before .before .before .before .before .before .before .before .before .put-i32 .last .0 ≡ sets (c .before .before .before .before .before .before .before .before .before .before .before .before .before .clear .last .0) 0 (bytesOf 4 (unsigned 31 (a .id))) = field-sets 4 (unsigned 31 (a .id)) 0 (c .before .before .before .before .before .before .before .before .before .before .before .before .before .clear .last .0) _ _ (omega arith) (omega (arith, c .before .before .before .before .before .before .before .before .before .before .before .before .before .clear .kept .0)) (c .before .before .before .before .before .before .before .before .before .put-i32 .ensures ∙ ap (λ (x : ℤ). putAt (bytesOf 4 (unsigned 31 x)) 0 (c .before .before .before .before .before .before .before .before .before .before .before .before .before .clear .last .0)) (toZ-ofZ (c .before .before .before .before .before .before .before .before .before .before .before .before .before .before .before .before .before .fits .id))) in
-    record-laid (a .id) (string (take (v .0 .0) (a .string .now))) (a .out .now) (c .before .before .before .before .before .before .before .before .before .before .before .before .before .clear .last .0) (c .before .before .before .before .before .before .before .before .before .put-i32 .last .0) _ (c .before .before .before .before .before .before .before .before .before .before .before .before .before .before .before .before .before .pre .0) (c .before .before .before .before .before .before .before .before .before .before .before .before .before .clear .ensures) b (c .before .before .lay-string .ensures)
+    let at-value3 = c .before .before .before .before .before in
+    let at-put-i32 = at-value3 .before .before .before .before in
+    let at-clear = at-put-i32 .before .before .before .before in
+    let start = at-clear .before .before .before .before in
+    let a = start .args in
+    let v = at-value3 .value3 .given in
+    let b : at-put-i32 .put-i32 .last .0 ≡ sets (at-clear .clear .last .0) 0 (bytesOf 4 (unsigned 31 (a .id))) = field-sets 4 (unsigned 31 (a .id)) 0 (at-clear .clear .last .0) _ _ (omega arith) (omega (arith, at-clear .clear .kept .0)) (at-put-i32 .put-i32 .ensures ∙ ap (λ (x : ℤ). putAt (bytesOf 4 (unsigned 31 x)) 0 (at-clear .clear .last .0)) (toZ-ofZ (start .fits .id))) in
+    record-laid (a .id) (string (take (v .0 .0) (a .string .now))) (a .out .now) (at-clear .clear .last .0) (at-put-i32 .put-i32 .last .0) _ (start .pre .0) (at-clear .clear .ensures) b (c .before .before .lay-string .ensures)
     ∙ ap (λ (w : NodeValue). recordOf (entry (a .id) w)) (simp (v .1))
 
 pub lay-record-spec : {M : Type 1} → statement M

@@ -26,17 +26,26 @@ slice-aggregate-lay c = sym (length-take-le _ _ (omega (arith, c .before .before
 
 lay-requires : tie.Need-lay-requires
 lay-requires c κs =
-    let s = c .before .before .before .before .before .before .before .before .before .args .string .now in
-    let n = c .before .before .before .before .before .before .least .result in
-    omega (arith, c .before .before .before .before .before .before .least .ensures, length-take n s, c .before .before .before .before .put-u16 .kept .0, length-set (c .before .before .before .before .before .before .before .before .before .args .out .now) 4 2)
+    let at-put-u16 = c .before .before .before .before in
+    let at-least = at-put-u16 .before .before in
+    let start = at-least .before .before .before in
+    let s = start .args .string .now in
+    let n = at-least .least .result in
+    omega (arith, at-least .least .ensures, length-take n s, at-put-u16 .put-u16 .kept .0, length-set (start .args .out .now) 4 2)
 
 same-length : tie.Need-same-length
-same-length c = omega (arith, c .before .before .lay .kept .0, c .before .before .before .before .before .before .before .put-u16 .kept .0, length-set (c .before .before .before .before .before .before .before .before .before .before .before .before .args .out .now) 4 2)
+same-length c =
+    let at-before = c .before .before .before .before .before .before .before in
+    let entry = at-before .before .before .before .before .before in
+    omega (arith, c .before .before .lay .kept .0, at-before .put-u16 .kept .0, length-set (entry .args .out .now) 4 2)
 
 returns : tie.Need-returns
 returns c =
-    let o = c .before .before .before .before .before .before .before .before .before .before .before .before .args .out .now in
-    string-laid o (c .before .before .before .before .before .before .before .put-u16 .last .0) _ (c .before .before .before .before .before .before .before .before .before .before .before .before .args .string .now) (c .before .before .before .before .before .before .before .before .before .before .before .before .args .n) (c .before .before .before .before .before .before .before .before .before .least .result) (c .before .before .before .before .before .before .before .before .before .least .ensures) (field-sets 2 (c .before .before .before .before .before .before .before .before .before .least .result) 6 (set o 4 2) _ _ (omega arith) (omega (arith, length-set o 4 2)) (c .before .before .before .before .before .before .before .put-u16 .ensures)) (c .before .before .lay .ensures)
+    let at-before = c .before .before .before .before .before .before .before in
+    let at-least = at-before .before .before in
+    let entry = at-least .before .before .before in
+    let o = entry .args .out .now in
+    string-laid o (at-before .put-u16 .last .0) _ (entry .args .string .now) (entry .args .n) (at-least .least .result) (at-least .least .ensures) (field-sets 2 (at-least .least .result) 6 (set o 4 2) _ _ (omega arith) (omega (arith, length-set o 4 2)) (at-before .put-u16 .ensures)) (c .before .before .lay .ensures)
 
 pub lay-string-spec : {M : Type 1} → statement M
 lay-string-spec =

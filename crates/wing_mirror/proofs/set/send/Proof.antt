@@ -50,11 +50,13 @@ same-length c = search needs
 returns : tie.Need-returns
 unfolding meant
 returns c =
-    let a = c .before .before .before .before .before .before .before .before .before .args in
-    let v = c .before .before .before .before .before .value .given in
+    let at-value = c .before .before .before .before .before in
+    let start = at-value .before .before .before .before in
+    let a = start .args in
+    let v = at-value .value .given in
     let x = v .0 .0 in
     let back : toZ w32 (ofZ w32 x) ≡ x = search needs in
-    rw (toZ-ofZ (c .before .before .before .before .before .before .before .before .before .fits .id), back) at (c .before .before .set-int .ensures) ∙ ap (λ (w : NodeValue). writeOf (setBytes (a .id) w) (a .out .now)) (simp (v .1))
+    rw (toZ-ofZ (start .fits .id), back) at (c .before .before .set-int .ensures) ∙ ap (λ (w : NodeValue). writeOf (setBytes (a .id) w) (a .out .now)) (simp (v .1))
 
 same-length-2 : tie.Need-same-length-2
 same-length-2 c = search needs
@@ -62,9 +64,11 @@ same-length-2 c = search needs
 returns-2 : tie.Need-returns-2
 unfolding meant
 returns-2 c =
-    let a = c .before .before .before .before .before .before .before .before .before .args in
-    let v = c .before .before .before .before .before .value2 .given in
-    rw (toZ-ofZ (c .before .before .before .before .before .before .before .before .before .fits .id)) at (c .before .before .set-float .ensures) ∙ ap (λ (w : NodeValue). writeOf (setBytes (a .id) w) (a .out .now)) (simp (v .1))
+    let at-value2 = c .before .before .before .before .before in
+    let start = at-value2 .before .before .before .before in
+    let a = start .args in
+    let v = at-value2 .value2 .given in
+    rw (toZ-ofZ (start .fits .id)) at (c .before .before .set-float .ensures) ∙ ap (λ (w : NodeValue). writeOf (setBytes (a .id) w) (a .out .now)) (simp (v .1))
 
 same-length-3 : tie.Need-same-length-3
 same-length-3 c = search needs
@@ -72,12 +76,15 @@ same-length-3 c = search needs
 returns-3 : tie.Need-returns-3
 unfolding meant
 returns-3 c =
-    let a = c .before .before .before .before .before .before .before .before .before .before .before .args in
-    let v = c .before .before .before .before .before .before .before .value3 .given in
+    let at-least = c .before .before .before .before .before in
+    let at-value3 = at-least .before .before in
+    let entry = at-value3 .before .before .before .before in
+    let a = entry .args in
+    let v = at-value3 .value3 .given in
     let n = v .0 .0 in
     let same : string (take n (a .string .now)) ≡ meant (a .value) (a .string .now) = simp (v .1) in
-    let good : storable (string (take n (a .string .now))) ≡ true = rw same (c .before .before .before .before .before .before .before .before .before .before .before .pre) in
-    rw (toZ-ofZ (c .before .before .before .before .before .before .before .before .before .before .before .fits .id)) at (c .before .before .set-string .ensures) ∙ string-sent (a .id) n (c .before .before .before .before .before .least .result) (a .string .now) (a .out .now) (c .before .before .before .before .before .least .ensures) good ∙ ap (λ (w : NodeValue). writeOf (setBytes (a .id) w) (a .out .now)) same
+    let good : storable (string (take n (a .string .now))) ≡ true = rw same (entry .pre) in
+    rw (toZ-ofZ (entry .fits .id)) at (c .before .before .set-string .ensures) ∙ string-sent (a .id) n (at-least .least .result) (a .string .now) (a .out .now) (at-least .least .ensures) good ∙ ap (λ (w : NodeValue). writeOf (setBytes (a .id) w) (a .out .now)) same
 
 pub send-spec : {M : Type 1} → statement M
 send-spec =

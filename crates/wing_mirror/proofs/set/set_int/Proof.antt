@@ -28,7 +28,10 @@ same-length-2 c = search needs
 
 returns : tie.Need-returns
 unfolding meant
-returns c = rw (toZ-ofZ (c .before .before .before .before .before .before .before .before .before .before .before .before .before .fits .id), toZ-ofZ (c .before .before .before .before .before .before .before .before .before .before .before .before .before .fits .value)) at (c .before .before .before .before .set-value .ensures)
+returns c =
+    let at-set-value = c .before .before .before .before in
+    let entry = at-set-value .before .before .before .before .before .before .before .before .before in
+    rw (toZ-ofZ (entry .fits .id), toZ-ofZ (entry .fits .value)) at (at-set-value .set-value .ensures)
 
 refused-requires : tie.Need-refused-requires
 refused-requires c κs = search needs

@@ -24,8 +24,13 @@ cast-t14 c = search needs
 set-value-requires : tie.Need-set-value-requires
 unfolding meant
 set-value-requires c κs =
-    let v = c .before .before .before .before .before .before .before .before .before .before .before .args .value .now in
-    (sym (c .before .before .before .before .before .before .is-usable .ensures) ∙ c .before .before .before .before .before .if1 .taken, rw (take-all (length v) v (omega arith)) (storable-string v (c .before .before .before .before .if2 .taken) (sym (c .before .before .before .is-utf8 .ensures .0) ∙ c .before .before .if3 .taken)), c .before .before .before .before .if2 .taken)
+    let at-is-utf8 = c .before .before .before in
+    let at-if2 = at-is-utf8 .before in
+    let at-if1 = at-if2 .before in
+    let at-is-usable = at-if1 .before in
+    let entry = at-is-usable .before .before .before .before .before in
+    let v = entry .args .value .now in
+    (sym (at-is-usable .is-usable .ensures) ∙ at-if1 .if1 .taken, rw (take-all (length v) v (omega arith)) (storable-string v (at-if2 .if2 .taken) (sym (at-is-utf8 .is-utf8 .ensures .0) ∙ c .before .before .if3 .taken)), at-if2 .if2 .taken)
 
 same-length : tie.Need-same-length
 same-length c = search needs
@@ -36,8 +41,11 @@ same-length-2 c = search needs
 returns : tie.Need-returns
 unfolding meant
 returns c =
-    let v = c .before .before .before .before .before .before .before .before .before .before .before .before .before .before .before .before .args .value .now in
-    rw (toZ-ofZ (c .before .before .before .before .before .before .before .before .before .before .before .before .before .before .before .before .fits .id), take-all (length v) v (omega arith)) at (c .before .before .before .before .set-value .ensures)
+    let at-set-value = c .before .before .before .before in
+    let at-is-usable = at-set-value .before .before .before .before .before .before .before in
+    let entry = at-is-usable .before .before .before .before .before in
+    let v = entry .args .value .now in
+    rw (toZ-ofZ (entry .fits .id), take-all (length v) v (omega arith)) at (at-set-value .set-value .ensures)
 
 refused-requires : tie.Need-refused-requires
 refused-requires c κs = search needs
@@ -47,8 +55,12 @@ same-length-3 c = search needs
 
 returns-2 : tie.Need-returns-2
 returns-2 c =
-    let a = c .before .before .before .before .before .before .before .before .before .before .args in
-    rw (c .refused .ensures) (bad-string (a .id) (a .value .now) (table (a .table .now) (a .count)) (a .out .now) (sym (c .before .before .before .before .before .is-usable .ensures) ∙ c .before .before .before .before .if1 .taken) (c .before .before .before .if2 .taken) (sym (c .before .before .is-utf8 .ensures .0) ∙ c .before .if3 .left))
+    let at-if2 = c .before .before .before in
+    let at-if1 = at-if2 .before in
+    let at-is-usable = at-if1 .before in
+    let entry = at-is-usable .before .before .before .before .before in
+    let a = entry .args in
+    rw (c .refused .ensures) (bad-string (a .id) (a .value .now) (table (a .table .now) (a .count)) (a .out .now) (sym (at-is-usable .is-usable .ensures) ∙ at-if1 .if1 .taken) (at-if2 .if2 .taken) (sym (c .before .before .is-utf8 .ensures .0) ∙ c .before .if3 .left))
 
 refused-requires-2 : tie.Need-refused-requires-2
 refused-requires-2 c κs = search needs
@@ -58,8 +70,10 @@ same-length-4 c = search needs
 
 returns-3 : tie.Need-returns-3
 returns-3 c =
-    let a = c .before .before .before .before .before .before .before .before .args in
-    rw (c .refused2 .ensures) (long-string (a .id) (a .value .now) (table (a .table .now) (a .count)) (a .out .now) (sym (c .before .before .before .is-usable .ensures) ∙ c .before .before .if1 .taken) (c .before .if2 .left))
+    let at-is-usable = c .before .before .before in
+    let start = at-is-usable .before .before .before .before .before in
+    let a = start .args in
+    rw (c .refused2 .ensures) (long-string (a .id) (a .value .now) (table (a .table .now) (a .count)) (a .out .now) (sym (at-is-usable .is-usable .ensures) ∙ c .before .before .if1 .taken) (c .before .if2 .left))
 
 refused-requires-3 : tie.Need-refused-requires-3
 refused-requires-3 c κs = search needs
@@ -69,7 +83,8 @@ same-length-5 c = search needs
 
 returns-4 : tie.Need-returns-4
 returns-4 c =
-    let a = c .before .before .before .before .before .before .before .args in
+    let start = c .before .before .before .before .before .before .before in
+    let a = start .args in
     rw (c .refused3 .ensures) (unusable (a .id) (string (a .value .now)) (table (a .table .now) (a .count)) (a .out .now) (sym (c .before .before .is-usable .ensures) ∙ c .before .if1 .left))
 
 pub set-string-spec : {M : Type 1} → statement M

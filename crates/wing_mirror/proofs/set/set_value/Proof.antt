@@ -37,10 +37,14 @@ same-length-2 c = search needs
 
 returns : tie.Need-returns
 returns c =
-    let s = c .before .before .before .before .before .before .before .before .before .before .before .before .before .before .before .before .before .before .before in
-    let a = s .args in
-    let z = toZ-ofZ (s .fits .id) in
-    kept-so (a .id) (meant (a .value) (a .string .now)) (table (a .table .now) (a .count)) (a .out .now) (s .pre .0) (s .pre .1) (c .before .before .before .before .before .before .before .before .before .before .before .before .before .before .lay-record .last .0) (rw z at (c .before .before .before .before .before .before .before .before .before .before .before .before .before .before .lay-record .ensures)) (c .before .before .before .before .before .before .before .before .before .before .has-room .result) (c .before .before .before .before .before .before .before .before .before .before .has-room .ensures) (c .before .before .before .before .before .before .before .before .before .if1 .taken) (c .before .before .before .before .before .before .before .send .result) (c .before .before .before .before .before .before .before .send .last .0) (rw z at (c .before .before .before .before .before .before .before .send .ensures)) (c .before .before .keep-written .result) (c .before .before .keep-written .last .0) (c .before .before .keep-written .ensures)
+    let at-before = c .before .before .before .before .before .before .before in
+    let at-if1 = at-before .before .before in
+    let at-has-room = at-if1 .before in
+    let at-lay-record = at-has-room .before .before .before .before in
+    let entry = at-lay-record .before .before .before .before .before in
+    let a = entry .args in
+    let z = toZ-ofZ (entry .fits .id) in
+    kept-so (a .id) (meant (a .value) (a .string .now)) (table (a .table .now) (a .count)) (a .out .now) (entry .pre .0) (entry .pre .1) (at-lay-record .lay-record .last .0) (rw z at (at-lay-record .lay-record .ensures)) (at-has-room .has-room .result) (at-has-room .has-room .ensures) (at-if1 .if1 .taken) (at-before .send .result) (at-before .send .last .0) (rw z at (at-before .send .ensures)) (c .before .before .keep-written .result) (c .before .before .keep-written .last .0) (c .before .before .keep-written .ensures)
 
 refused-requires : tie.Need-refused-requires
 refused-requires c κs = search needs
@@ -50,9 +54,10 @@ same-length-3 c = search needs
 
 returns-2 : tie.Need-returns-2
 returns-2 c =
-    let s = c .before .before .before .before .before .before .before .before .before .before .before in
-    let a = s .args in
-    rw (c .refused .ensures) (no-room (a .id) (meant (a .value) (a .string .now)) (table (a .table .now) (a .count)) (a .out .now) (s .pre .0) (s .pre .1) (c .before .before .before .before .before .before .lay-record .last .0) (rw (toZ-ofZ (s .fits .id)) at (c .before .before .before .before .before .before .lay-record .ensures)) (c .before .before .has-room .result) (c .before .before .has-room .ensures) (c .before .if1 .left))
+    let at-lay-record = c .before .before .before .before .before .before in
+    let entry = at-lay-record .before .before .before .before .before in
+    let a = entry .args in
+    rw (c .refused .ensures) (no-room (a .id) (meant (a .value) (a .string .now)) (table (a .table .now) (a .count)) (a .out .now) (entry .pre .0) (entry .pre .1) (at-lay-record .lay-record .last .0) (rw (toZ-ofZ (entry .fits .id)) at (at-lay-record .lay-record .ensures)) (c .before .before .has-room .result) (c .before .before .has-room .ensures) (c .before .if1 .left))
 
 pub set-value-spec : {M : Type 1} → statement M
 set-value-spec =
