@@ -1,5 +1,5 @@
 -- What is promised of the mirror's calls, as specs/Mirror states it.
-use Prim.Native.Nat.{ℕ, _<_, _≤_}
+use Prim.Native.Nat.{ℕ}
 use mathlib.Core.Bool.{Bool, true, false, not}
 use mathlib.Core.Path.{_≡_, refl, sym, _∙_, ap}
 use mathlib.Core.Logic.{_↔_}
@@ -16,13 +16,13 @@ use Rattle.wing_node.specs.Utf8.{utf8}
 use Rattle.wing_node.specs.Value.{NodeValue, integer, float, string}
 use Rattle.wing_wire.specs.Range.{AreBytes}
 use Rattle.wing_wire.specs.State.{soundState}
-use Rattle.wing_wire.specs.Write.{Wrote, wrote, writeOf}
+use Rattle.wing_wire.specs.Write.{WriteEffect, writeEffect, writeOf}
 use Rattle.wing_wire.specs.Command.{setBytes}
 use Rattle.wing_wire.specs.RoundTrip.{Settable}
 use Rattle.wing_wire.specs.SetOrders.{ReadsAsSet}
 use Rattle.wing_wire.specs.Answers.{writtenResult}
 use Rattle.wing_wire.specs.declared.state.State.{State}
-use Rattle.wing_wire.specs.declared.write.Written.the-variants.{Bytes, Refused}
+use Rattle.wing_wire.specs.declared.write.Written.the-variants.{Bytes}
 use Rattle.wing_node.proofs.Branches.{branch}
 use Rattle.wing_wire.proofs.BothWays.Orders.{reads-as-set}
 use Rattle.wing_mirror.specs.Rows.{Table, Found, found, nothing}
@@ -32,7 +32,7 @@ use Rattle.wing_mirror.specs.Query.{answerOf, lookupAnswer, readOf, refusedReco
 use Rattle.wing_mirror.specs.Answers.{lookupResult, entryResult, recordResult, sameResult, feedResult}
 use Rattle.wing_mirror.specs.Call.{tooLong, notText}
 use Rattle.wing_mirror.specs.Counts.{zeroCounts}
-use Rattle.wing_mirror.specs.Mirror.{Feeding, refusedFeed, fedAll, takenFeed, mirrorFeed, Setting, refusedSet, mirrorSet}
+use Rattle.wing_mirror.specs.Mirror.{FeedEffect, fedAll, takenFeed, mirrorFeed, SetEffect, refusedSet, mirrorSet}
 use Rattle.wing_mirror.specs.Recall.{recallBytes, recallOf}
 use Rattle.wing_mirror.specs.History.{Equal, mirrorStep}
 use Rattle.wing_mirror.specs.declared.answer.Counts.{Counts}
@@ -42,8 +42,8 @@ use Rattle.wing_mirror.specs.declared.answer.Same.the-variants.{Yes, No, Refuse
 use Rattle.wing_mirror.proofs.Records.Equals.{same-decides}
 use Rattle.wing_mirror.proofs.Records.Lookups.{read-row, lookups}
 use Rattle.wing_mirror.proofs.Histories.Demand.{histories}
-use Rattle.promises.specs.Lines.{Line, _gives_, by, Answers}
-use Rattle.promises.specs.Mirror.{mirror, feedLines, setLines, recallLines, tableLines, recordLines, sameLines, FeedCall, SetCall, RecallCall, LookupCall, RecordCall, SameCall}
+use Rattle.promises.specs.Lines.{_gives_, by, Answers}
+use Rattle.promises.specs.Mirror.{mirror, setLines, tableLines, recordLines, sameLines, FeedCall, SetCall, RecallCall, LookupCall, RecordCall, SameCall}
 use Rattle.promises.proofs.Lines.{taken, line, unless, given}
 use Rattle.promises.proofs.Writers.{at-front, past-front, written-rest, command-writes}
 
@@ -63,10 +63,10 @@ feed-call s t bytes = record {
     counts : Counts
     counts = fedAll s t bytes .memo .counts
 
-    feeds : Feeding → Result Counts
+    feeds : FeedEffect → Result Counts
     feeds x = feedResult (x .answer) (x .counts)
 
-    W : Feeding → Type 0
+    W : FeedEffect → Type 0
     W x = (mirror (x .state) (x .table) ≡ mirror s t) × (x .counts ≡ zeroCounts)
 
 -- ---- set
@@ -87,7 +87,7 @@ module _ (id : ℤ) (v : NodeValue) (t : Table) (out : List ℕ) where
   bytes = setBytes id v
 
   -- what holds after each refusal and after a set that is taken
-  set-cases : (P : Setting → Type 0) → ((k : ℕ) → P (refusedSet k t out)) →
+  set-cases : (P : SetEffect → Type 0) → ((k : ℕ) → P (refusedSet k t out)) →
       (tooLong v ≡ false → notText v ≡ false → ltb (length out) (length bytes) ≡ false → (u : Table) → P (record { answer = Bytes (length bytes); out = bytes ++ drop (length bytes) out; table = u })) →
       P (mirrorSet id v t out)
   unfolding mirrorSet bytes
@@ -107,10 +107,10 @@ module _ (id : ℤ) (v : NodeValue) (t : Table) (out : List ℕ) where
       (line sets W bytes (not (fits (entry id v) t)) 6 _ _ _ refl (refl, refl)
       (line sets W bytes (ltb (length out) (length bytes)) 9 _ _ _ refl (refl, refl) (taken sets W bytes (record { answer = Bytes (length bytes); out = bytes ++ drop (length bytes) out; table = put (entry id v) t }) (ap ok (at-front bytes out)))))))
     where
-      sets : Setting → Result (List ℕ)
+      sets : SetEffect → Result (List ℕ)
       sets x = writtenResult (x .answer) (x .out)
 
-      W : Setting → Type 0
+      W : SetEffect → Type 0
       W x = (x .out ≡ out) × (x .table ≡ t)
 
   set-rest : (n : ℕ) → mirrorSet id v t out .answer ≡ Bytes n → drop n (mirrorSet id v t out .out) ≡ drop n out
@@ -118,7 +118,7 @@ module _ (id : ℤ) (v : NodeValue) (t : Table) (out : List ℕ) where
       set-cases (λ x. (n : ℕ) → x .answer ≡ Bytes n → drop n (x .out) ≡ drop n out) (λ k n e. refl)
       (λ p q d u n e. past-front bytes out n (let z : length bytes ≡ n = cc in z))
 
-  whole : ltb (length out) (length bytes) ≡ false → wrote (Bytes (length bytes)) (bytes ++ drop (length bytes) out) ≡ writeOf bytes out
+  whole : ltb (length out) (length bytes) ≡ false → writeEffect (Bytes (length bytes)) (bytes ++ drop (length bytes) out) ≡ writeOf bytes out
   unfolding writeOf
   whole d = rw d
 
@@ -139,15 +139,15 @@ unfolding recallOf writtenResult
 recall-call t out b = record {
   writes = record {
     answered = unless came W (recallBytes t) (usable t) 7 _ _ _ refl (refl, tt) (command-writes (recallBytes t) out .answered);
-    rest = branch (λ (x : Wrote). (n : ℕ) → x .answer ≡ Bytes n → drop n (x .out) ≡ drop n out) (usable t) _ _ (λ _. written-rest (recallBytes t) out) (λ _ n e. refl);
+    rest = branch (λ (x : WriteEffect). (n : ℕ) → x .answer ≡ Bytes n → drop n (x .out) ≡ drop n out) (usable t) _ _ (λ _. written-rest (recallBytes t) out) (λ _ n e. refl);
   };
   rebuilds = unfold recallOf in histories .tables t b out;
 }
   where
-    came : Wrote → Result (List ℕ)
+    came : WriteEffect → Result (List ℕ)
     came x = writtenResult (x .answer) (x .out)
 
-    W : Wrote → Type 0
+    W : WriteEffect → Type 0
     W x = (x .out ≡ out) × Unit {0}
 
 -- ---- queries

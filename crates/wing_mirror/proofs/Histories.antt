@@ -11,5 +11,5 @@ pub mod Agrees
 pub mod Bounds
 pub mod Recalls
 pub mod Rebuilt
-pub mod Asked
+pub mod Answers
 pub mod Demand

@@ -52,14 +52,14 @@ abbrev pub keep : ℤ → Answer → List ℕ → TableTally → TableTally
 keep node a s k = keepEvent node (eventOf a s s) k
 
 -- what a feed leaves
-pub record Feeding : Type 0 where
+pub record FeedEffect : Type 0 where
   pub answer : FeedAnswer
   pub counts : Counts
   pub state : State
   pub table : Table
 
 -- 01: a refused feed changes and counts nothing
-abbrev pub refusedFeed : ℕ → State → Table → Feeding
+abbrev pub refusedFeed : ℕ → State → Table → FeedEffect
 refusedFeed why s t = record { answer = FeedRefused why; counts = zeroCounts; state = s; table = t }
 
 -- 01: next until "more" (wing_wire's feedOf), each answer kept
@@ -67,11 +67,11 @@ unfoldable pub fedAll : State → Table → List ℕ → Fed TableTally
 fedAll s t bytes = feedOf keep (record { control = s .control; store = s .store; memo = tableTally t zeroCounts }) bytes
 
 -- 01: a feed that is taken: the six counts, the state and the table
-abbrev pub takenFeed : Fed TableTally → Feeding
+abbrev pub takenFeed : Fed TableTally → FeedEffect
 takenFeed x = record { answer = Taken; counts = x .memo .counts; state = record { control = x .control; store = x .store }; table = x .memo .table }
 
 -- 01: feed takes up to 65,536 bytes; 8, 7, 14
-unfoldable pub mirrorFeed : State → Table → List ℕ → Feeding
+unfoldable pub mirrorFeed : State → Table → List ℕ → FeedEffect
 mirrorFeed s t bytes =
     if (soundState s)
     (if (usable t)
@@ -80,21 +80,21 @@ mirrorFeed s t bytes =
     (refusedFeed 8 s t)
 
 -- what the call leaves, by its reply and the lent buffer
-abbrev pub feeding : FeedReply → List ℕ → Feeding
-feeding r buffer = record { answer = r .answer; counts = r .counts; state = r .state; table = table buffer (r .count) }
+abbrev pub feedEffect : FeedReply → List ℕ → FeedEffect
+feedEffect r buffer = record { answer = r .answer; counts = r .counts; state = r .state; table = table buffer (r .count) }
 
 -- what a set leaves
-pub record Setting : Type 0 where
+pub record SetEffect : Type 0 where
   pub answer : Written
   pub out : List ℕ
   pub table : Table
 
 -- 01: refused, all is as it was
-abbrev pub refusedSet : ℕ → Table → List ℕ → Setting
+abbrev pub refusedSet : ℕ → Table → List ℕ → SetEffect
 refusedSet why t out = record { answer = Refused why; out = out; table = t }
 
 -- 01: set through the mirror writes the command and stores the value; 7, 10, 1, 6, 9
-unfoldable pub mirrorSet : ℤ → NodeValue → Table → List ℕ → Setting
+unfoldable pub mirrorSet : ℤ → NodeValue → Table → List ℕ → SetEffect
 mirrorSet id v t out =
     if (not (usable t)) (refusedSet 7 t out)
     (if (tooLong v) (refusedSet 10 t out)
@@ -104,5 +104,5 @@ mirrorSet id v t out =
     (record { answer = Bytes (length (setBytes id v)); out = setBytes id v ++ drop (length (setBytes id v)) out; table = put (entry id v) t })))))
 
 -- what the call leaves, by its reply and the lent buffers
-abbrev pub setting : SetReply → List ℕ → List ℕ → Setting
-setting r out buffer = record { answer = r .answer; out = out; table = table buffer (r .count) }
+abbrev pub setEffect : SetReply → List ℕ → List ℕ → SetEffect
+setEffect r out buffer = record { answer = r .answer; out = out; table = table buffer (r .count) }

@@ -9,14 +9,14 @@ use Rattle.wing_mirror.specs.Table.{table}
 use Rattle.wing_mirror.specs.declared.store.Kept.{Kept}
 
 -- the table after a put, and whether there was a place
-pub record PutResult : Type 0 where
+pub record PutEffect : Type 0 where
   pub after : Table
   pub taken : Bool
 
 -- 01: put if its node has a record or a place is free; otherwise nothing
-unfoldable pub putOf : List ℕ → Table → PutResult
+unfoldable pub putOf : List ℕ → Table → PutEffect
 putOf r t = if (takes width keyOf r t) (record { after = store width keyOf r t; taken = true }) (record { after = t; taken = false })
 
 -- the same, by what the code returns and the lent buffer
-abbrev pub putResult : Kept → List ℕ → PutResult
-putResult k buffer = record { after = table buffer (k .count); taken = k .taken }
+abbrev pub putEffect : Kept → List ℕ → PutEffect
+putEffect k buffer = record { after = table buffer (k .count); taken = k .taken }

@@ -2,7 +2,7 @@
 use Prim.Native.Nat.{ℕ}
 use mathlib.Core.List.{List, _∷_, map}
 use Rattle.wing_node.specs.Bool.{if}
-use Rattle.wing_wire.specs.Write.{Wrote, wrote, writeOf}
+use Rattle.wing_wire.specs.Write.{WriteEffect, writeEffect, writeOf}
 use Rattle.wing_wire.specs.Command.{setBytes}
 use Rattle.wing_wire.specs.declared.write.Written.the-variants.{Refused}
 use Rattle.wing_mirror.specs.Rows.{Table, joined}
@@ -18,5 +18,5 @@ unfoldable pub recallBytes : Table → List ℕ
 recallBytes t = 0xdf ∷ 0xd1 ∷ joined (map setOf (map entryIn (rows t)))
 
 -- 01: 7, then 9 with the output as it was; output bytes past what is written are not altered
-unfoldable pub recallOf : Table → List ℕ → Wrote
-recallOf t out = if (usable t) (writeOf (recallBytes t) out) (wrote (Refused 7) out)
+unfoldable pub recallOf : Table → List ℕ → WriteEffect
+recallOf t out = if (usable t) (writeOf (recallBytes t) out) (writeEffect (Refused 7) out)

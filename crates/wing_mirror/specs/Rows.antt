@@ -86,7 +86,7 @@ module _ (w : ℕ) where
     store r t = record { buffer = laid w (insert key r (rowsOf t)) (t .buffer); count = length (insert key r (rowsOf t)) }
 
     -- what a put leaves: the records with the new one, in order; what lookup finds now; the bytes past the last record, and the buffer's length
-    pub record Stored (r : List ℕ) (t : Table) : Type 0 where
+    pub record StoreLaws (r : List ℕ) (t : Table) : Type 0 where
       pub rows : rowsOf (store r t) ≡ insert key r (rowsOf t)
       pub sorted : rising key (rowsOf (store r t)) ≡ true
       pub finds : (k : ℕ) → lookup key k (rowsOf (store r t)) ≡ if (eqb (key r) k) (found r) (lookup key k (rowsOf t))

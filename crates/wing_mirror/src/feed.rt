@@ -3,9 +3,9 @@ ghost use mathlib.Core.Path.{_≡_};
 ghost use mathlib.Core.Bool.{true};
 ghost use Prim.Native.Nat.{_≤_};
 ghost use lib.ListN.{length};
-ghost use Rattle.wing_wire.specs.State.{soundState};
+ghost use Rattle.wing_wire.specs.State.{bodyLimit, soundState};
 ghost use Rattle.wing_mirror.specs.Table.{table as tableOf, usable};
-ghost use Rattle.wing_mirror.specs.Mirror.{fedAll, takenFeed, feeding, mirrorFeed};
+ghost use Rattle.wing_mirror.specs.Mirror.{fedAll, takenFeed, feedEffect, mirrorFeed};
 ghost use Rattle.wing_mirror.specs.Tally.{fedOf, stateOf, refusedFeedReply};
 use crate::answer::FeedAnswer;
 use crate::answer::FeedReply;
@@ -22,7 +22,7 @@ use wing_wire::stream::is_more;
 use wing_wire::stream::release;
 
 fn feed_on(c: Control, store: &mut [u8], table: &mut [u8], count: usize, bytes: &[u8]) -> FedOn
-    requires { ⌜ (soundState (stateOf c (now store)) ≡ true) × (length (now store) ≡ 4096) × (usable (tableOf (now table) count) ≡ true) × (length (now bytes) ≤ 65536) ⌝ }
+    requires { ⌜ (soundState (stateOf c (now store)) ≡ true) × (length (now store) ≡ bodyLimit) × (usable (tableOf (now table) count) ≡ true) × (length (now bytes) ≤ 65536) ⌝ }
     ensures { λ r. ⌜ fedOf r (now (store .exit)) (now (table .exit)) ≡ fedAll (stateOf c (now (store .entry))) (tableOf (now (table .entry)) count) (now (bytes .entry)) ⌝ }
 {
     let counts = zero_counts();
@@ -50,7 +50,7 @@ fn feed_on(c: Control, store: &mut [u8], table: &mut [u8], count: usize, bytes: 
 
 fn fed(state: State, table: &mut [u8], count: usize, bytes: &[u8]) -> FeedReply
     requires { ⌜ (soundState state ≡ true) × (usable (tableOf (now table) count) ≡ true) × (length (now bytes) ≤ 65536) ⌝ }
-    ensures { λ r. ⌜ feeding r (now (table .exit)) ≡ takenFeed (fedAll state (tableOf (now (table .entry)) count) (now (bytes .entry))) ⌝ }
+    ensures { λ r. ⌜ feedEffect r (now (table .exit)) ≡ takenFeed (fedAll state (tableOf (now (table .entry)) count) (now (bytes .entry))) ⌝ }
 {
     let c = state.control;
     let mut store = state.store;
@@ -85,7 +85,7 @@ fn refused(why: u8, state: State, count: usize) -> FeedReply
 // 01: a feed takes up to 65,536 bytes and runs next until 'more': each value is stored at its node or has no place, each body goes
 // through the parser, and the six counts tell how many. 8, 7, 14.
 pub fn feed(state: State, table: &mut [u8], count: usize, bytes: &[u8]) -> FeedReply
-    ensures { λ r. ⌜ feeding r (now (table .exit)) ≡ mirrorFeed state (tableOf (now (table .entry)) count) (now (bytes .entry)) ⌝ }
+    ensures { λ r. ⌜ feedEffect r (now (table .exit)) ≡ mirrorFeed state (tableOf (now (table .entry)) count) (now (bytes .entry)) ⌝ }
 {
     if is_sound(state) {
         if is_usable(table, count) {

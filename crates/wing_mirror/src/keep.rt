@@ -3,6 +3,7 @@ ghost use mathlib.Core.Path.{_≡_};
 ghost use mathlib.Core.Bool.{true};
 ghost use Prim.Native.Nat.{_≤_, _<_};
 ghost use lib.ListN.{length};
+ghost use Rattle.wing_wire.specs.State.{bodyLimit};
 ghost use Rattle.wing_node.specs.Definition.{definitionOf};
 ghost use Rattle.wing_node.specs.Value.{meant};
 ghost use Rattle.wing_wire.specs.Range.{Within};
@@ -74,7 +75,7 @@ fn keep_body(t: Tally, body: &[u8]) -> Tally
 
 // The answer's string or body stands at the front of the store.
 pub(crate) fn keep_answer(table: &mut [u8], t: Tally, node: i32, a: Answer, store: &[u8]) -> Tally
-    requires { ⌜ (usable (tableOf (now table) (t .count)) ≡ true) × (total (t .counts) < 4294967295) × (length (now store) ≡ 4096) × Within a (now store) ⌝ }
+    requires { ⌜ (usable (tableOf (now table) (t .count)) ≡ true) × (total (t .counts) < 4294967295) × (length (now store) ≡ bodyLimit) × Within a (now store) ⌝ }
     ensures { λ r. ⌜ tallyOf r (now (table .exit)) ≡ keep node a (now (store .entry)) (tallyOf t (now (table .entry))) ⌝ }
 {
     let counts = t.counts;

@@ -3,7 +3,7 @@ ghost use mathlib.Core.Path.{_≡_};
 ghost use mathlib.Core.Bool.{true};
 ghost use Prim.Native.Nat.{_+_, _*_, _≤_};
 ghost use lib.ListN.{length};
-ghost use Rattle.wing_wire.specs.Write.{Laid, wrote, writeOf};
+ghost use Rattle.wing_wire.specs.Write.{Laid, writeEffect, writeOf};
 ghost use Rattle.wing_mirror.specs.Record.{width, wellFormed};
 ghost use Rattle.wing_mirror.specs.Table.{table as tableOf, rows, rowAt, usable};
 ghost use Rattle.wing_mirror.specs.Recall.{recallBytes, recallOf};
@@ -16,7 +16,7 @@ use wing_wire::write::Written;
 
 fn send_record(out: &mut [u8], rec: &[u8]) -> Written
     requires { ⌜ (length (now rec) ≡ width) × (wellFormed (now rec) ≡ true) ⌝ }
-    ensures { λ r. ⌜ wrote r (now (out .exit)) ≡ writeOf (orderIn (now (rec .entry))) (now (out .entry)) ⌝ }
+    ensures { λ r. ⌜ writeEffect r (now (out .exit)) ≡ writeOf (orderIn (now (rec .entry))) (now (out .entry)) ⌝ }
 {
     let id = field::i32_at(rec, 0);
     if rec[4] == 0 {
@@ -82,7 +82,7 @@ fn lay_recall(out: &mut [u8], table: &[u8], count: usize) -> usize
 
 // No set order is longer than 395 bytes: an output with room for as many such is not measured.
 pub fn recall(table: &[u8], count: usize, out: &mut [u8]) -> Written
-    ensures { λ r. ⌜ wrote r (now (out .exit)) ≡ recallOf (tableOf (now (table .entry)) count) (now (out .entry)) ⌝ }
+    ensures { λ r. ⌜ writeEffect r (now (out .exit)) ≡ recallOf (tableOf (now (table .entry)) count) (now (out .entry)) ⌝ }
 {
     if is_usable(table, count) {
         if out.len() < 2 + 395 * count {

@@ -4,11 +4,11 @@ ghost use mathlib.Core.Bool.{true};
 ghost use Prim.Native.Nat.{_≤_};
 ghost use lib.ListN.{length};
 ghost use Rattle.wing_node.specs.Value.{integer, float, string as stringOf, meant};
-ghost use Rattle.wing_wire.specs.Write.{wrote, writeOf};
+ghost use Rattle.wing_wire.specs.Write.{writeEffect, writeOf};
 ghost use Rattle.wing_wire.specs.Command.{setBytes};
 ghost use Rattle.wing_mirror.specs.Record.{width, storable};
 ghost use Rattle.wing_mirror.specs.Table.{table as tableOf, usable};
-ghost use Rattle.wing_mirror.specs.Mirror.{mirrorSet, setting};
+ghost use Rattle.wing_mirror.specs.Mirror.{mirrorSet, setEffect};
 ghost use Rattle.wing_mirror.specs.Sets.{replied, keptOf, refusedSetReply};
 use crate::answer::SetReply;
 use crate::record::lay_record;
@@ -34,7 +34,7 @@ fn refused(why: u8, count: usize) -> SetReply
 // The command of a value; a string's bytes stand beside its length.
 fn send(out: &mut [u8], id: i32, value: Value, string: &[u8]) -> Written
     requires { ⌜ storable (meant value (now string)) ≡ true ⌝ }
-    ensures { λ r. ⌜ wrote r (now (out .exit)) ≡ writeOf (setBytes id (meant value (now (string .entry)))) (now (out .entry)) ⌝ }
+    ensures { λ r. ⌜ writeEffect r (now (out .exit)) ≡ writeOf (setBytes id (meant value (now (string .entry)))) (now (out .entry)) ⌝ }
 {
     match value {
         Value::Integer(x) => set::set_int(out, id, x),
@@ -73,7 +73,7 @@ fn set_value(
     string: &[u8],
 ) -> SetReply
     requires { ⌜ (usable (tableOf (now table) count) ≡ true) × (storable (meant value (now string)) ≡ true) × (length (now string) ≤ 256) ⌝ }
-    ensures { λ r. ⌜ setting r (now (out .exit)) (now (table .exit)) ≡ mirrorSet id (meant value (now (string .entry))) (tableOf (now (table .entry)) count) (now (out .entry)) ⌝ }
+    ensures { λ r. ⌜ setEffect r (now (out .exit)) (now (table .exit)) ≡ mirrorSet id (meant value (now (string .entry))) (tableOf (now (table .entry)) count) (now (out .entry)) ⌝ }
 {
     let mut rec = [0u8; State::PLACE_WIDTH];
     lay_record(&mut rec, id, value, string);
@@ -86,7 +86,7 @@ fn set_value(
 
 // 01: set through the mirror writes the command and stores the value. 7, 6, 9.
 pub fn set_int(table: &mut [u8], count: usize, out: &mut [u8], id: i32, value: i32) -> SetReply
-    ensures { λ r. ⌜ setting r (now (out .exit)) (now (table .exit)) ≡ mirrorSet id (integer value) (tableOf (now (table .entry)) count) (now (out .entry)) ⌝ }
+    ensures { λ r. ⌜ setEffect r (now (out .exit)) (now (table .exit)) ≡ mirrorSet id (integer value) (tableOf (now (table .entry)) count) (now (out .entry)) ⌝ }
 {
     if is_usable(table, count) {
         let empty = [0u8; 0];
@@ -97,7 +97,7 @@ pub fn set_int(table: &mut [u8], count: usize, out: &mut [u8], id: i32, value: i
 
 // The same for a float, by its 32 bits.
 pub fn set_float(table: &mut [u8], count: usize, out: &mut [u8], id: i32, bits: u32) -> SetReply
-    ensures { λ r. ⌜ setting r (now (out .exit)) (now (table .exit)) ≡ mirrorSet id (float bits) (tableOf (now (table .entry)) count) (now (out .entry)) ⌝ }
+    ensures { λ r. ⌜ setEffect r (now (out .exit)) (now (table .exit)) ≡ mirrorSet id (float bits) (tableOf (now (table .entry)) count) (now (out .entry)) ⌝ }
 {
     if is_usable(table, count) {
         let empty = [0u8; 0];
@@ -108,7 +108,7 @@ pub fn set_float(table: &mut [u8], count: usize, out: &mut [u8], id: i32, bits: 
 
 // The same for a string. 7, 10, 1, 6, 9.
 pub fn set_string(table: &mut [u8], count: usize, out: &mut [u8], id: i32, value: &[u8]) -> SetReply
-    ensures { λ r. ⌜ setting r (now (out .exit)) (now (table .exit)) ≡ mirrorSet id (stringOf (now (value .entry))) (tableOf (now (table .entry)) count) (now (out .entry)) ⌝ }
+    ensures { λ r. ⌜ setEffect r (now (out .exit)) (now (table .exit)) ≡ mirrorSet id (stringOf (now (value .entry))) (tableOf (now (table .entry)) count) (now (out .entry)) ⌝ }
 {
     if is_usable(table, count) {
         if value.len() <= 256 {

@@ -5,7 +5,7 @@ ghost use lib.ListN.{length};
 ghost use Rattle.wing_mirror.specs.Rows.{takes};
 ghost use Rattle.wing_mirror.specs.Record.{width, keyOf};
 ghost use Rattle.wing_mirror.specs.Table.{table as tableOf, usable};
-ghost use Rattle.wing_mirror.specs.Puts.{putResult, putOf};
+ghost use Rattle.wing_mirror.specs.Puts.{putEffect, putOf};
 use crate::bytes::lay;
 use crate::bytes::open_gap;
 use crate::order::has_key;
@@ -36,7 +36,7 @@ pub(crate) fn has_room(table: &[u8], count: usize, rec: &[u8]) -> bool
 // Into its place, or instead of the record with its id; not taken where its id is new and no place is free.
 pub(crate) fn put(table: &mut [u8], count: usize, rec: &[u8]) -> Kept
     requires { ⌜ (usable (tableOf (now table) count) ≡ true) × (length (now rec) ≡ width) ⌝ }
-    ensures { λ r. ⌜ putResult r (now (table .exit)) ≡ putOf (now (rec .entry)) (tableOf (now (table .entry)) count) ⌝ }
+    ensures { λ r. ⌜ putEffect r (now (table .exit)) ≡ putOf (now (rec .entry)) (tableOf (now (table .entry)) count) ⌝ }
 {
     let key = record::key(rec);
     let number = search(table, count, key);

@@ -21,7 +21,7 @@ use Rattle.wing_mirror.specs.Record.{entry}
 use Rattle.wing_mirror.specs.Table.{usable, fits}
 use Rattle.wing_mirror.specs.Counts.{zeroCounts, total, addCounts}
 use Rattle.wing_mirror.specs.Call.{tooLong, notText}
-use Rattle.wing_mirror.specs.Mirror.{TableTally, tableTally, keepEvent, keep, Feeding, fedAll, takenFeed, mirrorFeed, mirrorSet}
+use Rattle.wing_mirror.specs.Mirror.{TableTally, tableTally, keepEvent, keep, FeedEffect, fedAll, takenFeed, mirrorFeed, mirrorSet}
 use Rattle.wing_mirror.specs.Machine.{StreamEvent, events}
 use Rattle.wing_mirror.specs.declared.answer.Counts.{Counts}
 use Rattle.wing_mirror.specs.declared.answer.FeedAnswer.the-variants.{Taken}
@@ -95,11 +95,11 @@ from-counts x c bytes =
     ∙ sym (decoder-laws .feed .along keep keep (atop c) (λ node a t k. keep-adds c node (eventOf a t t) k) (record { control = x .control; store = x .store; memo = tableTally (x .memo .table) zeroCounts }) bytes)
 
 -- two taken feeds, the second on what the first leaves, as one: counts add
-abbrev pub together : Feeding → Feeding → Feeding
+abbrev pub together : FeedEffect → FeedEffect → FeedEffect
 together x y = record { answer = Taken; counts = addCounts (x .counts) (y .counts); state = y .state; table = y .table }
 
 -- a feed on what another leaves
-abbrev pub onwards : Feeding → List ℕ → Feeding
+abbrev pub onwards : FeedEffect → List ℕ → FeedEffect
 onwards x b = mirrorFeed (x .state) (x .table) b
 
 -- the bytes of two feeds, fed at once, are the two feeds together
@@ -108,11 +108,11 @@ pub feed-joined : (s : State) (t : Table) (a b : List ℕ) → InRange (s .contr
 unfolding fedAll
 feed-joined s t a b inside are g u few =
     let z : Fed TableTally = record { control = s .control; store = s .store; memo = tableTally t zeroCounts } in
-    let x : Feeding = mirrorFeed s t a in
+    let x : FeedEffect = mirrorFeed s t a in
     let k = feed-sound s t a inside are g u in
     let first : x ≡ takenFeed (fedAll s t a) = feed-taken s t a g u (omega (arith, length-append a b)) in
     let second : onwards x b ≡ takenFeed (fedAll (x .state) (x .table) b) = feed-taken (x .state) (x .table) b (k .1) (k .0) (omega (arith, length-append a b)) in
     feed-taken s t (a ++ b) g u few
     ∙ ap takenFeed (decoder-laws .feed .pieces keep z a b ∙ from-counts (feedOf keep z a) (feedOf keep z a .memo .counts) b)
-    ∙ ap (λ (f : Feeding). together f (takenFeed (fedAll (f .state) (f .table) b))) (sym first)
+    ∙ ap (λ (f : FeedEffect). together f (takenFeed (fedAll (f .state) (f .table) b))) (sym first)
     ∙ ap (together x) (sym second)

@@ -9,7 +9,7 @@ use lib.IntN.{ℤ}
 use lib.ListN.{length, take}
 use Rattle.wing_node.specs.Utf8.{utf8}
 use Rattle.wing_node.specs.Value.{NodeValue, integer, float, string}
-use Rattle.wing_wire.specs.Write.{Wrote, wrote, writeOf}
+use Rattle.wing_wire.specs.Write.{WriteEffect, writeEffect, writeOf}
 use Rattle.wing_wire.specs.Command.{setBytes, setString}
 use Rattle.wing_wire.specs.declared.write.Written.{Written}
 use Rattle.wing_wire.proofs.Laws.{writer-laws}
@@ -18,7 +18,7 @@ use Rattle.wing_mirror.specs.Record.{entry, keyOf, recordOf, storable}
 use Rattle.wing_mirror.specs.Table.{usable, put, fits}
 use Rattle.wing_mirror.specs.Puts.{putOf}
 use Rattle.wing_mirror.specs.Call.{tooLong, notText}
-use Rattle.wing_mirror.specs.Mirror.{Setting, refusedSet, mirrorSet, setting}
+use Rattle.wing_mirror.specs.Mirror.{SetEffect, refusedSet, mirrorSet, setEffect}
 use Rattle.wing_mirror.specs.Sets.{Replied, replied, keptOf}
 use Rattle.wing_mirror.specs.declared.answer.SetReply.{SetReply}
 use Rattle.wing_mirror.proofs.Tables.Laying.{take-least}
@@ -52,7 +52,7 @@ string-sent id n len s out l h =
     b : (leb (length (take n s)) 256 ≡ true) × (utf8 (take n s) ≡ true)
     b = both (leb (length (take n s)) 256) (utf8 (take n s)) h
 
-abbrev settled : Replied → List ℕ → Setting
+abbrev settled : Replied → List ℕ → SetEffect
 settled k out = record { answer = k .answer; out = out; table = k .after }
 
 module _ (id : ℤ) (v : NodeValue) (t : Table) (out : List ℕ) where
@@ -69,7 +69,7 @@ module _ (id : ℤ) (v : NodeValue) (t : Table) (out : List ℕ) where
     unfolding mirrorSet fits
     no-room q = rw (u, not-long v s, is-text v s, takes-is, q)
 
-    after : Wrote → Setting
+    after : WriteEffect → SetEffect
     after x = settled (keptOf (x .answer) (recordOf (entry id v)) t) (x .out)
 
     -- 6 is met already: what is left is 9
@@ -78,8 +78,8 @@ module _ (id : ℤ) (v : NodeValue) (t : Table) (out : List ℕ) where
     written q true e = rw (u, not-long v s, is-text v s, e, takes-is, q)
     written q false e = rw (u, not-long v s, is-text v s, e, takes-is, q)
 
-    pub kept-so : h ≡ true → (w : Written) (o : List ℕ) → wrote w o ≡ writeOf (setBytes id v) out →
-        (r : SetReply) (b : List ℕ) → replied r b ≡ keptOf w rec t → setting r o b ≡ mirrorSet id v t out
+    pub kept-so : h ≡ true → (w : Written) (o : List ℕ) → writeEffect w o ≡ writeOf (setBytes id v) out →
+        (r : SetReply) (b : List ℕ) → replied r b ≡ keptOf w rec t → setEffect r o b ≡ mirrorSet id v t out
     unfolding after
     kept-so q w o ew r b ek =
         ap (λ (k : Replied). settled k o) (ek ∙ ap (λ (x : List ℕ). keptOf w x t) er) ∙ ap after ew

@@ -17,7 +17,7 @@ use Rattle.wing_node.specs.Value.{NodeValue, integer, float, string}
 use Rattle.wing_node.proofs.Branches.{branch}
 use Rattle.wing_node.proofs.Numerals.Placed.{field-whole}
 use Rattle.wing_wire.specs.State.{zeros}
-use Rattle.wing_wire.specs.Write.{Laid, wrote, writeOf, Wrote}
+use Rattle.wing_wire.specs.Write.{Laid, writeEffect, writeOf, WriteEffect}
 use Rattle.wing_wire.specs.Command.{setBytes, setString}
 use Rattle.wing_wire.specs.declared.write.Written.{Written}
 use Rattle.wing_wire.specs.declared.write.Written.the-variants.{Bytes, Refused}
@@ -69,14 +69,14 @@ module _ (r : List ℕ) (wide : length r ≡ 264) (form : wellFormed r ≡ true)
       writer-laws .stringSize (idIn r) s (omega (arith, t .0, length-take-le (lengthIn r) (payloadIn r) (omega (arith, length-drop 8 r)))) (t .1)))
 
 -- a writer laid the whole, where there was room for it
-pub laid-whole : (w : Written) (s d e : List ℕ) → wrote w e ≡ writeOf s d → length s ≤ length d → Laid s 0 d e (sizeIn w)
+pub laid-whole : (w : Written) (s d e : List ℕ) → writeEffect w e ≡ writeOf s d → length s ≤ length d → Laid s 0 d e (sizeIn w)
 unfolding writeOf sizeIn
 laid-whole w s d e q h =
     let z : 0 + length s ≡ length s = omega arith in
-    let p : wrote w e ≡ wrote (Bytes (length s)) (s ++ drop (length s) d) = q ∙ rw (le-ltb (length d) (length s) h) in
+    let p : writeEffect w e ≡ writeEffect (Bytes (length s)) (s ++ drop (length s) d) = q ∙ rw (le-ltb (length d) (length s) h) in
     record {
-      bytes = ap (λ (x : Wrote). x .out) p ∙ sym (sets-eq s d 0 (omega arith) ∙ rw z);
-      next = ap (λ (x : Wrote). sizeIn (x .answer)) p ∙ sym z;
+      bytes = ap (λ (x : WriteEffect). x .out) p ∙ sym (sets-eq s d 0 (omega arith) ∙ rw z);
+      next = ap (λ (x : WriteEffect). sizeIn (x .answer)) p ∙ sym z;
     }
 
 -- ---- the records one by one
@@ -141,6 +141,6 @@ module _ (t : Table) where
   unfolding recallOf
   recalled out u = rw u
 
-  pub unusable : (out : List ℕ) → usable t ≡ false → wrote (Refused 7) out ≡ recallOf t out
+  pub unusable : (out : List ℕ) → usable t ≡ false → writeEffect (Refused 7) out ≡ recallOf t out
   unfolding recallOf
   unusable out u = rw u

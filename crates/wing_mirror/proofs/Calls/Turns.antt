@@ -11,8 +11,8 @@ use lib.Seq.{take-all, drop-drop}
 use Rattle.wing_node.specs.Bool.{if}
 use Rattle.wing_node.specs.Value.{NodeValue, integer, float, string}
 use Rattle.wing_node.proofs.Branches.{branch}
-use Rattle.wing_wire.specs.Units.{waiting}
-use Rattle.wing_wire.specs.Range.{Within, TokenWithin, HeardWithin}
+use Rattle.wing_wire.specs.Units.{pendingCount}
+use Rattle.wing_wire.specs.Range.{Within, TokenWithin, StepEffectWithin}
 use Rattle.wing_wire.specs.Reader.{value, eventOf}
 use Rattle.wing_wire.specs.Stream.{isMore, Run, run, advanceOf, released, Fed, feedOf}
 use Rattle.wing_wire.specs.declared.state.Pending.{Pending}
@@ -25,7 +25,7 @@ use Rattle.wing_wire.proofs.Laws.{decoder-laws}
 use Rattle.wing_mirror.specs.Rows.{Table, takes, store}
 use Rattle.wing_mirror.specs.Record.{keyOf, recordOf, entry, storable}
 use Rattle.wing_mirror.specs.Table.{table, usable, fits, put}
-use Rattle.wing_mirror.specs.Puts.{PutResult, putOf, putResult}
+use Rattle.wing_mirror.specs.Puts.{PutEffect, putOf, putEffect}
 use Rattle.wing_mirror.specs.Counts.{zeroCounts, tick, total}
 use Rattle.wing_mirror.specs.Mirror.{TableTally, tableTally, keep, keepEvent}
 use Rattle.wing_mirror.specs.declared.answer.Counts.{Counts}
@@ -37,26 +37,26 @@ use Rattle.wing_mirror.proofs.Histories.Decodes.{string-text}
 
 -- ---- what is left: two for each byte, and one for a pending byte
 
-waiting-one : (p : Pending) → waiting p ≤ 1
-waiting-one None = omega arith
-waiting-one (Byte u) = omega arith
+pending-one : (p : Pending) → pendingCount p ≤ 1
+pending-one None = omega arith
+pending-one (Byte u) = omega arith
 
 -- an answer takes a byte, or the pending byte
-pub smaller : (c : Control) (s bytes : List ℕ) → isMore (advanceOf c s bytes .heard .told .answer) ≡ false →
-    waiting (advanceOf c s bytes .heard .told .control .escape .pending) + 1 ≤ 2 * advanceOf c s bytes .taken + waiting (c .escape .pending)
+pub smaller : (c : Control) (s bytes : List ℕ) → isMore (advanceOf c s bytes .effect .answered .answer) ≡ false →
+    pendingCount (advanceOf c s bytes .effect .answered .control .escape .pending) + 1 ≤ 2 * advanceOf c s bytes .taken + pendingCount (c .escape .pending)
 smaller c s bytes p =
     let r = advanceOf c s bytes in
-    ⊎-elim (λ b. omega (arith, b, waiting-one (r .heard .told .control .escape .pending)))
-    (λ q. let z : waiting (r .heard .told .control .escape .pending) ≡ 0 = ap waiting (q .1) in omega (arith, q .0)) (decoder-laws .next .takes c s bytes p)
+    ⊎-elim (λ b. omega (arith, b, pending-one (r .effect .answered .control .escape .pending)))
+    (λ q. let z : pendingCount (r .effect .answered .control .escape .pending) ≡ 0 = ap pendingCount (q .1) in omega (arith, q .0)) (decoder-laws .next .takes c s bytes p)
 
 -- ---- what is kept of an answer
 
 -- a put of a value's record, and the mark that says whether it was taken
-module _ (node : ℤ) (v : NodeValue) (t : Table) (counts : Counts) (r : List ℕ) (p : Placed) (buffer : List ℕ) (e : r ≡ recordOf (entry node v)) (d : putResult p buffer ≡ putOf r t) where
-  abbrev Chosen : Bool → PutResult
+module _ (node : ℤ) (v : NodeValue) (t : Table) (counts : Counts) (r : List ℕ) (p : Placed) (buffer : List ℕ) (e : r ≡ recordOf (entry node v)) (d : putEffect p buffer ≡ putOf r t) where
+  abbrev Chosen : Bool → PutEffect
   Chosen b = if b (record { after = store 264 keyOf (recordOf (entry node v)) t; taken = true }) (record { after = t; taken = false })
 
-  chosen : putResult p buffer ≡ Chosen (takes 264 keyOf (recordOf (entry node v)) t)
+  chosen : putEffect p buffer ≡ Chosen (takes 264 keyOf (recordOf (entry node v)) t)
   unfolding putOf
   chosen = d ∙ ap (λ (x : List ℕ). putOf x t) e
 
@@ -64,19 +64,19 @@ module _ (node : ℤ) (v : NodeValue) (t : Table) (counts : Counts) (r : List �
   unfolding keepEvent put fits
   stored-kept m = go (takes 264 keyOf (recordOf (entry node v)) t) chosen
     where
-      go : (b : Bool) → putResult p buffer ≡ Chosen b →
+      go : (b : Bool) → putEffect p buffer ≡ Chosen b →
           tableTally (table buffer (p .count)) (tick Stored counts) ≡ if b (tableTally (store 264 keyOf (recordOf (entry node v)) t) (tick Stored counts)) (tableTally t (tick Unplaced counts))
-      go true q = ap (λ (x : PutResult). tableTally (x .after) (tick Stored counts)) q
-      go false q = absurd (false≢true (sym (ap (λ (x : PutResult). x .taken) q) ∙ m))
+      go true q = ap (λ (x : PutEffect). tableTally (x .after) (tick Stored counts)) q
+      go false q = absurd (false≢true (sym (ap (λ (x : PutEffect). x .taken) q) ∙ m))
 
   pub unplaced-kept : p .taken ≡ false → tableTally (table buffer (p .count)) (tick Unplaced counts) ≡ keepEvent node (value v) (tableTally t counts)
   unfolding keepEvent put fits
   unplaced-kept m = go (takes 264 keyOf (recordOf (entry node v)) t) chosen
     where
-      go : (b : Bool) → putResult p buffer ≡ Chosen b →
+      go : (b : Bool) → putEffect p buffer ≡ Chosen b →
           tableTally (table buffer (p .count)) (tick Unplaced counts) ≡ if b (tableTally (store 264 keyOf (recordOf (entry node v)) t) (tick Stored counts)) (tableTally t (tick Unplaced counts))
-      go true q = absurd (false≢true (sym m ∙ ap (λ (x : PutResult). x .taken) q))
-      go false q = ap (λ (x : PutResult). tableTally (x .after) (tick Unplaced counts)) q
+      go true q = absurd (false≢true (sym m ∙ ap (λ (x : PutEffect). x .taken) q))
+      go false q = ap (λ (x : PutEffect). tableTally (x .after) (tick Unplaced counts)) q
 
 -- a value that may be kept leaves the table usable
 pub value-usable : (node : ℤ) (v : NodeValue) (k : TableTally) → storable v ≡ true → usable (k .table) ≡ true → usable (keepEvent node (value v) k .table) ≡ true
@@ -98,7 +98,7 @@ kept-usable node (Refused n) s k w u = u
 -- ---- a turn
 
 abbrev pub left : List ℕ → Control → ℕ → ℕ
-left bytes c i = 2 * (length bytes - i) + waiting (c .escape .pending)
+left bytes c i = 2 * (length bytes - i) + pendingCount (c .escape .pending)
 
 -- a decoder, and what a feed has kept so far
 abbrev pub fed : Control → List ℕ → TableTally → Fed TableTally
@@ -120,7 +120,7 @@ begun bytes c s t counts e h g u =
       same = ap (λ (x : Counts). feedOf keep (fed c s (tableTally t x)) bytes) e;
       bounded = g;
       ready = u;
-      few = omega (arith, ap (λ (x : Counts). total x) e, waiting-one (c .escape .pending));
+      few = omega (arith, ap (λ (x : Counts). total x) e, pending-one (c .escape .pending));
     }
 
 module _ {bytes : List ℕ} {start : Fed TableTally} {c : Control} {s : List ℕ} {k : TableTally} {i : ℕ} (g : FeedInvariant bytes start c s k i)
@@ -138,31 +138,31 @@ module _ {bytes : List ℕ} {start : Fed TableTally} {c : Control} {s : List ℕ
   -- the call that answers more is the last
   pub ended : isMore (r .answer) ≡ true → fed (r .control) t k ≡ feedOf keep start bytes
   ended m =
-      let h : isMore (advanceOf c s (drop i bytes) .heard .told .answer) ≡ true = ap (λ (x : Run). isMore (x .heard .told .answer)) (sym said) ∙ m in
-      ap (λ (x : Run). fed (x .heard .told .control) (x .heard .store) k) said ∙ sym (decoder-laws .feed .ends keep (fed c s k) (drop i bytes) h) ∙ g .same
+      let h : isMore (advanceOf c s (drop i bytes) .effect .answered .answer) ≡ true = ap (λ (x : Run). isMore (x .effect .answered .answer)) (sym said) ∙ m in
+      ap (λ (x : Run). fed (x .effect .answered .control) (x .effect .store) k) said ∙ sym (decoder-laws .feed .ends keep (fed c s k) (drop i bytes) h) ∙ g .same
 
   pub less-left : isMore (r .answer) ≡ false → left bytes (r .control) (i + r .taken) + 1 ≤ left bytes c i
   less-left m =
-      let h : isMore (advanceOf c s (drop i bytes) .heard .told .answer) ≡ false = ap (λ (x : Run). isMore (x .heard .told .answer)) (sym said) ∙ m in
+      let h : isMore (advanceOf c s (drop i bytes) .effect .answered .answer) ≡ false = ap (λ (x : Run). isMore (x .effect .answered .answer)) (sym said) ∙ m in
       let n = ap (λ (x : Run). x .taken) said in
-      let p = ap (λ (x : Run). waiting (x .heard .told .control .escape .pending)) said in
+      let p = ap (λ (x : Run). pendingCount (x .effect .answered .control .escape .pending)) said in
       omega (arith, smaller c s (drop i bytes) h, inside)
 
   -- what was answered is within bounds
-  pub answer-bounded : HeardWithin (length s) (run r t .heard)
-  answer-bounded = subst (λ (x : Run). HeardWithin (length s) (x .heard)) (sym said) (decoder-laws .next .bounded c s (drop i bytes) (g .bounded))
+  pub answer-bounded : StepEffectWithin (length s) (run r t .effect)
+  answer-bounded = subst (λ (x : Run). StepEffectWithin (length s) (x .effect)) (sym said) (decoder-laws .next .bounded c s (drop i bytes) (g .bounded))
 
   -- after a turn, with what was kept and released
   turn : isMore (r .answer) ≡ false →
       FeedInvariant bytes start (r .control) (released (r .answer) t) (keep (r .control .node) (r .answer) t k) (i + r .taken)
   turn m =
-      let h : isMore (advanceOf c s (drop i bytes) .heard .told .answer) ≡ false = ap (λ (x : Run). isMore (x .heard .told .answer)) (sym said) ∙ m in
+      let h : isMore (advanceOf c s (drop i bytes) .effect .answered .answer) ≡ false = ap (λ (x : Run). isMore (x .effect .answered .answer)) (sym said) ∙ m in
       let w = answer-bounded in
       record {
         within = inside;
         same =
             ap (λ (b : List ℕ). feedOf keep (fed (r .control) (released (r .answer) t) (keep (r .control .node) (r .answer) t k)) b) (sym (drop-drop (r .taken) i bytes))
-            ∙ ap (λ (x : Run). feedOf keep (fed (x .heard .told .control) (released (x .heard .told .answer) (x .heard .store)) (keep (x .heard .told .control .node) (x .heard .told .answer) (x .heard .store) k)) (drop (x .taken) (drop i bytes))) said
+            ∙ ap (λ (x : Run). feedOf keep (fed (x .effect .answered .control) (released (x .effect .answered .answer) (x .effect .store)) (keep (x .effect .answered .control .node) (x .effect .answered .answer) (x .effect .store) k)) (drop (x .taken) (drop i bytes))) said
             ∙ sym (decoder-laws .feed .again keep (fed c s k) (drop i bytes) h)
             ∙ g .same;
         bounded = w .token;

@@ -8,7 +8,7 @@ use lib.Dec.{ltb}
 use lib.ListN.{length, take, drop, length-map}
 use lib.Seq.{take-append-seam}
 use Rattle.wing_node.specs.Bool.{if}
-use Rattle.wing_wire.specs.Write.{Wrote, wrote, writeOf}
+use Rattle.wing_wire.specs.Write.{WriteEffect, writeEffect, writeOf}
 use Rattle.wing_wire.specs.declared.write.Written.the-variants.{Bytes, Refused}
 use Rattle.wing_mirror.specs.Rows.{Table, All, rising}
 use Rattle.wing_mirror.specs.Record.{Entry, width, recordOf, entryIn}
@@ -21,7 +21,7 @@ use Rattle.wing_mirror.proofs.Histories.Maps.{ValidEntry, all-order, or
 use Rattle.wing_mirror.proofs.Records.Entries.{rows-valid, rows-back, rows-rise, rows-signed}
 use Rattle.wing_mirror.proofs.Histories.Rebuilt.{order-own, map-rebuilt}
 use Rattle.wing_mirror.proofs.Histories.Agrees.{map-valid, run-agrees, run-order, run-equal}
-use Rattle.wing_mirror.proofs.Histories.Asked.{comparing, recalling}
+use Rattle.wing_mirror.proofs.Histories.Answers.{comparing, recalling}
 use Rattle.wing_mirror.proofs.Histories.Bounds.{run-bounded}
 
 -- a recall that says that n bytes were written was of a usable table, and these are its bytes
@@ -32,7 +32,7 @@ recall-wrote t out n = go (usable t) refl (ltb (length out) (length (recallBytes
     bytes : List ℕ
     bytes = recallBytes t
 
-    go : (u : Bool) → usable t ≡ u → (s : Bool) → let x : Wrote = if u (if s (wrote (Refused 9) out) (wrote (Bytes (length bytes)) (bytes ++ drop (length bytes) out))) (wrote (Refused 7) out) in
+    go : (u : Bool) → usable t ≡ u → (s : Bool) → let x : WriteEffect = if u (if s (writeEffect (Refused 9) out) (writeEffect (Bytes (length bytes)) (bytes ++ drop (length bytes) out))) (writeEffect (Refused 7) out) in
         x .answer ≡ Bytes n → (u ≡ true) × (take n (x .out) ≡ bytes)
     go true q true e = absurd (let z : _≡_ {A = ℕ} 0 1 = cc in omega arith)
     go true q false e = let k : length bytes ≡ n = cc in (refl, rw (← k) (take-append-seam bytes (drop (length bytes) out)))

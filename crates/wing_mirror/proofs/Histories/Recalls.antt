@@ -10,10 +10,10 @@ use lib.IntN.{ℤ, pos, negsuc}
 use lib.ListN.{length, replicate, length-replicate}
 use Rattle.wing_node.specs.Utf8.{utf8}
 use Rattle.wing_node.specs.Value.{NodeValue, integer, float, string}
-use Rattle.wing_wire.specs.State.{zeros, soundPending, soundEscape, soundCounts, storedBy, soundToken, soundState, freshState}
+use Rattle.wing_wire.specs.State.{bodyLimit, zeros, soundPending, soundEscape, soundCounts, storedBy, soundToken, soundState, freshState}
 use Rattle.wing_wire.specs.Stream.{Fed, feedOf}
 use Rattle.wing_wire.specs.Reader.{value, eventOf}
-use Rattle.wing_wire.specs.RoundTrip.{Settable, calmState}
+use Rattle.wing_wire.specs.RoundTrip.{Settable, restState}
 use Rattle.wing_wire.specs.declared.state.State.{State}
 use Rattle.wing_wire.proofs.Laws.{decoder-laws}
 use Rattle.wing_mirror.specs.Rows.{joined, All}
@@ -51,38 +51,38 @@ settable (float bits) t h = omega arith
 settable (string s) t h = let b = both (leb (length s) 256) (utf8 s) h in (leb-true (length s) 256 (b .0), b .1)
 
 -- on channel 1, unescaped, between tokens, nothing pending and nothing stored
-abbrev rest : ℤ → State
-rest node = calmState (pos 1) node (replicate 4096 0)
+abbrev channelOne : ℤ → State
+channelOne node = restState (pos 1) node (replicate bodyLimit 0)
 
 -- 01: df d1
-opened : decodeAll freshState (0xdf ∷ 0xd1 ∷ []) ≡ record { control = rest (pos 0) .control; store = rest (pos 0) .store; memo = [] }
+opened : decodeAll freshState (0xdf ∷ 0xd1 ∷ []) ≡ record { control = channelOne (pos 0) .control; store = channelOne (pos 0) .store; memo = [] }
 unfolding decodeAll freshState
-opened = decoder-laws .feed .channel appendEvent (negsuc 0) (pos 0) (replicate 4096 0) [] 1 (omega arith)
+opened = decoder-laws .feed .channel appendEvent (negsuc 0) (pos 0) (replicate bodyLimit 0) [] 1 (omega arith)
 
-rest-sound : (node : ℤ) → soundState (rest node) ≡ true
+channel-one-sound : (node : ℤ) → soundState (channelOne node) ≡ true
 unfolding soundState soundEscape soundPending soundToken soundCounts storedBy zeros
-rest-sound node = refl
+channel-one-sound node = refl
 
 -- an entry as it is read
 abbrev pub entryEvent : Entry → StreamEvent
 entryEvent e = streamEvent (e .id) (value (e .value))
 
 -- a set order is its value at its node
-set-event : (node : ℤ) (e : Entry) → ValidEntry e → decodeAll (rest node) (setOf e) ≡ record { control = rest (e .id) .control; store = rest (e .id) .store; memo = entryEvent e ∷ [] }
+set-event : (node : ℤ) (e : Entry) → ValidEntry e → decodeAll (channelOne node) (setOf e) ≡ record { control = channelOne (e .id) .control; store = channelOne (e .id) .store; memo = entryEvent e ∷ [] }
 unfolding decodeAll
 set-event node e h =
-    decoder-laws .feed .order (λ n x rs. rs ++ (streamEvent n x ∷ [])) (pos 1) node (e .id) (replicate 4096 0) (e .value) [] (setOf e ∷ []) (h .node) (settable (e .value) (h .typed) (h .text))
-    (length-replicate {A = ℕ} 4096 0) (rest-sound node) (append-nil (setOf e))
+    decoder-laws .feed .order (λ n x rs. rs ++ (streamEvent n x ∷ [])) (pos 1) node (e .id) (replicate bodyLimit 0) (e .value) [] (setOf e ∷ []) (h .node) (settable (e .value) (h .typed) (h .text))
+    (length-replicate {A = ℕ} bodyLimit 0) (channel-one-sound node) (append-nil (setOf e))
 
 -- set orders one after the other are their values in order
-set-events : (es : List Entry) (node : ℤ) → All ValidEntry es → events (rest node) (joined (map setOf es)) ≡ map entryEvent es
+set-events : (es : List Entry) (node : ℤ) → All ValidEntry es → events (channelOne node) (joined (map setOf es)) ≡ map entryEvent es
 unfolding joined
 set-events [] node h = no-bytes
   where
-    no-bytes : events (rest node) [] ≡ []
-    no-bytes = unfold decodeAll in ap (λ (x : Fed (List StreamEvent)). x .memo) (decoder-laws .feed .none appendEvent (record { control = rest node .control; store = rest node .store; memo = [] }) refl)
+    no-bytes : events (channelOne node) [] ≡ []
+    no-bytes = unfold decodeAll in ap (λ (x : Fed (List StreamEvent)). x .memo) (decoder-laws .feed .none appendEvent (record { control = channelOne node .control; store = channelOne node .store; memo = [] }) refl)
 set-events (e ∷ es) node h =
-    onward (rest node) (setOf e) (joined (map setOf es)) _ (set-event node e (h .0)) ∙ ap (λ (l : List StreamEvent). entryEvent e ∷ l) (set-events es (e .id) (h .1))
+    onward (channelOne node) (setOf e) (joined (map setOf es)) _ (set-event node e (h .0)) ∙ ap (λ (l : List StreamEvent). entryEvent e ∷ l) (set-events es (e .id) (h .1))
 
 -- what recall writes
 pub recall-events : (es : List Entry) → All ValidEntry es → events freshState (0xdf ∷ 0xd1 ∷ joined (map setOf es)) ≡ map entryEvent es

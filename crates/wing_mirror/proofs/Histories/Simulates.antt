@@ -18,7 +18,7 @@ use Rattle.wing_mirror.specs.Record.{entry}
 use Rattle.wing_mirror.specs.Table.{placesAllowed, usable, put, fits}
 use Rattle.wing_mirror.specs.Counts.{zeroCounts}
 use Rattle.wing_mirror.specs.Call.{Call, feed, set, tooLong, notText, fed, sent, Step, History, runAll, TypedCall}
-use Rattle.wing_mirror.specs.Mirror.{TableTally, tableTally, keepEvent, takenFeed, Feeding, Setting}
+use Rattle.wing_mirror.specs.Mirror.{TableTally, tableTally, keepEvent, takenFeed, FeedEffect, SetEffect}
 use Rattle.wing_mirror.specs.Machine.{Machine, newMachine, mapTally, room, stateAfter, events, machineFeed, machineStep}
 use Rattle.wing_mirror.specs.History.{Mirror, newMirror, feedOutcome, setOutcome, mirrorStep, placesIn, inOrder}
 use Rattle.wing_mirror.proofs.Tables.Chunks.{laid-nil}
@@ -40,11 +40,11 @@ module _ (buffer : List ℕ) where
   imageStep r = record { state = mirrorOf (r .state); outcome = r .outcome }
 
   -- the mirror after a feed
-  abbrev afterFeed : Feeding → Step Mirror
+  abbrev afterFeed : FeedEffect → Step Mirror
   afterFeed x = record { state = record { decoder = x .state; table = x .table }; outcome = feedOutcome (x .answer) (x .counts) }
 
   -- the mirror after a set: the decoder is neither read nor altered
-  abbrev afterSet : Machine → Setting → Step Mirror
+  abbrev afterSet : Machine → SetEffect → Step Mirror
   afterSet s x = record { state = record { decoder = s .decoder; table = x .table }; outcome = setOutcome (x .answer) (x .out) }
 
   -- a feed

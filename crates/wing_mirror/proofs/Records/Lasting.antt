@@ -6,10 +6,10 @@ use mathlib.Core.List.{List, [], _∷_}
 use borrow.Author.Tests.{le-leb}
 use lib.ListN.{length}
 use Rattle.wing_node.specs.Bool.{if}
-use Rattle.wing_mirror.specs.Rows.{Table, Stored, insert, takes, store}
+use Rattle.wing_mirror.specs.Rows.{Table, StoreLaws, insert, takes, store}
 use Rattle.wing_mirror.specs.Record.{Entry, keyOf, recordOf, wellFormed, storable}
 use Rattle.wing_mirror.specs.Table.{rows, every, checked, soundTable, usable, put, fits}
-use Rattle.wing_mirror.specs.Puts.{PutResult, putOf}
+use Rattle.wing_mirror.specs.Puts.{PutEffect, putOf}
 use Rattle.wing_mirror.proofs.Tables.Ordered.{Cmp, cmp, low, same, high, insert-low, insert-same, insert-high}
 use Rattle.wing_mirror.proofs.Tables.Stays.{stored}
 use Rattle.wing_mirror.proofs.Records.Usables.{both, in-range, few, formed, up}
@@ -30,7 +30,7 @@ every-insert key p e (x ∷ xs) h a = go (cmp (key x) (key e)) (every-insert key
 
 module _ (r : List ℕ) (t : Table) (wide : length r ≡ 264) (form : wellFormed r ≡ true) (u : usable t ≡ true) where
   -- what a put leaves, in its parts
-  pub put-stored : takes 264 keyOf r t ≡ true → Stored 264 keyOf r t
+  pub put-stored : takes 264 keyOf r t ≡ true → StoreLaws 264 keyOf r t
   put-stored f = stored 264 keyOf r t wide (few t u) (up t u) f
 
   pub store-usable : takes 264 keyOf r t ≡ true → usable (store 264 keyOf r t) ≡ true
@@ -47,7 +47,7 @@ module _ (r : List ℕ) (t : Table) (wide : length r ≡ 264) (form : wellFormed
   unfolding putOf
   put-usable = go (takes 264 keyOf r t) refl
     where
-      go : (b : Bool) → takes 264 keyOf r t ≡ b → usable ((if {A = PutResult} b (record { after = store 264 keyOf r t; taken = true }) (record { after = t; taken = false })) .after) ≡ true
+      go : (b : Bool) → takes 264 keyOf r t ≡ b → usable ((if {A = PutEffect} b (record { after = store 264 keyOf r t; taken = true }) (record { after = t; taken = false })) .after) ≡ true
       go true q = store-usable q
       go false q = u
 

@@ -13,7 +13,7 @@ use Rattle.wing_node.specs.Bool.{if}
 use Rattle.wing_mirror.specs.Rows.{records, holds, below, rising, insert, takes, store}
 use Rattle.wing_mirror.specs.Record.{keyOf}
 use Rattle.wing_mirror.specs.Table.{table, hasKeyAt, usable}
-use Rattle.wing_mirror.specs.Puts.{PutResult, putOf}
+use Rattle.wing_mirror.specs.Puts.{PutEffect, putOf}
 use Rattle.wing_mirror.proofs.Tables.Ordered.{length-insert}
 use Rattle.wing_mirror.proofs.Tables.Chunks.{length-records}
 use Rattle.wing_mirror.proofs.Tables.Stays.{store-new, store-over}
@@ -21,7 +21,7 @@ use Rattle.wing_mirror.proofs.Tables.Laying.{gap-laid}
 use Rattle.wing_mirror.proofs.Tables.Keys.{place-most, has-key-in, has-key-is}
 use Rattle.wing_mirror.proofs.Records.Usables.{room, up}
 
-abbrev kept : List ℕ → ℕ → PutResult
+abbrev kept : List ℕ → ℕ → PutEffect
 kept buffer count = record { after = table buffer count; taken = true }
 
 module _ (b r : List ℕ) (n : ℕ) (rise : rising keyOf (records 264 n b) ≡ true) (wide : length r ≡ 264) where

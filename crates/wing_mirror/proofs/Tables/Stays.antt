@@ -10,7 +10,7 @@ use lib.Dec.{ltb, eqb}
 use lib.ListN.{length, take, drop, length-append, length-drop, length-take, take-append-drop}
 use lib.Seq.{drop-drop}
 use Rattle.wing_node.specs.Bool.{if}
-use Rattle.wing_mirror.specs.Rows.{found, records, joined, laid, holds, below, rising, insert, lookup, Table, places, rowsOf, takes, store, Stored}
+use Rattle.wing_mirror.specs.Rows.{found, records, joined, laid, holds, below, rising, insert, lookup, Table, places, rowsOf, takes, store, StoreLaws}
 use Rattle.wing_mirror.proofs.Tables.Ordered.{Cmp, cmp, low, same, high, insert-low, insert-same, insert-high, rising-head, rising-tail, rising-insert, over-holds, length-insert, all-insert}
 use Rattle.wing_mirror.proofs.Tables.Chunks.{Wide, records-laid, length-laid, drop-laid, length-records, wide-records, joined-records}
 
@@ -63,7 +63,7 @@ module _ {A : Type 0} (key : A → ℕ) where
 
 -- put keeps a table a table
 module _ (w : ℕ) (key : List ℕ → ℕ) where
-  pub stored : (r : List ℕ) (t : Table) → length r ≡ w → t .count ≤ places w t → rising key (rowsOf w t) ≡ true → takes w key r t ≡ true → Stored w key r t
+  pub stored : (r : List ℕ) (t : Table) → length r ≡ w → t .count ≤ places w t → rising key (rowsOf w t) ≡ true → takes w key r t ≡ true → StoreLaws w key r t
   unfolding takes store
   stored r t e few up fits =
       record {

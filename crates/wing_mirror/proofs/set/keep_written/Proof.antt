@@ -1,7 +1,7 @@
 -- Each arm is the line of `keptOf` with that variant, by the contracts of `put` and `refused`.
 use Rattle.wing_wire.specs.declared.write.Written.the-variants.{Bytes}
 use Rattle.wing_mirror.specs.Sets.{keptOf}
-use Rattle.wing_mirror.specs.Puts.{PutResult}
+use Rattle.wing_mirror.specs.Puts.{PutEffect}
 use mathlib.Core.Path.{ap}
 use borrow.Author.Needs.{needs}
 use Rattle.wing_mirror.proofs.set.keep_written.Statement.{statement}
@@ -24,7 +24,7 @@ same-length c = search needs
 
 returns : tie.Need-returns
 unfolding keptOf
-returns c = rw (c .before .before .before .before .before .written .given .1) (ap (λ (d : PutResult). record { answer = Bytes (c .before .before .before .before .before .written .given .0 .0); after = d .after }) (c .before .before .put .ensures))
+returns c = rw (c .before .before .before .before .before .written .given .1) (ap (λ (d : PutEffect). record { answer = Bytes (c .before .before .before .before .before .written .given .0 .0); after = d .after }) (c .before .before .put .ensures))
 
 returns-2 : tie.Need-returns-2
 unfolding keptOf

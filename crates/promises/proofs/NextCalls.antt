@@ -1,29 +1,26 @@
 -- What is promised of a next call, as specs/Wire states it.
 use Prim.Native.Nat.{ℕ, _≤_, _<_}
 use mathlib.Core.Bool.{Bool, true, false, not}
-use mathlib.Core.Path.{_≡_, refl, sym, ap}
+use mathlib.Core.Path.{_≡_, refl, ap}
 use mathlib.Core.List.{List, [], _∷_}
 use native.Mathlib.Omega.{arith}
 use borrow.Author.Tests.{leb-true}
 use lib.Dec.{leb}
 use lib.ListN.{length, take, length-take}
 use Rattle.wing_node.specs.Bool.{if}
-use Rattle.wing_node.specs.Result.{Result, ok, refused}
-use Rattle.wing_wire.specs.State.{soundState}
+use Rattle.wing_node.specs.Result.{ok, refused}
+use Rattle.wing_wire.specs.State.{bodyLimit, soundState}
 use Rattle.wing_wire.specs.Stream.{isMore, advanceOf}
 use Rattle.wing_wire.specs.Reader.{stringBeside, bodyBeside, nextOf, nextFrom, refusedNext}
 use Rattle.wing_wire.specs.Repeated.{Accepted}
 use Rattle.wing_wire.specs.declared.state.State.{State}
 use Rattle.wing_wire.specs.declared.state.Pending.the-variants.{None}
-use Rattle.wing_wire.specs.declared.state.Token.the-variants.{Between}
 use Rattle.wing_wire.specs.declared.reader.Reply.{Reply}
-use Rattle.wing_wire.specs.declared.unit.Answer.{Answer}
-use Rattle.wing_wire.specs.declared.unit.Answer.the-variants.{More, Refused as AnswerRefused}
+use Rattle.wing_wire.specs.declared.unit.Answer.the-variants.{More}
 use Rattle.wing_node.proofs.Branches.{branch}
 use Rattle.wing_wire.proofs.Reading.Steps.{next-more}
 use Rattle.wing_wire.proofs.Laws.{decoder-laws}
 use Rattle.wing_wire.proofs.Reading.Repeats.{accepted, repeated}
-use Rattle.wing_mirror.specs.Rows.{In}
 use Rattle.promises.specs.Lines.{_gives_, by, sends}
 use Rattle.promises.specs.Wire.{nextLines, withEvent, Beside, NextCall}
 use Rattle.promises.proofs.Reading.{advance-says, is-more, advance-stops}
@@ -39,7 +36,7 @@ sent-back s bytes n = go (soundState s) (leb (length bytes) 65536)
     go false b e = let z : 8 ≡ n = cc in ap (λ k. refusedNext k s) z
 
 -- where no line applies, the state is sound and the bytes are few enough
-passed : (s : State) (bytes : List ℕ) → length (s .store) ≡ 4096 → sends (nextLines s bytes) ≡ ok tt → Accepted s bytes
+passed : (s : State) (bytes : List ℕ) → length (s .store) ≡ bodyLimit → sends (nextLines s bytes) ≡ ok tt → Accepted s bytes
 unfolding by
 passed s bytes full = go (soundState s) refl (leb (length bytes) 65536) refl
   where
@@ -63,7 +60,7 @@ next-beside : (s : State) (bytes : List ℕ) → Beside (nextOf s bytes)
 unfolding nextOf stringBeside bodyBeside
 next-beside s bytes =
     branch Beside (soundState s) _ _
-    (λ _. branch Beside (leb (length bytes) 65536) _ _ (λ _. record { store = advanceOf (s .control) (s .store) bytes .heard .store; string = refl; body = refl }) (λ _. record { store = []; string = refl; body = refl }))
+    (λ _. branch Beside (leb (length bytes) 65536) _ _ (λ _. record { store = advanceOf (s .control) (s .store) bytes .effect .store; string = refl; body = refl }) (λ _. record { store = []; string = refl; body = refl }))
     (λ _. record { store = []; string = refl; body = refl })
 
 next-within : (s : State) (bytes : List ℕ) → nextOf s bytes .taken ≤ length bytes
@@ -83,9 +80,9 @@ front s bytes k a = let m = a .most in record { sound = a .sound; store = a .sto
 next-stops : (s : State) (bytes : List ℕ) → Accepted s bytes → (k : ℕ) → k < nextOf s bytes .taken → nextOf s (take k bytes) .answer ≡ More
 next-stops s bytes a k l =
     let r : k < advanceOf (s .control) (s .store) bytes .taken = rw (accepted s bytes a) at l in
-    rw (accepted s (take k bytes) (front s bytes k a)) (is-more (advanceOf (s .control) (s .store) (take k bytes) .heard .told .answer) (advance-stops (s .control) (s .store) bytes k r))
+    rw (accepted s (take k bytes) (front s bytes k a)) (is-more (advanceOf (s .control) (s .store) (take k bytes) .effect .answered .answer) (advance-stops (s .control) (s .store) bytes k r))
 
-pub next-call : (s : State) (bytes : List ℕ) → length (s .store) ≡ 4096 → NextCall s bytes (nextOf s bytes)
+pub next-call : (s : State) (bytes : List ℕ) → length (s .store) ≡ bodyLimit → NextCall s bytes (nextOf s bytes)
 next-call s bytes full = record {
   same = refl;
   beside = next-beside s bytes;

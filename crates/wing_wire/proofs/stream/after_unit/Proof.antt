@@ -3,8 +3,8 @@ use mathlib.Core.Path.{_≡_}
 use mir.Val.{toZ, ofZ}
 use mir.Syntax.{w32}
 use borrow.Author.Needs.{needs}
-use Rattle.wing_wire.proofs.stream.join.Statement.{statement}
-use Rattle.wing_wire.proofs.stream.join.Tie as tie
+use Rattle.wing_wire.proofs.stream.after_unit.Statement.{statement}
+use Rattle.wing_wire.proofs.stream.after_unit.Tie as tie
 
 control-of-requires : tie.Need-control-of-requires
 control-of-requires c κs = search needs
@@ -15,5 +15,5 @@ returns c =
     let back : toZ w32 (ofZ w32 node) ≡ node = search needs in
     simp (c .control-of .ensures) (rw back)
 
-pub join-spec : {M : Type 1} → statement M
-join-spec = tie.close (tie.spec control-of-requires returns)
+pub after-unit-spec : {M : Type 1} → statement M
+after-unit-spec = tie.close (tie.spec control-of-requires returns)
