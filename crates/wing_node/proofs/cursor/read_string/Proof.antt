@@ -1,11 +1,8 @@
 -- Each return is a case of `readAt`: refused before (`read-refused`), no length byte (`string-short`), refused for what `string_fault` says of the
 -- bytes that are there (`string-refused`), or good (`string-good`).
 use mathlib.Core.Path.{_≡_, sym, _∙_}
-use mathlib.Core.Bool.{Bool}
 use Prim.Native.Nat.{_-_, _+_}
 use native.Mathlib.Omega.{arith}
-use lib.ListN.{getD, take, drop}
-use Rattle.wing_node.specs.Utf8.{utf8}
 use Rattle.wing_node.specs.Cursor.{string}
 use Rattle.wing_node.proofs.Bodies.Cases.{read-refused, string-short, string-refused, string-good}
 use borrow.Author.Needs.{needs}
