@@ -1,11 +1,13 @@
 // A record put into the table.
 ghost use mathlib.Core.Path.{_≡_};
 ghost use mathlib.Core.Bool.{true};
+ghost use Prim.Native.Nat.{_*_, _/_, _≤_};
+ghost use lib.Dec.{ltb};
 ghost use lib.ListN.{length};
 ghost use Rattle.wing_mirror.specs.Rows.{takes};
 ghost use Rattle.wing_mirror.specs.Record.{width, keyOf};
-ghost use Rattle.wing_mirror.specs.Table.{table as tableOf, usable};
-ghost use Rattle.wing_mirror.specs.Puts.{putEffect, putOf};
+ghost use Rattle.wing_mirror.specs.Table.{table as tableOf, hasKeyAt, usable};
+ghost use Rattle.wing_mirror.specs.Puts.{room, putEffect, putOf};
 use crate::bytes::lay;
 use crate::bytes::open_gap;
 use crate::order::has_key;
@@ -20,6 +22,25 @@ pub struct Kept {
     pub taken: bool,
 }
 
+// What room there is for an id: that of its own record, or a free place.
+struct Room {
+    held: bool,
+    free: bool,
+}
+
+// A record with this key, if there is one, is the one of this number.
+fn room_for(table: &[u8], count: usize, number: usize, key: u32) -> Room
+    requires { ⌜ width * count ≤ length (now table) ⌝ }
+    ensures { λ r. ⌜ r ≡ room (hasKeyAt (now (table .entry)) count number key) (ltb count (length (now (table .entry)) / width)) ⌝ }
+{
+    let is_held = has_key(table, count, number, key);
+    let most = places(table);
+    Room {
+        held: is_held,
+        free: count < most,
+    }
+}
+
 // Its id has a record, or a place is free.
 pub(crate) fn has_room(table: &[u8], count: usize, rec: &[u8]) -> bool
     requires { ⌜ (usable (tableOf (now table) count) ≡ true) × (length (now rec) ≡ width) ⌝ }
@@ -27,10 +48,11 @@ pub(crate) fn has_room(table: &[u8], count: usize, rec: &[u8]) -> bool
 {
     let key = record::key(rec);
     let number = search(table, count, key);
-    if has_key(table, count, number, key) {
+    let room = room_for(table, count, number, key);
+    if room.held {
         return true;
     }
-    count < places(table)
+    room.free
 }
 
 // Into its place, or instead of the record with its id; not taken where its id is new and no place is free.
@@ -40,14 +62,15 @@ pub(crate) fn put(table: &mut [u8], count: usize, rec: &[u8]) -> Kept
 {
     let key = record::key(rec);
     let number = search(table, count, key);
-    if has_key(table, count, number, key) {
+    let room = room_for(table, count, number, key);
+    if room.held {
         lay(table, State::PLACE_WIDTH * number, rec);
         return Kept {
             count: count,
             taken: true,
         };
     }
-    if count < places(table) {
+    if room.free {
         // Where ids come in rising order, the gap is after the last record and nothing moves.
         open_gap(
             table,

@@ -83,7 +83,8 @@ pub(crate) fn hand_over(out: &mut [u8], laid: &[u8], n: usize) -> Written
     requires { ⌜ n ≤ length (now laid) ⌝ }
     ensures { λ r. ⌜ writeEffect r (now (out .exit)) ≡ writeOf (take n (now (laid .entry))) (now (out .entry)) ⌝ }
 {
-    if out.len() < n {
+    let room = out.len();
+    if room < n {
         return Written::Refused(9);
     }
     copy_front(out, laid, n);
