@@ -1,6 +1,9 @@
 // Times the port and libwing side by side, on the same inputs in one run.
 //   bench            all parts: the median of each side's runs, and their ratio with its spread
 //   bench once PART port|libwing|none    one round of one part, for an instruction count
+mod inputs;
+
+use inputs::{bodies, capture, orders, strings, values, Order, START, STREAMS};
 use std::collections::HashMap;
 use std::hint::black_box;
 use std::time::Instant;
@@ -21,167 +24,8 @@ extern "C" {
     fn port_is_utf8(s: *const u8, n: usize) -> u32;
 }
 
-struct Dice(u64);
-
-impl Dice {
-    fn bits(&mut self) -> u64 {
-        self.0 ^= self.0 << 13;
-        self.0 ^= self.0 >> 7;
-        self.0 ^= self.0 << 17;
-        self.0.wrapping_mul(0x2545_f491_4f6c_dd1d) >> 16
-    }
-
-    fn below(&mut self, n: u64) -> usize {
-        (self.bits() % n) as usize
-    }
-
-    fn ascii(&mut self, n: usize) -> Vec<u8> {
-        (0..n).map(|_| 0x20 + self.below(95) as u8).collect()
-    }
-
-    fn mixed(&mut self, n: usize) -> Vec<u8> {
-        let mut s = String::new();
-        while s.len() < n {
-            let c = match self.below(6) {
-                0 => 0xa0 + self.below(0x300) as u32,
-                1 => 0x2000 + self.below(0x300) as u32,
-                _ => 0x20 + self.below(95) as u32,
-            };
-            s.push(char::from_u32(c).unwrap());
-        }
-        s.into_bytes()
-    }
-}
-
-fn escaped(out: &mut Vec<u8>, bytes: &[u8]) {
-    for &b in bytes {
-        out.push(b);
-        if b == 0xdf {
-            out.push(0xde);
-        }
-    }
-}
-
-fn value(d: &mut Dice, out: &mut Vec<u8>) {
-    match d.below(10) {
-        0..=2 => out.push(d.below(64) as u8),
-        3 | 4 => {
-            out.push(0xd3);
-            let x = (d.bits() as i16).to_be_bytes();
-            escaped(out, &x);
-        }
-        5..=8 => {
-            out.push(0xd5);
-            let x = (d.below(10000) as f32 / 100.0 - 90.0).to_be_bytes();
-            escaped(out, &x);
-        }
-        _ => string(d, out, 16),
-    }
-}
-
-fn string(d: &mut Dice, out: &mut Vec<u8>, most: u64) {
-    let n = 1 + d.below(most);
-    out.push(0x7f + n as u8);
-    let s = d.ascii(n);
-    out.extend(s);
-}
-
-fn node(out: &mut Vec<u8>, id: i32) {
-    out.push(0xd7);
-    escaped(out, &id.to_be_bytes());
-}
-
-fn stream(len: usize, seed: u64, strings: bool) -> Vec<u8> {
-    let mut d = Dice(seed);
-    let mut out = vec![0xdf, 0xd1];
-    while out.len() < len {
-        node(&mut out, d.below(100000) as i32);
-        if strings {
-            string(&mut d, &mut out, 64);
-        } else {
-            value(&mut d, &mut out);
-        }
-    }
-    out
-}
-
-fn capture() -> Vec<u8> {
-    let mut d = Dice(3);
-    let mut out = vec![0xdf, 0xd1];
-    for id in 0..1024 {
-        node(&mut out, 1000 + 7 * id);
-        value(&mut d, &mut out);
-    }
-    out
-}
-
-fn name(d: &mut Dice, out: &mut Vec<u8>, most: u64) {
-    let n = d.below(most);
-    out.push(n as u8);
-    let s = d.ascii(n);
-    out.extend(s);
-}
-
-// Definitions of all eight types.
-fn bodies() -> Vec<Vec<u8>> {
-    let mut d = Dice(4);
-    (0..1000u16).map(|i| {
-        let kind = i % 8;
-        let mut b = d.bits().to_be_bytes().to_vec();
-        b.extend(i.to_be_bytes());
-        name(&mut d, &mut b, 12);
-        name(&mut d, &mut b, 24);
-        b.extend((kind * 16 + 1).to_be_bytes());
-        match kind {
-            1 | 2 => b.extend([0xc2, 0xb4, 0, 0, 0x41, 0x20, 0, 0, 0, 0, 4, 0]),
-            4 => b.extend([0, 0, 0, 0, 0, 0, 0, 99]),
-            5 | 6 => {
-                let n = 2 + d.below(8);
-                b.extend((n as u16).to_be_bytes());
-                for _ in 0..n {
-                    if kind == 5 {
-                        name(&mut d, &mut b, 10);
-                    } else {
-                        b.extend([0x41, 0x20, 0, 0]);
-                    }
-                    name(&mut d, &mut b, 20);
-                }
-            }
-            7 => b.extend([0, 16]),
-            _ => {}
-        }
-        b
-    }).collect()
-}
-
-enum Order {
-    Int(i32, i32),
-    Float(i32, f32),
-    Text(i32, String),
-}
-
-// With no df in a value, so that both sides write the same bytes.
-fn orders() -> Vec<Order> {
-    let mut d = Dice(5);
-    (0..1000).map(|_| {
-        let id = d.below(100000) as i32;
-        match d.below(3) {
-            0 => Order::Int(id, d.bits() as i16 as i32 & !0x0101),
-            1 => Order::Float(id, d.below(200) as f32 / 2.0 - 90.0),
-            _ => {
-                let n = d.below(24);
-                Order::Text(id, String::from_utf8(d.ascii(n)).unwrap())
-            }
-        }
-    }).collect()
-}
-
-fn strings(mixed: bool) -> Vec<Vec<u8>> {
-    let mut d = Dice(6);
-    (0..1000).map(|_| {
-        let n = 4 + d.below(28);
-        if mixed { d.mixed(n) } else { d.ascii(n) }
-    }).collect()
+fn stream((len, seed, strings): (usize, u64, bool)) -> Vec<u8> {
+    [START.to_vec(), values(len, seed, strings).concat()].concat()
 }
 
 fn read_all(bytes: &[u8], mut each: impl FnMut(i32, WingNodeData)) {
@@ -204,6 +48,15 @@ fn read_sum(bytes: &[u8]) -> u64 {
     total
 }
 
+// The sum that the port gives of a stream's values: a string counts as its length. Not timed, since it copies the strings.
+fn port_sum(bytes: &[u8]) -> u64 {
+    let mut total = 0u64;
+    read_all(bytes, |_, d| {
+        total += if d.has_int() { d.get_int() as u32 as u64 } else if d.has_float() { d.get_float().to_bits() as u64 } else { d.get_string().len() as u64 };
+    });
+    total
+}
+
 type Work = Box<dyn FnMut() -> u64>;
 
 struct Part {
@@ -212,11 +65,15 @@ struct Part {
     budget: f64,
     libwing: Work,
     port: Work,
+    /// What the port must answer: what libwing does, unless it is given here.
+    wanted: Option<u64>,
 }
 
 fn decoding(name: &'static str, budget: f64, bytes: Vec<u8>) -> Part {
     let same = bytes.clone();
+    let wanted = Some(port_sum(&bytes));
     Part {
+        wanted,
         name,
         budget,
         libwing: Box::new(move || read_sum(black_box(&bytes))),
@@ -228,9 +85,11 @@ fn decoding(name: &'static str, budget: f64, bytes: Vec<u8>) -> Part {
 }
 
 fn by_next() -> Part {
-    let bytes = stream(65000, 1, false);
+    let bytes = stream(STREAMS[2]);
     let same = bytes.clone();
+    let wanted = Some(port_sum(&bytes));
     Part {
+        wanted,
         name: "decode a value stream, by next",
         budget: 0.0,
         libwing: Box::new(move || read_sum(black_box(&bytes))),
@@ -242,6 +101,7 @@ fn parsing() -> Part {
     let all = bodies();
     let same = all.clone();
     Part {
+        wanted: None,
         name: "parse definitions",
         budget: 1.0,
         libwing: Box::new(move || all.iter().map(|b| black_box(WingNodeDef::from_bytes(black_box(b))).id as u32 as u64).sum()),
@@ -255,6 +115,7 @@ fn writing() -> Part {
     let mut c = WingConsole::over(&[]);
     let mut out = vec![0u8; 400 * 1000];
     Part {
+        wanted: None,
         name: "write set orders",
         budget: 1.0,
         libwing: Box::new(move || {
@@ -286,12 +147,12 @@ fn writing() -> Part {
 }
 
 fn packets(name: &'static str, readings: usize) -> Part {
-    let mut d = Dice(7);
-    let packet: Vec<u8> = (0..4 + 2 * readings).map(|_| d.bits() as u8).collect();
+    let packet = inputs::packet(readings);
     let mut c = WingConsole::over(&[]);
     c.on_port(0, &packet);
     let mut out = vec![0i16; 4100];
     Part {
+        wanted: None,
         name,
         budget: 1.0,
         libwing: Box::new(move || (0..100).map(|_| black_box(c.read_meters().unwrap()).1.len() as u64).sum()),
@@ -306,6 +167,7 @@ fn loading() -> Part {
     let same = bytes.clone();
     let mut table = vec![0u8; 1024 * 264];
     Part {
+        wanted: None,
         name: "load 1,024 rising ids",
         budget: 1.0,
         libwing: Box::new(move || {
@@ -323,6 +185,7 @@ fn characters(name: &'static str, mixed: bool) -> Part {
     let all = strings(mixed);
     let same = all.clone();
     Part {
+        wanted: None,
         name,
         budget: 0.5,
         libwing: Box::new(move || all.iter().map(|s| std::str::from_utf8(black_box(s)).is_ok() as u64).sum()),
@@ -332,8 +195,8 @@ fn characters(name: &'static str, mixed: bool) -> Part {
 
 fn parts() -> Vec<Part> {
     vec![
-        decoding("decode a value stream", 2.0, stream(1 << 20, 1, false)),
-        decoding("decode strings", 2.0, stream(1 << 20, 2, true)),
+        decoding("decode a value stream", 2.0, stream(STREAMS[0])),
+        decoding("decode strings", 2.0, stream(STREAMS[1])),
         by_next(),
         parsing(),
         writing(),
@@ -412,8 +275,8 @@ fn main() {
     }
     println!("{:<32} {:>10} {:>10} {:>7} {:>13} {:>5}", "", "libwing us", "port us", "times", "10%-90%", "want");
     for p in &mut parts {
-        // A string counts as 1 on one side and as its length on the other.
-        if (p.libwing)() != (p.port)() && !p.name.starts_with("decode") {
+        let wanted = p.wanted.unwrap_or_else(|| (p.libwing)());
+        if wanted != (p.port)() {
             println!("{}: the two sides answer differently", p.name);
             std::process::exit(1);
         }

@@ -4,19 +4,16 @@ use wing::memory::PORT;
 use wing::{Error, WingConsole, WingNodeData, WingNodeDef, WingResponse};
 
 use crate::oracle;
+use crate::orders::pairs;
 
 pub struct Case {
     pub name: &'static str,
-    pub query: String,
+    pub order: String,
     /// What libwing does, in words.
     pub rust: fn() -> String,
     pub rust_does: &'static str,
-    /// The rules' answer, as probe tells it.
+    /// The rules' answer, as shell gives it.
     pub rules: String,
-}
-
-fn pairs(bytes: &[u8]) -> String {
-    bytes.iter().map(|b| format!("{b:02x}")).collect()
 }
 
 fn words(r: std::thread::Result<String>) -> String {
@@ -89,40 +86,40 @@ fn s(text: &str) -> String {
 }
 
 pub fn all() -> Vec<Case> {
-    let case = |name, query: String, rust, rust_does, rules: String| Case { name, query, rust, rust_does, rules };
+    let case = |name, order: String, rust, rust_does, rules: String| Case { name, order, rust, rust_does, rules };
     let end = |pos: &str, rest: &str| format!("@{pos}.0{rest}");
     vec![
-        case("d1 ff", format!("s{}", pairs(&length_ff())), || read(&length_ff()), "panics: attempt to add with overflow",
+        case("d1 ff", format!("stream {}", pairs(&length_ff())), || read(&length_ff()), "panics: attempt to add with overflow",
             format!("s00000000{}{}", pairs(&[0x41; 256]), end("00000102", "ffffffff000000000"))),
-        case("d2 ff ff", s("sd2ffff05"), || read(&[0xd2, 0xff, 0xff, 5]), "panics: attempt to add with overflow",
+        case("d2 ff ff", s("stream d2ffff05"), || read(&[0xd2, 0xff, 0xff, 5]), "panics: attempt to add with overflow",
             s("i0000000000000005@00000004.0ffffffff000000000")),
-        case("count 0", s("sdfd1df000000000000"), || read(&[0xdf, 0xd1, 0xdf, 0, 0, 0, 0, 0, 0]), "panics: out of bounds",
+        case("count 0", s("stream dfd1df000000000000"), || read(&[0xdf, 0xd1, 0xdf, 0, 0, 0, 0, 0, 0]), "panics: out of bounds",
             s("r03@00000009.000000001000000000")),
-        case("count over 4,096", format!("s{}", pairs(&count_4097())), || read(&count_4097()), "definition of 4097 bytes",
+        case("count over 4,096", format!("stream {}", pairs(&count_4097())), || read(&count_4097()), "definition of 4097 bytes",
             s("r02@00001006.000000001000000000")),
-        case("a field past the end of a body", s("d"), || parse(&[]), "panics: out of bounds", s("r04")),
-        case("a string of a body not UTF-8", format!("d{}", pairs(&NAME_80)), || parse(&NAME_80), "panics: Utf8Error", s("r05")),
-        case("bytes that end inside a token", s("s80"), || read(&[0x80]), "ConnectionError", s(".0ffffffff000000001")),
-        case("df in a written integer", s("i010000000001000000df"), || write(|c| c.set_int(1, 223).unwrap()), "d700000001d300df",
+        case("a field past the end of a body", s("definition -"), || parse(&[]), "panics: out of bounds", s("r04")),
+        case("a string of a body not UTF-8", format!("definition {}", pairs(&NAME_80)), || parse(&NAME_80), "panics: Utf8Error", s("r05")),
+        case("bytes that end inside a token", s("stream 80"), || read(&[0x80]), "ConnectionError", s(".0ffffffff000000001")),
+        case("df in a written integer", s("setint 256 1 223"), || write(|c| c.set_int(1, 223).unwrap()), "d700000001d300df",
             s("0000d700000001d300dfde1")),
-        case("df in written float bits", s("f010000000001df000000"), || write(|c| c.set_float(1, f32::from_bits(0xdf000000)).unwrap()),
+        case("df in written float bits", s("setfloat 256 1 df000000"), || write(|c| c.set_float(1, f32::from_bits(0xdf000000)).unwrap()),
             "d700000001d5df000000", s("0000d700000001d5dfde0000001")),
-        case("df in a written string", s("t010000000001df9f"), || write(|c| c.set_string(1, "\u{7df}").unwrap()), "d70000000181df9f",
+        case("df in a written string", s("setstring 256 1 df9f"), || write(|c| c.set_string(1, "\u{7df}").unwrap()), "d70000000181df9f",
             s("0000d70000000181dfde9f1")),
-        case("df as a written length", format!("t010000000001{}", pairs(&[b'a'; 224])), || write(|c| c.set_string(1, &"a".repeat(224)).unwrap())[..14].to_string(),
+        case("df as a written length", format!("setstring 256 1 {}", pairs(&[b'a'; 224])), || write(|c| c.set_string(1, &"a".repeat(224)).unwrap())[..14].to_string(),
             "d700000001d1df", format!("0000d700000001d1dfde{}1", pairs(&[b'a'; 224]))),
-        case("df in a port", s("m010000df000000"), || request(223, 0, 0, 0, 0), "dfd3d300dfd4000100dfdcdedfd1", s("0001dfd3d300dfded4000100dfdedcdedfd11")),
-        case("df in a meter id", s("m0100000000de00"), || request(0, 222, 0, 0, 0), "dfd3d30000d400df0000dcdedfd1", s("00dfdfd3d30000d400dfde0000dcdedfd11")),
-        case("df as a meter index", s("m0100000000000100df"), || request(0, 0, 0, 0xdf, 1), "dfd3d30000d400010000dca0dfdedfd1",
+        case("df in a port", s("askmeters 256 223 0 0 -"), || request(223, 0, 0, 0, 0), "dfd3d300dfd4000100dfdcdedfd1", s("0001dfd3d300dfded4000100dfdedcdedfd11")),
+        case("df in a meter id", s("askmeters 256 0 222 0 -"), || request(0, 222, 0, 0, 0), "dfd3d30000d400df0000dcdedfd1", s("00dfdfd3d30000d400dfde0000dcdedfd11")),
+        case("df as a meter index", s("askmeters 256 0 0 1 00df"), || request(0, 0, 0, 0xdf, 1), "dfd3d30000d400010000dca0dfdedfd1",
             s("0001dfd3d30000d400010000dca0dfdededfd11")),
-        case("df in a keep-alive", s("k00000100000100df"), || write(|c| { c.last_meter_id(1); c.on_port(223, &[]); c.keep_alive_meters().unwrap(); }),
+        case("df in a keep-alive", s("keepalive 256 1 223"), || write(|c| { c.last_meter_id(1); c.on_port(223, &[]); c.keep_alive_meters().unwrap(); }),
             "dfd3d4000100dfdfd1", s("0000dfd3d4000100dfdedfd11")),
-        case("a string over 256 bytes", format!("t020000000001{}", pairs(&[b'a'; 257])), || format!("{} bytes", write(|c| c.set_string(1, &"a".repeat(257)).unwrap()).len() / 2),
+        case("a string over 256 bytes", format!("setstring 512 1 {}", pairs(&[b'a'; 257])), || format!("{} bytes", write(|c| c.set_string(1, &"a".repeat(257)).unwrap()).len() / 2),
             "262 bytes", s("r101")),
-        case("more than 64 meters", format!("m02000000000041{}", "0a00".repeat(64)), || format!("{} bytes", request(0, 0, 10, 0, 65).len() / 2), "79 bytes", s("r111")),
-        case("a spent meter id", s("m02000000ffff00"), || request(0, 65535, 0, 0, 0), "panics: attempt to add with overflow", s("r121")),
-        case("a packet under 4 bytes", s("v0010000000"), || heard(&[0; 3]), "panics: slice index starts at 4 but ends at 3", s("r131")),
-        case("a packet over 8,192 bytes", format!("v1004{}", "00".repeat(8193)), || heard(&[0; 8193]), "id 0, 4094 readings", s("r131")),
-        case("the string of a float", s("g0100000000"), || WingNodeData::with_float(0.0).get_string(), "0", s("00000000-")),
+        case("more than 64 meters", format!("askmeters 512 0 0 65 {}", "0a00".repeat(64)), || format!("{} bytes", request(0, 0, 10, 0, 65).len() / 2), "79 bytes", s("r111")),
+        case("a spent meter id", s("askmeters 512 0 65535 0 -"), || request(0, 65535, 0, 0, 0), "panics: attempt to add with overflow", s("r121")),
+        case("a packet under 4 bytes", s("packet 16 000000"), || heard(&[0; 3]), "panics: slice index starts at 4 but ends at 3", s("r131")),
+        case("a packet over 8,192 bytes", format!("packet 4100 {}", "00".repeat(8193)), || heard(&[0; 8193]), "id 0, 4094 readings", s("r131")),
+        case("the string of a float", s("getters 1 00000000"), || WingNodeData::with_float(0.0).get_string(), "0", s("00000000-")),
     ]
 }

@@ -1,107 +1,123 @@
 // Holds the port's answers against libwing's.
-//   compare run PROBE short|long [SEED]   both answer the same queries; exit 1 if any differs
-//   compare answer                        libwing's answers to the queries on standard input
-//   compare list COUNT [SEED]             queries for a fixed list
-//   compare noise COUNT [SEED]            random bytes, most of them queries in form: for damage alone
+//   compare run SHELL short|long [SEED]   both answer the same orders; exit 1 if any answer differs
+//   compare answer                        libwing's answers to the orders on standard input
+//   compare list COUNT [SEED]             orders for a fixed list
+//   compare noise COUNT [SEED]            lines of noise, most of them orders in form or nearly so: for damage alone
 mod cases;
+#[path = "../../bench/inputs.rs"]
+mod inputs;
+mod longer;
+mod noise;
 mod oracle;
+mod orders;
 mod queries;
 
 use oracle::Tally;
+use orders::Order;
 use queries::Dice;
 use std::collections::BTreeMap;
 use std::io::{BufRead, BufReader, BufWriter, Write};
 use std::process::{Child, Command, Stdio};
 use std::sync::mpsc::{sync_channel, Receiver, SyncSender};
-use std::time::Instant;
+use std::time::{Duration, Instant};
 
-type Query = (&'static str, u8, Vec<u8>);
+type Query = (&'static str, Order);
 
-fn line(letter: u8, body: &[u8]) -> Vec<u8> {
-    let digits = b"0123456789abcdef";
-    let mut l = Vec::with_capacity(2 * body.len() + 2);
-    l.push(letter);
-    for b in body {
-        l.push(digits[(b >> 4) as usize]);
-        l.push(digits[(b & 15) as usize]);
-    }
-    l.push(b'\n');
-    l
-}
-
-fn unpaired(l: &[u8]) -> Vec<u8> {
-    let v = |c: u8| (c as char).to_digit(16).unwrap_or(0) as u8;
-    l.chunks_exact(2).map(|p| v(p[0]) * 16 + v(p[1])).collect()
-}
-
-fn start(probe: &str) -> Child {
-    Command::new(probe).stdin(Stdio::piped()).stdout(Stdio::piped()).spawn().unwrap_or_else(|e| {
-        eprintln!("compare: {probe}: {e}");
+fn start(program: &str) -> Child {
+    Command::new(program).stdin(Stdio::piped()).stdout(Stdio::piped()).spawn().unwrap_or_else(|e| {
+        eprintln!("compare: {program}: {e}");
         std::process::exit(2)
     })
 }
 
-// Queries in order: everything small, then random ones.
-fn generate(long: bool, seed: u64, mut each: impl FnMut(&'static str, u8, Vec<u8>)) {
+// Orders one after the other: everything small, the longer ones, then random ones.
+fn generate(long: bool, seed: u64, each: &mut dyn FnMut(&'static str, Order)) {
     let every = if long { 1 } else { 16 };
     let kept = |b: &[u8]| b.len() < 2 || b[1] as usize % every == b[0] as usize % every || (long || b[0] == 0xdf);
-    queries::fronts(b'A', "streams of up to 3 bytes", 2, kept, &mut each);
-    queries::fronts(b'W', "UTF-8", 2, |_| true, &mut each);
-    queries::flags(&mut each);
-    queries::large(&mut each);
+    queries::fronts(2, |b| {
+        if kept(&b) {
+            each("streams of up to 3 bytes", Order::Streams(b));
+        }
+    });
+    queries::fronts(2, |b| each("UTF-8", Order::Utf8s(b)));
+    queries::flags(&mut *each);
+    queries::large(&mut *each);
+    longer::all(&mut Dice::new(seed), if long { 50 } else { 10 }, each);
     let mut d = Dice::new(seed);
     for _ in 0..if long { 6_000_000 } else { 700_000 } {
-        let (name, letter, body) = queries::random(&mut d);
-        each(name, letter, body);
+        let (name, order) = queries::random(&mut d);
+        each(name, order);
     }
+}
+
+// The checker has a batch before its lines are written, so that it reads the answers while they come.
+fn send(to: &mut impl Write, batches: &SyncSender<Vec<Query>>, batch: Vec<Query>) {
+    let lines: String = batch.iter().map(|q| q.1.lines(true)).collect();
+    batches.send(batch).unwrap();
+    to.write_all(lines.as_bytes()).unwrap();
+    to.flush().unwrap();
 }
 
 fn feed(mut to: impl Write, batches: SyncSender<Vec<Query>>, long: bool, seed: u64) {
     let mut batch = Vec::new();
-    generate(long, seed, |name, letter, body| {
-        to.write_all(&line(letter, &body)).unwrap();
-        batch.push((name, letter, body));
-        if batch.len() == 256 {
-            to.flush().unwrap();
-            batches.send(std::mem::take(&mut batch)).unwrap();
+    let mut bytes = 0;
+    generate(long, seed, &mut |name, order| {
+        bytes += order.len();
+        batch.push((name, order));
+        if batch.len() == 256 || bytes > 1 << 20 {
+            bytes = 0;
+            send(&mut to, &batches, std::mem::take(&mut batch));
         }
     });
-    to.flush().unwrap();
-    batches.send(batch).unwrap();
+    send(&mut to, &batches, batch);
 }
 
 struct Totals {
-    cases: BTreeMap<&'static str, u64>,
+    /// Of each kind the cases, and the events and refusals in their streams.
+    kinds: BTreeMap<&'static str, (u64, u64)>,
     tally: Tally,
     /// The first two of each kind.
     differ: Vec<Query>,
     differing: u64,
 }
 
+// Whether each line that goes ahead is answered as it must be.
+fn held_as_wanted(answers: &mut impl BufRead, order: &Order) -> bool {
+    let mut good = true;
+    for want in order.held() {
+        let mut got = Vec::new();
+        answers.read_until(b'\n', &mut got).unwrap();
+        good &= got == want.as_bytes();
+    }
+    good
+}
+
 fn check(answers: &mut impl BufRead, batches: Receiver<Vec<Query>>, totals: &mut Totals) {
     let mut got = Vec::new();
     let mut want = Vec::new();
-    for (name, letter, body) in batches.into_iter().flatten() {
+    for (name, order) in batches.into_iter().flatten() {
         got.clear();
         want.clear();
+        let held = held_as_wanted(answers, &order);
         answers.read_until(b'\n', &mut got).unwrap();
-        oracle::answer(&mut want, letter, &body, &mut totals.tally);
+        oracle::answer_sum(&mut want, &order, &mut totals.tally);
         want.push(b'\n');
-        *totals.cases.entry(name).or_default() += if letter == b'A' || letter == b'W' { 256 } else { 1 };
-        if got != want {
+        let kind = totals.kinds.entry(name).or_default();
+        *kind = (kind.0 + order.cases(), kind.1 + std::mem::take(&mut totals.tally.1));
+        if got != want || !held {
             totals.differing += 1;
             if totals.differ.iter().filter(|q| q.0 == name).count() < 2 {
-                totals.differ.push((name, letter, body));
+                totals.differ.push((name, order));
             }
         }
         if got.is_empty() {
-            println!("probe ended early");
+            println!("the port's program ended early");
             return;
         }
     }
 }
 
-// One query after the other, each answered at once.
+// One order after the other, each answered at once.
 struct Asker {
     to: std::process::ChildStdin,
     from: BufReader<std::process::ChildStdout>,
@@ -109,66 +125,88 @@ struct Asker {
 }
 
 impl Asker {
-    fn new(probe: &str) -> Self {
-        let mut child = start(probe);
-        Asker { to: child.stdin.take().unwrap(), from: BufReader::new(child.stdout.take().unwrap()), _child: child }
+    fn new(program: &str) -> Self {
+        let mut child = start(program);
+        let (to, from) = (child.stdin.take().unwrap(), child.stdout.take().unwrap());
+        Asker { to, from: BufReader::new(from), _child: child }
     }
 
-    fn ask(&mut self, query: &[u8]) -> Vec<u8> {
-        self.to.write_all(query).unwrap();
+    /// The answer, after those to the lines that go ahead.
+    fn ask(&mut self, order: &Order) -> Vec<u8> {
+        if self.to.write_all(order.lines(false).as_bytes()).is_err() {
+            return b"none: the program has ended".to_vec();
+        }
+        let held = held_as_wanted(&mut self.from, order);
         let mut got = Vec::new();
         self.from.read_until(b'\n', &mut got).unwrap();
         got.pop();
-        got
+        if held { got } else { [b"not held as sent; ", &got[..]].concat() }
     }
 
-    fn differs(&mut self, letter: u8, body: &[u8]) -> bool {
-        let mut want = Vec::new();
-        oracle::answer(&mut want, letter, body, &mut Tally::default());
-        self.ask(&line(letter, body)) != want
+    fn differs(&mut self, order: &Order) -> bool {
+        self.ask(order) != answered(order)
     }
 }
 
-// The query by its single answers, with bytes left out and made smaller as long as the answers still differ.
-fn smallest(asker: &mut Asker, letter: u8, mut body: Vec<u8>) -> (u8, Vec<u8>) {
-    let mut letter = letter.to_ascii_lowercase();
-    if letter == b'a' || letter == b'w' {
-        letter = if letter == b'a' { b's' } else { b'u' };
-        body.push(0);
-        for last in 0..=255 {
-            *body.last_mut().unwrap() = last;
-            if asker.differs(letter, &body) {
-                break;
-            }
-        }
-    }
-    if letter != b's' && letter != b'd' && letter != b'u' {
-        return (letter, body);
-    }
+fn answered(order: &Order) -> Vec<u8> {
+    let mut want = Vec::new();
+    oracle::answer(&mut want, order, &mut Tally::default());
+    want
+}
+
+fn summed(order: &Order) -> Vec<u8> {
+    let mut want = Vec::new();
+    oracle::answer_sum(&mut want, order, &mut Tally::default());
+    want
+}
+
+// Of an order that stands for 256, the one that differs.
+fn single(asker: &mut Asker, order: Order) -> Order {
+    let (front, one): (&[u8], fn(Vec<u8>) -> Order) = match &order {
+        Order::Streams(b) => (b, Order::Stream),
+        Order::Utf8s(b) => (b, Order::Utf8),
+        _ => return order,
+    };
+    let found = (0..=255).map(|last| one([front, &[last]].concat())).find(|o| asker.differs(o));
+    found.unwrap_or(order)
+}
+
+// The bytes without those parts of one size that are not needed for the answers to differ.
+fn without_parts(asker: &mut Asker, order: &Order, mut bytes: Vec<u8>, size: usize, until: Instant) -> Vec<u8> {
     let mut at = 0;
-    while at < body.len() {
-        let mut less = body.clone();
-        less.remove(at);
-        if asker.differs(letter, &less) {
-            body = less;
-            at = 0;
-        } else {
-            at += 1;
+    while at + size <= bytes.len() && Instant::now() < until {
+        let less = [&bytes[..at], &bytes[at + size..]].concat();
+        match order.on(less.clone()) {
+            Some(o) if asker.differs(&o) => bytes = less,
+            _ => at += size,
         }
     }
-    (letter, body)
+    bytes
+}
+
+// The order with its bytes left out, large parts first, as long as the answers still differ and a second has not passed.
+fn smallest(asker: &mut Asker, order: Order) -> Order {
+    let order = single(asker, order);
+    if order.on(Vec::new()).is_none() || !asker.differs(&order) {
+        return order;
+    }
+    let mut bytes = order.bytes().unwrap().to_vec();
+    let mut size = bytes.len().div_ceil(2);
+    let until = Instant::now() + Duration::from_secs(1);
+    while size > 0 {
+        bytes = without_parts(asker, &order, bytes, size, until);
+        size /= 2;
+    }
+    order.on(bytes).unwrap()
 }
 
 fn text(bytes: &[u8]) -> String {
     String::from_utf8_lossy(&bytes[..bytes.len().min(2000)]).trim_end().to_string()
 }
 
-fn show_differing(asker: &mut Asker, letter: u8, body: Vec<u8>) {
-    let (letter, body) = smallest(asker, letter, body);
-    let query = line(letter, &body);
-    let mut want = Vec::new();
-    oracle::answer(&mut want, letter, &body, &mut Tally::default());
-    println!("differs: {}\n  libwing, by the rules: {}\n  probe:                 {}", text(&query), text(&want), text(&asker.ask(&query)));
+fn show_differing(asker: &mut Asker, order: Order) {
+    let order = smallest(asker, order);
+    println!("differs: {}\n  libwing, by the rules: {}\n  the port:              {}", text(order.text().as_bytes()), text(&answered(&order)), text(&asker.ask(&order)));
 }
 
 // Each listed difference: libwing does what the list says, the port what the rules want.
@@ -176,94 +214,93 @@ fn listed(asker: &mut Asker) -> u64 {
     let mut wrong = 0;
     for c in cases::all() {
         let rust = (c.rust)();
-        let port = text(&asker.ask(format!("{}\n", c.query).as_bytes()));
-        let body = unpaired(&c.query.as_bytes()[1..]);
-        let mut made = Vec::new();
-        oracle::answer(&mut made, c.query.as_bytes()[0], &body, &mut Tally::default());
-        if rust != c.rust_does || port != c.rules || made != c.rules.as_bytes() {
+        let order = orders::read(&c.order).expect("a listed difference's order");
+        let port = text(&asker.ask(&order));
+        let made = text(&answered(&order));
+        if rust != c.rust_does || port != text(c.rules.as_bytes()) || made != text(c.rules.as_bytes()) {
             wrong += 1;
-            println!("listed difference: {}\n  libwing: {rust}\n  listed:  {}\n  rules:   {}\n  probe:   {port}\n  driver:  {}", c.name, c.rust_does, c.rules, text(&made));
+            println!("listed difference: {}\n  libwing: {rust}\n  listed:  {}\n  rules:   {}\n  port:    {port}\n  driver:  {made}", c.name, c.rust_does, c.rules);
         }
     }
     println!("listed differences: {} cases, {wrong} not as listed", cases::all().len());
     wrong
 }
 
-fn run(probe: &str, long: bool, seed: u64) -> bool {
+fn run(program: &str, long: bool, seed: u64) -> bool {
     let begun = Instant::now();
-    let mut asker = Asker::new(probe);
+    let mut asker = Asker::new(program);
     let wrong = listed(&mut asker);
-    let mut child = start(probe);
-    let to = BufWriter::with_capacity(1 << 16, child.stdin.take().unwrap());
+    let mut child = start(program);
+    let to = child.stdin.take().unwrap();
     let mut from = BufReader::with_capacity(1 << 16, child.stdout.take().unwrap());
-    let mut totals = Totals { cases: BTreeMap::new(), tally: Tally::default(), differ: Vec::new(), differing: 0 };
+    let mut totals = Totals { kinds: BTreeMap::new(), tally: Tally::default(), differ: Vec::new(), differing: 0 };
     let (sender, receiver) = sync_channel(64);
     let feeder = std::thread::spawn(move || feed(to, sender, long, seed));
     check(&mut from, receiver, &mut totals);
     let fed = feeder.join().is_ok();
     let status = child.wait().unwrap();
-    for (name, n) in &totals.cases {
-        println!("{n:>10}  {name}");
+    show_totals(&totals);
+    for (_, order) in std::mem::take(&mut totals.differ) {
+        show_differing(&mut asker, order);
+    }
+    let cases: u64 = totals.kinds.values().map(|k| k.0).sum();
+    println!("compared {cases} cases with seed {seed} in {:.0} s: {} orders differ", begun.elapsed().as_secs_f64(), totals.differing);
+    wrong == 0 && totals.differing == 0 && fed && status.success()
+}
+
+fn show_totals(totals: &Totals) {
+    println!("     cases     events");
+    for (name, (cases, events)) in &totals.kinds {
+        println!("{cases:>10} {events:>10}  {name}");
     }
     println!("where the list has the rules' answer:");
     for (name, n) in &totals.tally.0 {
         println!("{n:>10}  {name}");
     }
-    for (_, letter, body) in std::mem::take(&mut totals.differ) {
-        show_differing(&mut asker, letter, body);
+}
+
+// An answer as shell gives it: bytes that go ahead are held until an order asks for them by `+`.
+fn answer_line(line: &str, held: &mut Vec<u8>) -> Vec<u8> {
+    if let Some(part) = line.strip_prefix("more ") {
+        held.extend(orders::unpaired(part).unwrap_or_default());
+        return format!("held {}", held.len()).into_bytes();
     }
-    let cases: u64 = totals.cases.values().sum();
-    println!("compared {cases} cases with seed {seed} in {:.0} s: {} queries differ", begun.elapsed().as_secs_f64(), totals.differing);
-    wrong == 0 && totals.differing == 0 && fed && status.success()
+    let (sums, line) = line.strip_prefix("sum ").map_or((false, line), |l| (true, l));
+    let order = match line.strip_suffix(" +") {
+        Some(front) => orders::read(&format!("{front} {}", orders::hex(&std::mem::take(held)))),
+        None => orders::read(line),
+    };
+    match order {
+        Some(o) if sums => summed(&o),
+        Some(o) => answered(&o),
+        None => b"?".to_vec(),
+    }
 }
 
 fn answer() {
     let mut out = BufWriter::new(std::io::stdout().lock());
-    for l in std::io::stdin().lock().split(b'\n') {
-        let l = l.unwrap();
-        let mut want = Vec::new();
-        oracle::answer(&mut want, l[0], &unpaired(&l[1..]), &mut Tally::default());
-        want.push(b'\n');
+    let mut held = Vec::new();
+    for l in std::io::stdin().lock().lines() {
+        let want = answer_line(&l.unwrap(), &mut held);
         out.write_all(&want).unwrap();
+        out.write_all(b"\n").unwrap();
     }
 }
 
-// Every listed difference, then random queries of every kind, asked for their answers and not for their sums.
+// Every listed difference, then random orders of every kind, asked for their answers and not for their sums.
 fn list(count: u64, seed: u64) {
     let mut out = BufWriter::new(std::io::stdout().lock());
     for c in cases::all() {
-        writeln!(out, "{}", c.query).unwrap();
+        out.write_all(orders::read(&c.order).unwrap().lines(false).as_bytes()).unwrap();
     }
     let mut d = Dice::new(seed);
     let mut n = 0;
     while n < count {
-        let (_, letter, body) = queries::random(&mut d);
-        if body.len() <= 300 {
-            out.write_all(&line(letter.to_ascii_lowercase(), &body)).unwrap();
+        let (_, order) = queries::random(&mut d);
+        if order.len() <= 300 {
+            out.write_all(order.lines(false).as_bytes()).unwrap();
             n += 1;
         }
-    }
-}
-
-fn noise(count: u64, seed: u64) {
-    let mut out = BufWriter::new(std::io::stdout().lock());
-    let mut d = Dice::new(seed);
-    for _ in 0..count {
-        let (_, letter, body) = queries::random(&mut d);
-        let mut l = line(if d.one_in(3) { d.bits() as u8 } else { letter }, &body);
-        for _ in 0..d.below(3) {
-            let at = d.below(l.len() as u64);
-            match d.below(3) {
-                0 => l[at] = d.bits() as u8,
-                1 => l.truncate(at),
-                _ => l.insert(at, b"0d\nf:"[d.below(5)]),
-            }
-            if l.is_empty() {
-                break;
-            }
-        }
-        l.push(b'\n');
-        out.write_all(&l).unwrap();
     }
 }
 
@@ -273,16 +310,16 @@ fn main() {
     let words: Vec<&str> = words.iter().map(|s| s.as_str()).collect();
     let number = |s: Option<&&str>, other: u64| s.map_or(other, |s| s.parse().unwrap_or(other));
     match words.as_slice() {
-        ["run", probe, mode, rest @ ..] => {
-            if !run(probe, *mode == "long", number(rest.first(), 1)) {
+        ["run", program, mode @ ("short" | "long"), rest @ ..] => {
+            if !run(program, *mode == "long", number(rest.first(), 1)) {
                 std::process::exit(1);
             }
         }
         ["answer"] => answer(),
         ["list", count, rest @ ..] => list(number(Some(count), 0), number(rest.first(), 1)),
-        ["noise", count, rest @ ..] => noise(number(Some(count), 0), number(rest.first(), 1)),
+        ["noise", count, rest @ ..] => noise::lines(number(Some(count), 0), number(rest.first(), 1)),
         _ => {
-            eprintln!("compare: run PROBE short|long [SEED], answer, list COUNT [SEED], noise COUNT [SEED]");
+            eprintln!("compare: run SHELL short|long [SEED], answer, list COUNT [SEED], noise COUNT [SEED]");
             std::process::exit(2);
         }
     }

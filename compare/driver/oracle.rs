@@ -1,13 +1,14 @@
-// What `probe` must answer to a query, made with libwing. Where the list of differences says that libwing answers
+// What `shell` must answer to an order, made with libwing. Where the list of differences says that libwing answers
 // otherwise than the rules, the rules' answer is made from what libwing has read or written, and counted.
 use std::collections::BTreeMap;
 use std::panic::{catch_unwind, AssertUnwindSafe};
+use crate::orders::Order;
 use wing::memory::PORT;
 use wing::{Error, Meter, NodeType, WingConsole, WingNodeData, WingNodeDef, WingResponse};
 
-/// How often each listed difference was met.
+/// How often each listed difference was met, and how many events and refusals the streams had since they were last asked for.
 #[derive(Default)]
-pub struct Tally(pub BTreeMap<&'static str, u64>);
+pub struct Tally(pub BTreeMap<&'static str, u64>, pub u64);
 
 impl Tally {
     fn met(&mut self, what: &'static str) {
@@ -221,6 +222,7 @@ pub fn stream(out: &mut Vec<u8>, bytes: &[u8], t: &mut Tally) {
     loop {
         match event(out, &mut c, t) {
             Ok(true) => {
+                t.1 += 1;
                 out.push(b'@');
                 hex(out, &(c.taken() as u32).to_be_bytes());
             }
@@ -270,12 +272,8 @@ fn not_written(out: &mut Vec<u8>, why: u8) {
     flag(out, true);
 }
 
-fn i32_at(b: &[u8], at: usize) -> i32 {
-    i32::from_be_bytes([b[at], b[at + 1], b[at + 2], b[at + 3]])
-}
-
-fn u16_at(b: &[u8], at: usize) -> u16 {
-    u16::from_be_bytes([b[at], b[at + 1]])
+fn i32_of(b: &[u8]) -> i32 {
+    i32::from_be_bytes([b[0], b[1], b[2], b[3]])
 }
 
 // A set order: its token byte stands as it is, all after it is escaped.
@@ -327,25 +325,32 @@ pub fn meter(kind: u8, n: u8) -> Meter {
     }
 }
 
-/// The meters of a query; those past its items are rta.
-pub fn meters(items: &[u8], count: usize) -> Vec<Meter> {
-    (0..count).map(|i| meter(*items.get(2 * i).unwrap_or(&10), *items.get(2 * i + 1).unwrap_or(&0))).collect()
+const RTA: (u8, u8) = (10, 0);
+
+// The meters of an order up to its count; those past its items are the filler.
+fn meters(items: &[u8], fill: Option<(u8, u8)>, count: usize) -> Vec<Meter> {
+    let (kind, index) = fill.unwrap_or(RTA);
+    (0..count).map(|i| meter(*items.get(2 * i).unwrap_or(&kind), *items.get(2 * i + 1).unwrap_or(&index))).collect()
 }
 
-fn request_meter(out: &mut Vec<u8>, room: usize, b: &[u8], t: &mut Tally) {
-    let count = b[4] as usize;
-    if count > 64 {
+fn request_meter(out: &mut Vec<u8>, room: usize, port: u16, last: u16, meters: &[Meter], t: &mut Tally) {
+    if meters.len() > 64 {
         t.met("more than 64 meters");
         return not_written(out, 11);
     }
-    PORT.with(|p| *p.borrow_mut() = u16_at(b, 0));
+    PORT.with(|p| *p.borrow_mut() = port);
     let mut c = WingConsole::over(&[]);
-    c.last_meter_id(u16_at(b, 2));
-    let Ok(id) = catch_unwind(AssertUnwindSafe(|| c.request_meter(&meters(&b[5..], count)))) else {
+    c.last_meter_id(last);
+    let Ok(id) = catch_unwind(AssertUnwindSafe(|| c.request_meter(meters))) else {
         t.met("a spent meter id");
         return not_written(out, 12);
     };
-    let raw = c.written();
+    let bytes = escaped_request(&c.written(), meters.len(), t);
+    written(out, room, id.unwrap(), &bytes);
+}
+
+// A meter request, with its port, id and indices escaped.
+fn escaped_request(raw: &[u8], count: usize, t: &mut Tally) -> Vec<u8> {
     let mut bytes = raw[..3].to_vec();
     let what = "df in a port, meter id or index";
     escape(&mut bytes, &raw[3..5], what, t);
@@ -362,13 +367,13 @@ fn request_meter(out: &mut Vec<u8>, room: usize, b: &[u8], t: &mut Tally) {
         }
     }
     bytes.extend_from_slice(&raw[at..]);
-    written(out, room, id.unwrap(), &bytes);
+    bytes
 }
 
-fn keep_alive(out: &mut Vec<u8>, b: &[u8], t: &mut Tally) {
+fn keep_alive(out: &mut Vec<u8>, room: usize, last: u16, port: u16, t: &mut Tally) {
     let mut c = WingConsole::over(&[]);
-    c.last_meter_id(u16_at(b, 4));
-    c.on_port(u16_at(b, 6), &[]);
+    c.last_meter_id(last);
+    c.on_port(port, &[]);
     c.keep_alive_meters().unwrap();
     let mut bytes = Vec::new();
     for one in c.written().chunks(9) {
@@ -376,26 +381,14 @@ fn keep_alive(out: &mut Vec<u8>, b: &[u8], t: &mut Tally) {
         escape(&mut bytes, &one[3..7], "df in a port, meter id or index", t);
         bytes.extend_from_slice(&one[7..]);
     }
-    written(out, i32_at(b, 0) as usize, 0, &bytes);
+    written(out, room, 0, &bytes);
 }
 
-fn command(out: &mut Vec<u8>, letter: u8, b: &[u8], t: &mut Tally) {
-    let room = u16_at(b, 0) as usize;
-    let b = &b[2..];
-    if letter == b'm' {
-        return request_meter(out, room, b, t);
-    }
-    let id = i32_at(b, 0);
+// A command of libwing, its value escaped where it is a set order.
+fn command(out: &mut Vec<u8>, room: usize, id: i32, sets: bool, call: impl FnOnce(&mut WingConsole), t: &mut Tally) {
     let mut c = WingConsole::over(&[]);
-    match letter {
-        b't' => return set_string(out, room, id, &b[4..], t),
-        b'i' => c.set_int(id, i32_at(b, 4)).unwrap(),
-        b'f' => c.set_float(id, f32::from_bits(i32_at(b, 4) as u32)).unwrap(),
-        b'x' => return written(out, room, 0, &c.id_bytes(id, b[4], b.get(5).copied())),
-        b'q' => c.request_node_definition(id).unwrap(),
-        _ => c.request_node_data(id).unwrap(),
-    }
-    let bytes = if letter == b'i' || letter == b'f' { set(&c, id, t) } else { c.written() };
+    call(&mut c);
+    let bytes = if sets { set(&c, id, t) } else { c.written() };
     written(out, room, 0, &bytes);
 }
 
@@ -423,11 +416,11 @@ fn packet(out: &mut Vec<u8>, room: usize, p: &[u8], t: &mut Tally) {
     flag(out, true);
 }
 
-fn getters(out: &mut Vec<u8>, b: &[u8], t: &mut Tally) {
-    let d = match b[0] {
-        0 => WingNodeData::with_i32(i32_at(b, 1)),
-        1 => WingNodeData::with_float(f32::from_bits(i32_at(b, 1) as u32)),
-        _ => WingNodeData::with_string(String::from_utf8(b[1..].to_vec()).unwrap()),
+fn getters(out: &mut Vec<u8>, kind: u8, b: &[u8], t: &mut Tally) {
+    let d = match kind {
+        0 => WingNodeData::with_i32(i32_of(b)),
+        1 => WingNodeData::with_float(f32::from_bits(i32_of(b) as u32)),
+        _ => WingNodeData::with_string(String::from_utf8(b.to_vec()).unwrap()),
     };
     hex(out, &d.get_int().to_be_bytes());
     if d.has_float() {
@@ -456,23 +449,46 @@ pub fn sum(s: &[u8]) -> u32 {
     s.iter().fold(0u64, |h, &b| (h * 257 + b as u64) % 4294967291) as u32
 }
 
-/// The answer to a query, without the line end.
-pub fn answer(out: &mut Vec<u8>, letter: u8, body: &[u8], t: &mut Tally) {
-    match letter.to_ascii_lowercase() {
-        b's' => stream(out, body, t),
-        b'p' => stream(out, &body[2..], t),
-        b'a' => one_more(body, |s| stream(out, s, t)),
-        b'd' => definition(out, body, t),
-        b'u' => characters(out, body),
-        b'w' => one_more(body, |s| characters(out, s)),
-        b'g' => getters(out, body, t),
-        b'v' => packet(out, u16_at(body, 0) as usize, &body[2..], t),
-        b'k' => keep_alive(out, body, t),
-        l => command(out, l, body, t),
+fn answer_write(out: &mut Vec<u8>, order: &Order, t: &mut Tally) {
+    match order {
+        Order::SetInt { room, id, value } => command(out, *room, *id, true, |c| c.set_int(*id, *value).unwrap(), t),
+        Order::SetFloat { room, id, bits } => command(out, *room, *id, true, |c| c.set_float(*id, f32::from_bits(*bits)).unwrap(), t),
+        Order::SetString { room, id, bytes } => set_string(out, *room, *id, bytes, t),
+        Order::Format { room, id, prefix, suffix } => written(out, *room, 0, &WingConsole::over(&[]).id_bytes(*id, *prefix, *suffix)),
+        Order::AskDefinition { room, id } => command(out, *room, *id, false, |c| c.request_node_definition(*id).unwrap(), t),
+        Order::AskData { room, id } => command(out, *room, *id, false, |c| c.request_node_data(*id).unwrap(), t),
+        Order::AskMeters { room, port, last, count, fill, items } =>
+            request_meter(out, *room, *port, *last, &meters(items, *fill, *count as usize), t),
+        Order::KeepAlive { room, last, port } => keep_alive(out, *room, *last, *port, t),
+        _ => out.extend_from_slice(b"!order"),
     }
-    if letter.is_ascii_uppercase() {
-        let s = sum(out);
-        out.clear();
-        hex(out, &s.to_be_bytes());
+}
+
+/// The answer to an order, without the line end.
+pub fn answer(out: &mut Vec<u8>, order: &Order, t: &mut Tally) {
+    match order {
+        Order::Stream(b) | Order::Pieces(_, b) => stream(out, b, t),
+        Order::Streams(b) => one_more(b, |s| stream(out, s, t)),
+        Order::Definition(b) => definition(out, b, t),
+        Order::Utf8(b) => characters(out, b),
+        Order::Utf8s(b) => one_more(b, |s| characters(out, s)),
+        Order::Getters(kind, b) => getters(out, *kind, b, t),
+        Order::Packet { room, bytes } => packet(out, *room, bytes, t),
+        _ => answer_write(out, order, t),
     }
+}
+
+/// The sum over the answer, as eight digits.
+pub fn answer_sum(out: &mut Vec<u8>, order: &Order, t: &mut Tally) {
+    answer(out, order, t);
+    let s = sum(out);
+    out.clear();
+    hex(out, &s.to_be_bytes());
+}
+
+/// How many bytes a writer's order writes, room enough given; 0 where it is refused.
+pub fn size(order: &Order) -> usize {
+    let mut out = Vec::new();
+    answer_write(&mut out, order, &mut Tally::default());
+    if out[0] == b'r' { 0 } else { (out.len() - "0000".len() - "1".len()) / 2 }
 }

@@ -1,4 +1,5 @@
-// The queries of a run: everything small, and random ones around each boundary.
+// The orders of a run: everything small, and random ones around each boundary.
+use crate::orders::Order;
 
 /// Numbers that a seed fixes (xorshift).
 pub struct Dice(u64);
@@ -23,16 +24,16 @@ impl Dice {
         self.below(n) == 0
     }
 
-    fn any(&mut self) -> u8 {
+    pub fn any(&mut self) -> u8 {
         self.bits() as u8
     }
 
-    fn of(&mut self, list: &[u8]) -> u8 {
+    pub fn of(&mut self, list: &[u8]) -> u8 {
         list[self.below(list.len() as u64)]
     }
 
     /// A byte that matters to escapes, tokens or UTF-8 more often than not.
-    fn telling(&mut self) -> u8 {
+    pub fn telling(&mut self) -> u8 {
         match self.below(8) {
             0 | 1 => 0xdf,
             2 => 0xd0 + self.below(15) as u8,
@@ -43,17 +44,17 @@ impl Dice {
         }
     }
 
-    fn telling_bytes(&mut self, n: usize) -> Vec<u8> {
+    pub fn telling_bytes(&mut self, n: usize) -> Vec<u8> {
         (0..n).map(|_| self.telling()).collect()
     }
 
-    fn word(&mut self, n: usize) -> Vec<u8> {
+    pub fn word(&mut self, n: usize) -> Vec<u8> {
         let edge = [0u8, 1, 0x3f, 0x40, 0x7f, 0x80, 0xde, 0xdf, 0xe0, 0xff];
         (0..n).map(|_| if self.one_in(2) { self.of(&edge) } else { self.any() }).collect()
     }
 
     /// UTF-8 of about n bytes, sometimes spoiled.
-    fn string(&mut self, n: usize) -> Vec<u8> {
+    pub fn string(&mut self, n: usize) -> Vec<u8> {
         let wide = self.below(4);
         let mut s = String::new();
         while s.len() < n {
@@ -79,13 +80,13 @@ impl Dice {
         b
     }
 
-    fn length(&mut self) -> usize {
+    pub fn length(&mut self) -> usize {
         let edges = [0, 1, 2, 15, 16, 17, 63, 64, 65, 66, 127, 128, 222, 223, 224, 225, 254, 255, 256];
         if self.one_in(2) { self.below(20) } else { edges[self.below(edges.len() as u64)] }
     }
 }
 
-fn escaped(bytes: &[u8]) -> Vec<u8> {
+pub fn escaped(bytes: &[u8]) -> Vec<u8> {
     let mut out = Vec::new();
     for &b in bytes {
         out.push(b);
@@ -137,7 +138,7 @@ fn whole_body(d: &mut Dice) -> Vec<u8> {
 }
 
 // Cut, or with a byte altered, left out or put in, up to three times; or as it was.
-fn damaged(d: &mut Dice, mut b: Vec<u8>) -> Vec<u8> {
+pub fn damaged(d: &mut Dice, mut b: Vec<u8>) -> Vec<u8> {
     for _ in 0..d.below(4) {
         if b.is_empty() {
             return b;
@@ -156,20 +157,30 @@ fn damaged(d: &mut Dice, mut b: Vec<u8>) -> Vec<u8> {
     b
 }
 
-fn token(d: &mut Dice, out: &mut Vec<u8>) {
+// A string of n bytes after its token byte.
+fn string_token(d: &mut Dice, first: u8, n: usize, out: &mut Vec<u8>) {
+    out.push(first);
+    let s = d.string(n);
+    out.extend(escaped(&s));
+}
+
+// A token byte and n bytes.
+fn number_token(d: &mut Dice, first: u8, n: usize, out: &mut Vec<u8>) {
+    out.push(first);
+    let w = d.word(n);
+    out.extend(escaped(&w));
+}
+
+pub fn token(d: &mut Dice, out: &mut Vec<u8>) {
     match d.below(11) {
         0 => out.push(d.below(64) as u8),
         1 => {
             let n = d.below(64);
-            out.push(0x80 + n as u8);
-            let s = d.string(n + 1);
-            out.extend(escaped(&s));
+            string_token(d, 0x80 + n as u8, n + 1, out);
         }
         2 => {
             let n = d.below(16);
-            out.push(0xc0 + n as u8);
-            let s = d.string(n + 1);
-            out.extend(escaped(&s));
+            string_token(d, 0xc0 + n as u8, n + 1, out);
         }
         3 => out.push(d.of(&[0xd0, 0xde, 0xd8, 0xda, 0xdb, 0xdc, 0xdd, 0x40, 0x7f, 0xe0, 0xff])),
         4 => {
@@ -179,26 +190,13 @@ fn token(d: &mut Dice, out: &mut Vec<u8>) {
             let s = d.string(n);
             out.extend(escaped(&s));
         }
-        5 => {
-            out.push(0xd3);
-            let w = d.word(2);
-            out.extend(escaped(&w));
-        }
+        5 => number_token(d, 0xd3, 2, out),
         6 | 7 => {
-            out.push(d.of(&[0xd4, 0xd5, 0xd6, 0xd7]));
-            let w = d.word(4);
-            out.extend(escaped(&w));
+            let first = d.of(&[0xd4, 0xd5, 0xd6, 0xd7]);
+            number_token(d, first, 4, out);
         }
-        8 => {
-            out.push(0xd2);
-            let w = d.word(2);
-            out.extend(escaped(&w));
-        }
-        9 => {
-            out.push(0xd9);
-            let w = d.word(1);
-            out.extend(escaped(&w));
-        }
+        8 => number_token(d, 0xd2, 2, out),
+        9 => number_token(d, 0xd9, 1, out),
         _ => definition_token(d, out),
     }
 }
@@ -215,7 +213,7 @@ fn definition_token(d: &mut Dice, out: &mut Vec<u8>) {
     out.extend(escaped(&b));
 }
 
-fn tokens(d: &mut Dice, n: usize) -> Vec<u8> {
+pub fn tokens(d: &mut Dice, n: usize) -> Vec<u8> {
     let mut out = Vec::new();
     if !d.one_in(4) {
         out.extend([0xdf, 0xd0 + d.below(14) as u8]);
@@ -246,197 +244,183 @@ fn long_body(d: &mut Dice) -> Vec<u8> {
     out
 }
 
-fn room(d: &mut Dice, most: usize) -> [u8; 2] {
-    let n = if d.one_in(4) { d.below(most as u64 / 8 + 1) } else { most };
-    (n as u16).to_be_bytes()
+fn room(d: &mut Dice, most: usize) -> usize {
+    if d.one_in(4) { d.below(most as u64 / 8 + 1) } else { most }
 }
 
-const SETS: u64 = 6;
+fn id(d: &mut Dice) -> i32 {
+    let w = d.word(4);
+    i32::from_be_bytes([w[0], w[1], w[2], w[3]])
+}
 
-fn order(d: &mut Dice) -> (u8, Vec<u8>) {
-    let mut b = room(d, 512).to_vec();
-    b.extend(d.word(4));
-    match d.below(SETS) {
-        0 | 1 => {
-            let edges = [0, 63, 64, -1, 223, 32767, 32768, -32768, -32769, i32::MAX, i32::MIN, 0xdfdf, -8225];
-            let v = match d.below(3) {
-                0 => edges[d.below(edges.len() as u64)],
-                1 => d.below(140000) as i32 - 70000,
-                _ => d.bits() as i32,
-            };
-            b.extend(v.to_be_bytes());
-            (b'I', b)
-        }
-        2 => {
-            b.extend(d.word(4));
-            (b'F', b)
-        }
+fn integer(d: &mut Dice) -> i32 {
+    let edges = [0, 63, 64, -1, 223, 32767, 32768, -32768, -32769, i32::MAX, i32::MIN, 0xdfdf, -8225];
+    match d.below(3) {
+        0 => edges[d.below(edges.len() as u64)],
+        1 => d.below(140000) as i32 - 70000,
+        _ => d.bits() as i32,
+    }
+}
+
+fn written(d: &mut Dice) -> Order {
+    let room = room(d, 512);
+    let mut to = id(d);
+    match d.below(6) {
+        0 | 1 => Order::SetInt { room, id: to, value: integer(d) },
+        2 => Order::SetFloat { room, id: to, bits: id(d) as u32 },
         3 => {
             let n = if d.one_in(6) { 250 + d.below(60) } else { d.length() };
-            let s = d.string(n);
-            b.extend(s);
-            (b'T', b)
+            Order::SetString { room, id: to, bytes: d.string(n) }
         }
         4 => {
             let n = 1 + d.below(2);
-            b.extend(d.word(n));
-            (b'X', b)
+            let w = d.word(n);
+            Order::Format { room, id: to, prefix: w[0], suffix: w.get(1).copied() }
         }
         _ => {
             if d.one_in(8) {
-                b[2..].fill(0);
+                to = 0;
             }
-            (d.of(b"QR"), b)
+            if d.one_in(2) { Order::AskDefinition { room, id: to } } else { Order::AskData { room, id: to } }
         }
     }
 }
 
-fn meters(d: &mut Dice) -> (u8, Vec<u8>) {
-    let mut b = room(d, 512).to_vec();
-    b.extend(d.word(4));
-    if d.one_in(20) {
-        b[4..6].fill(0xff);
-    }
+fn meters(d: &mut Dice) -> Order {
+    let room = room(d, 512);
+    let ids = id(d) as u32;
+    let last = if d.one_in(20) { 65535 } else { ids as u16 };
     let edges = [0, 1, 2, 63, 64, 65, 66, 255];
-    let n = if d.one_in(2) { d.below(8) } else { edges[d.below(8)] };
-    b.push(n as u8);
-    for _ in 0..n.min(64) {
-        b.push(d.below(16) as u8);
+    let count = if d.one_in(2) { d.below(8) } else { edges[d.below(8)] };
+    let items = meter_items(d, count.min(64));
+    Order::AskMeters { room, port: (ids >> 16) as u16, last, count: count as u8, fill: None, items }
+}
+
+pub fn meter_items(d: &mut Dice, n: usize) -> Vec<u8> {
+    let mut items = Vec::new();
+    for _ in 0..n {
+        items.push(d.below(16) as u8);
         let index = d.word(1)[0];
-        b.push(index);
+        items.push(index);
     }
-    (b'M', b)
+    items
 }
 
-fn keep_alive(d: &mut Dice) -> (u8, Vec<u8>) {
-    let n = if d.one_in(6) { d.below(700) } else { d.below(6) };
-    let most = n * 13 + 5;
+fn keep_alive(d: &mut Dice) -> Order {
+    let last = if d.one_in(6) { d.below(700) } else { d.below(6) };
+    let most = last * 13 + 5;
     let room = if d.one_in(4) { d.below(most as u64) } else { most };
-    let mut b = (room as u32).to_be_bytes().to_vec();
-    b.extend((n as u16).to_be_bytes());
-    b.extend(d.word(2));
-    (b'K', b)
+    let w = d.word(2);
+    Order::KeepAlive { room, last: last as u16, port: u16::from_be_bytes([w[0], w[1]]) }
 }
 
-fn packet(d: &mut Dice) -> (u8, Vec<u8>) {
+fn packet(d: &mut Dice) -> Order {
     let edges = [0, 1, 2, 3, 4, 5, 6, 7, 8190, 8191, 8192, 8193, 8194];
     let n = if d.one_in(16) { edges[d.below(13)] } else { d.below(80) };
     let room = if d.one_in(4) { d.below(n as u64 / 2 + 1) } else { 4100 };
-    let mut b = (room as u16).to_be_bytes().to_vec();
-    b.extend(d.word(n));
-    (b'V', b)
+    Order::Packet { room, bytes: d.word(n) }
 }
 
-fn getter(d: &mut Dice) -> (u8, Vec<u8>) {
-    let mut b = vec![d.below(3) as u8];
-    if b[0] == 2 {
+fn getter(d: &mut Dice) -> Order {
+    let kind = d.below(3) as u8;
+    let bytes = if kind == 2 {
         let n = d.length();
         let s = d.string(n);
-        b.extend(match String::from_utf8(s) {
+        match String::from_utf8(s) {
             Ok(s) => s.into_bytes(),
             Err(_) => vec![b'x'],
-        });
+        }
     } else if d.one_in(2) {
-        b.extend((d.below(2001) as i32 - 1000).to_be_bytes());
+        (d.below(2001) as i32 - 1000).to_be_bytes().to_vec()
     } else {
-        b.extend(d.word(4));
-    }
-    (b'G', b)
+        d.word(4)
+    };
+    Order::Getters(kind, bytes)
 }
 
-fn piece(d: &mut Dice) -> Vec<u8> {
-    let n = if d.one_in(2) { 1 + d.below(4) } else { 1 + d.below(40) };
-    (n as u16).to_be_bytes().to_vec()
+fn pieces(d: &mut Dice) -> Order {
+    let size = if d.one_in(2) { 1 + d.below(4) } else { 1 + d.below(40) };
+    let n = 1 + d.below(4);
+    let s = tokens(d, n);
+    Order::Pieces(vec![size as u16], damaged(d, s))
 }
 
-/// A random query and its kind.
-pub fn random(d: &mut Dice) -> (&'static str, u8, Vec<u8>) {
-    let named = |name, (letter, b)| (name, letter, b);
+/// A random order and its kind.
+pub fn random(d: &mut Dice) -> (&'static str, Order) {
     match d.below(40) {
         0..=7 => {
             let n = if d.one_in(30) { d.length() } else { d.below(24) };
-            ("random streams", b'S', d.telling_bytes(n))
+            ("random streams", Order::Stream(d.telling_bytes(n)))
         }
         8..=15 => {
             let n = 1 + d.below(6);
             let s = tokens(d, n);
-            ("valid streams, damaged", b'S', damaged(d, s))
+            ("valid streams, damaged", Order::Stream(damaged(d, s)))
         }
-        16..=18 => {
-            let mut b = piece(d);
-            let n = 1 + d.below(4);
-            let s = tokens(d, n);
-            b.extend(damaged(d, s));
-            ("streams in pieces", b'P', b)
-        }
+        16..=18 => ("streams in pieces", pieces(d)),
         19..=24 => {
             let b = whole_body(d);
-            ("definitions, cut and damaged", b'D', damaged(d, b))
+            ("definitions, cut and damaged", Order::Definition(damaged(d, b)))
         }
-        25..=29 => named("set orders, requests, ids", order(d)),
-        30..=31 => named("meter requests", meters(d)),
-        32 => named("keep-alives", keep_alive(d)),
-        33..=34 => named("packets", packet(d)),
-        35..=36 => named("getters", getter(d)),
+        25..=29 => ("set orders, requests, ids", written(d)),
+        30..=31 => ("meter requests", meters(d)),
+        32 => ("keep-alives", keep_alive(d)),
+        33..=34 => ("packets", packet(d)),
+        35..=36 => ("getters", getter(d)),
         37 => {
             let n = d.length();
-            ("UTF-8", b'U', d.string(n))
+            ("UTF-8", Order::Utf8(d.string(n)))
         }
         38 => {
             let n = 2 + d.below(6);
-            ("UTF-8", b'U', (0..n).map(|_| d.of(&[0x41, 0x7f, 0x80, 0xbf, 0xc1, 0xc2, 0xdf, 0xe0, 0xed, 0xef, 0xf0, 0xf4, 0xf5, 0x9f, 0xa0, 0x8f, 0x90])).collect())
+            let lead = [0x41, 0x7f, 0x80, 0xbf, 0xc1, 0xc2, 0xdf, 0xe0, 0xed, 0xef, 0xf0, 0xf4, 0xf5, 0x9f, 0xa0, 0x8f, 0x90];
+            ("UTF-8", Order::Utf8((0..n).map(|_| d.of(&lead)).collect()))
         }
         _ => {
             if d.one_in(40) {
-                return ("counts around 4,096", b'S', long_body(d));
+                return ("counts around 4,096", Order::Stream(long_body(d)));
             }
             let n = 40 + d.below(300);
-            ("random streams", b'S', d.telling_bytes(n))
+            ("random streams", Order::Stream(d.telling_bytes(n)))
         }
     }
 }
 
 /// All 65,536 flags, with enough bytes after them for any type and with fewer.
-pub fn flags(mut each: impl FnMut(&'static str, u8, Vec<u8>)) {
+pub fn flags(mut each: impl FnMut(&'static str, Order)) {
     for flags in 0..=0xffffu16 {
         let mut b = vec![0, 0, 0, 1, 0xff, 0xff, 0xff, 0xfe, 0, 7, 1, b'a', 0];
         b.extend(flags.to_be_bytes());
-        each("all flags", b'D', b.clone());
+        each("all flags", Order::Definition(b.clone()));
         b.extend([0, 1, 2, b'a', b'b', 1, b'c', 0xbf, 0x80, 0, 0, 0, 0, 9, 9]);
-        each("all flags", b'D', b);
+        each("all flags", Order::Definition(b));
     }
 }
 
 /// Fronts of up to n bytes, to each of which one byte more is tried.
-pub fn fronts(letter: u8, name: &'static str, n: usize, keep: impl Fn(&[u8]) -> bool, mut each: impl FnMut(&'static str, u8, Vec<u8>)) {
+pub fn fronts(n: usize, mut each: impl FnMut(Vec<u8>)) {
     for len in 0..=n {
         for x in 0..(1usize << (8 * len)) {
-            let b = x.to_be_bytes()[8 - len..].to_vec();
-            if keep(&b) {
-                each(name, letter, b);
-            }
+            each(x.to_be_bytes()[8 - len..].to_vec());
         }
     }
 }
 
-/// A few that are too long for the random ones.
-pub fn large(mut each: impl FnMut(&'static str, u8, Vec<u8>)) {
+/// All keep-alives that there can be, and streams of one byte.
+pub fn large(mut each: impl FnMut(&'static str, Order)) {
     for port in [0u16, 223, 0xdfdf, 65535] {
         for last in [65535u16, 65534, 57311, 255, 224] {
-            for room in [851968u32, 4000] {
-                let mut b = room.to_be_bytes().to_vec();
-                b.extend(last.to_be_bytes());
-                b.extend(port.to_be_bytes());
-                each("keep-alives", b'K', b);
+            for room in [800000, 4000] {
+                each("keep-alives", Order::KeepAlive { room, last, port });
             }
         }
     }
     for byte in [0x00, 0x40, 0x3f, 0xdf, 0xde, 0x80, 0xd0] {
         for n in [2047, 2048, 2049, 4096, 65535, 65536] {
-            each("long streams", b'S', vec![byte; n]);
+            each("streams of one byte", Order::Stream(vec![byte; n]));
             let mut b = vec![0xdf, 0xd1];
             b.extend(vec![byte; n - 2]);
-            each("long streams", b'S', b);
+            each("streams of one byte", Order::Stream(b));
         }
     }
 }

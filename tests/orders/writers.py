@@ -8,7 +8,7 @@ from rules.utf8 import is_utf8
 from rules.value import integer_of, string_of
 
 ROOM = 16384                # the largest output of a command
-KEEP_ALIVE_ROOM = 800000
+KEEP_ALIVE_ROOM = 851968    # 13 bytes, the longest keep-alive, 65,536 times
 READINGS = 4200             # the largest output of a packet's readings
 RTA = 0xAA
 

@@ -16,7 +16,7 @@ ODD = (
     "setfloat 9 0 000000", "setfloat 9 0 -", "setstring 9 0", "setstring 9 x 41", "format 9 0 4 -", "format 9 0 - -",
     "format 9 0 4142 -", "format 9 0 41 4142", "format 9 0 41", "askdefinition 9", "askdata 9 0 0", "askmeters 9 65536 0 0 -",
     "askmeters 9 0 65536 0 -", "askmeters 9 0 0 256 -", "askmeters 9 0 0 0", "askmetersfill 9 0 0 0 00 -",
-    "askmetersfill 9 0 0 0 - -", "askmetersfill 9 0 0 0 000000 -", "keepalive 800001 0 0", "keepalive 0 65536 0",
+    "askmetersfill 9 0 0 0 - -", "askmetersfill 9 0 0 0 000000 -", "keepalive 851969 0 0", "keepalive 0 65536 0",
     "keepalive 0 0 65536", "keepalive 0 0", "packet 4201 00000000", "packet 0", "packet", "getters 3 00", "getters 0 00",
     "getters 0 -", "getters 1 0000000000", "getters 2 " + "41" * 257, "getters 2", "getstring 65536 -",
     "getstring 1 " + "41" * 257, "getstring 1", "sum", "sum sum utf8 41", "sum feed 00", "sum cuts", "sum stream",
@@ -24,14 +24,20 @@ ODD = (
     "item 0", "item -1 00", "step 0 0 0", "step 65536 0 0 00", "step 0 65536 0 00", "step 0 0 65536 00", "walk", "walk 0",
     "walk +", "units", "units 0", "state 28 1 -", "state 0 65601 00", "state 0 1", "state -1 1 00", "state 0 4294967296 -",
     "splits", "splits " + "00" * 4201, "lent", "lent +", "more", "more +", "more 0", "mirror", "exit", "?", "? dump", "-",
-    "sum ", "STREAM 00", "stream  00", "dump ", "dump  ",
+    "sum ", "STREAM 00", "stream  00", "dump ", "dump  ", "more 00 00", "more 0g", "more AB", "more  00", "stream + +", "pieces +",
+    "pieces + 00", "piecelist 1", "piecelist", "piecelist 1 1 00", "piecelist 1,,1 00", "piecelist 1,0 00", "piecelist -1 00",
+    "piecelist 1;2 00", "piecelist + 00", "piecelist 00000000001 00", "packet + 00", "units +", "splits +", "state 0 1 +",
+    "item 0 +", "step 0 0 5 +", "utf8s +", "setstring 9 0 +", "askmeters 9 0 0 0 +", "askmetersfill 9 0 0 0 0000 +",
+    "askmetersfill 9 0 0 0 0000", "askmetersfill 9 0 0 0 0A00 -", "askmetersfill 9 0 0 256 0000 -",
+    "askmetersfill 16385 0 0 0 0000 -", "getters 2 +", "getstring 1 +", "repeat 1 +", "string 1 + 9", "poke 0 +", "sum more 00",
+    "sum units +", "sum stream + +", "sum +", "+",
 )
 
 
 def at_limit(source):
     """A line of the most bytes that a line may have, or one more."""
     length = LINE + source.pick(-1, 0, 0, 1, 2, 100)
-    word = source.pick("#", "feed ", "stream ", "utf8 ", "x", "lookup 1 ")
+    word = source.pick("#", "feed ", "stream ", "utf8 ", "more ", "x", "lookup 1 ")
     return word + "4" * (length - len(word))
 
 
@@ -45,7 +51,8 @@ EDGES = (
     "repeat 65600 40", "repeat 4294967295 -", "repeat 32800 4041", "peek 0 0", "poke 0 -", "count 4294967295", "count 0",
     "streams " + "40" * 63, "utf8s " + "41" * 255, "splits " + "41" * 200, "getters 2 " + "41" * 256, "item 4294967295 00",
     "state 27 65600 40", "state 0 65536 40", "pieces 65535 05", "lookup -2147483648", "lookup 2147483647", "lookup -0",
-    "lookup 0000000001", "record 4294967295", "keepalive 800000 1 0", "packet 4200 00000000", "packet 0 00000000",
+    "lookup 0000000001", "record 4294967295", "keepalive 851968 1 0", "packet 4200 00000000", "packet 0 00000000", "more -",
+    "stream +", "definition +", "piecelist " + ",".join(["1"] * 64) + " 0505", "piecelist " + ",".join(["1"] * 65) + " 0505",
 )
 
 

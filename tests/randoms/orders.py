@@ -1,4 +1,5 @@
 """Random lines, a block of them at a time."""
+from randoms.held import held
 from randoms.histories import history
 from randoms.odd import ODD, at_limit, changed, limits
 from randoms.single import Single
@@ -12,7 +13,7 @@ def block(source):
     if kind < 0.86:
         return history(source)
     if kind < 0.88:
-        return [single.rare()]
+        return held(source) if source.chance(0.5) else [single.rare()]
     if kind < 0.93:
         return [source.r.choice(ODD)]
     if kind < 0.96:

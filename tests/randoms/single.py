@@ -11,6 +11,8 @@ WIDE = 10**6
 SWITCHES = (0, 1, 9, 10, 11, 17, 18, 19, 211, 212, 213, 394, 395, 396, 511, 512, 513, 16383, 16384)
 EDGES = (0x7F, 0x80, 0x8F, 0x90, 0x9F, 0xA0, 0xBF, 0xC0, 0xC1, 0xC2, 0xDF, 0xE0, 0xED, 0xEF, 0xF0, 0xF4, 0xF5, 0xFF)
 SOUND = (0, 5, 6, 7, 10, 11, 16, 18, 22, 23)        # the numbers of the sound states
+# Lists of sizes out of form.
+ODD_LISTS = ("0", "-", "+", "x", ",", "1,", ",1", "1,,2", "1,0,2", "-1", "65536", "1,65536", "00000000001", "1;2", ",".join(["1"] * 65))
 LINE_BYTES = 8100       # the most bytes whose pairs fit a line with any order's other words
 
 
@@ -29,6 +31,25 @@ class Single:
 
     def pieces(self):
         return "pieces %d %s" % (self.s.pick(0, 1, 1, 2, 3, 7, 64, 65535, self.s.uint16()), pairs(self.s.stream()[:LINE_BYTES]))
+
+    def size_list(self):
+        sizes = self.s.pick(1, 2, 5, 64, self.r.randrange(1, 65))
+        return ",".join(str(self.s.pick(1, 1, 2, 3, 4096, 65535, self.r.randrange(1, 40), self.r.randrange(1, 65536)))
+                        for _ in range(sizes))
+
+    def piece_list(self):
+        sizes = self.r.choice(ODD_LISTS) if self.s.chance(0.1) else self.size_list()
+        return "piecelist %s %s" % (sizes, pairs(self.s.stream()[:LINE_BYTES]))
+
+    def more(self):
+        """Bytes that are held until an order with + takes them."""
+        return "more " + pairs(self.s.pick(b"", self.s.stream()[:LINE_BYTES], self.s.definition(), self.s.telling(9)))
+
+    def taking(self):
+        """An order on the bytes held."""
+        order = self.s.pick("stream", "pieces %d" % self.s.pick(0, 1, 7, 4096, 65535), "piecelist " + self.size_list(), "definition",
+                            "packet %d" % self.s.pick(4200, 4094, self.r.randrange(4201)))
+        return self.s.pick("", "", "sum ") + order + " +"
 
     def streams(self):
         return "streams " + pairs(self.s.short_stream(self.s.pick(3, 20, 63)))
@@ -89,10 +110,16 @@ class Single:
         port, last, count, items = self.meter_words()
         return "askmeters %d %d %d %d %s" % (self.meter_room(port, last, count), port, last, count, pairs(items))
 
+    def ask_meters_fill(self):
+        port, last, count, items = self.meter_words()
+        fill = bytes([self.s.pick(self.r.randrange(16), self.r.randrange(256)), self.s.pick(0xDF, self.r.randrange(256))])
+        room = self.meter_room(port, last, count)
+        return "askmetersfill %d %d %d %d %s %s" % (room, port, last, count, fill.hex(), pairs(items))
+
     def keep_alive(self):
         last, port = self.s.pick(0, 1, 2, 30, 222, 223, 224, 300, self.r.randrange(1200)), self.s.uint16()
-        if self.s.chance(0.01):
-            last = self.s.pick(65535, 57311)
+        if self.s.chance(0.02):
+            last = self.s.pick(65535, 65535, 57311)
         exact = len(keep_alives(WIDE, last, port))
         room = self.s.pick(KEEP_ALIVE_ROOM, self.room(exact), exact, max(exact - 1, 0), 13 * last, max(13 * last - 1, 0))
         return "keepalive %d %d %d" % (min(room, KEEP_ALIVE_ROOM), last, port)
@@ -150,8 +177,8 @@ class Single:
 
     def summed(self):
         return "sum " + self.r.choice((
-            self.stream, self.pieces, self.streams, self.definition, self.utf8s, self.set_string,
-            self.ask_meters, self.keep_alive, self.packet, self.getters, self.cuts, self.item, self.step, self.walk, self.units,
+            self.stream, self.pieces, self.piece_list, self.streams, self.definition, self.utf8s, self.set_string,
+            self.ask_meters, self.ask_meters_fill, self.keep_alive, self.packet, self.getters, self.cuts, self.item, self.step, self.walk, self.units,
             self.state, self.lent))()
 
     def order(self):
@@ -160,9 +187,9 @@ class Single:
     def kinds(self):
         """Some kinds stand more than once, so that they come more often."""
         return ((self.stream, self.definition) * 6 + (self.pieces, self.set_int, self.set_string, self.ask_meters, self.step) * 3
-                + (self.utf8, self.set_float, self.packet, self.item, self.walk, self.units, self.lent,
-                   self.state, self.summed, self.getters) * 2
-                + (self.format, self.ask, self.keep_alive, self.get_string, self.cuts, self.splits))
+                + (self.piece_list, self.utf8, self.set_float, self.packet, self.item, self.walk, self.units, self.lent,
+                   self.state, self.summed, self.getters, self.ask_meters_fill) * 2
+                + (self.format, self.ask, self.keep_alive, self.get_string, self.cuts, self.splits, self.more, self.taking))
 
     def rare(self):
         """Orders whose answers are long."""

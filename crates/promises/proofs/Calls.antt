@@ -16,7 +16,7 @@ use Rattle.wing_node.specs.Utf8.{utf8}
 use Rattle.wing_node.specs.Value.{NodeValue, integer, float, string}
 use Rattle.wing_wire.specs.Range.{AreBytes}
 use Rattle.wing_wire.specs.State.{soundState}
-use Rattle.wing_wire.specs.Write.{Wrote, wrote, writeOf}
+use Rattle.wing_wire.specs.Write.{WriteEffect, writeEffect, writeOf}
 use Rattle.wing_wire.specs.Command.{setBytes}
 use Rattle.wing_wire.specs.RoundTrip.{Settable}
 use Rattle.wing_wire.specs.SetOrders.{ReadsAsSet}
@@ -33,7 +33,7 @@ use Rattle.wing_mirror.specs.Query.{answerOf, lookupAnswer, readOf, refusedReco
 use Rattle.wing_mirror.specs.Answers.{lookupResult, entryResult, recordResult, sameResult, feedResult}
 use Rattle.wing_mirror.specs.Call.{tooLong, notText}
 use Rattle.wing_mirror.specs.Counts.{zeroCounts}
-use Rattle.wing_mirror.specs.Mirror.{Feeding, fedAll, takenFeed, mirrorFeed, Setting, mirrorSet}
+use Rattle.wing_mirror.specs.Mirror.{FeedEffect, fedAll, takenFeed, mirrorFeed, SetEffect, mirrorSet}
 use Rattle.wing_mirror.specs.Recall.{recallBytes, recallOf}
 use Rattle.wing_mirror.specs.History.{Equal, mirrorStep}
 use Rattle.wing_mirror.specs.declared.answer.Counts.{Counts}
@@ -66,10 +66,10 @@ feed-call s t bytes = record {
     counts : Counts
     counts = fedAll full s t bytes .memo .counts
 
-    feeds : Feeding → Result Counts
+    feeds : FeedEffect → Result Counts
     feeds x = feedResult (x .answer) (x .counts)
 
-    W : Feeding → Type 0
+    W : FeedEffect → Type 0
     W x = (mirror (x .state) (x .table) ≡ mirror s t) × (x .counts ≡ zeroCounts)
 
 -- ---- set
@@ -94,10 +94,10 @@ module _ (id : ℤ) (v : NodeValue) (t : Table) (out : List ℕ) where
       (line sets W bytes (not (fits full (entry id v) t)) 6 _ _ _ refl (refl, refl)
       (line sets W bytes (ltb (length out) (length bytes)) 9 _ _ _ refl (refl, refl) (taken sets W bytes (record { answer = Bytes (length bytes); out = bytes ++ drop (length bytes) out; table = put full (entry id v) t }) (ap ok (at-front bytes out)))))))
     where
-      sets : Setting → Result (List ℕ)
+      sets : SetEffect → Result (List ℕ)
       sets x = writtenResult (x .answer) (x .out)
 
-      W : Setting → Type 0
+      W : SetEffect → Type 0
       W x = (x .out ≡ out) × (x .table ≡ t)
 
   set-rest : (n : ℕ) → mirrorSet full id v t out .answer ≡ Bytes n → drop n (mirrorSet full id v t out .out) ≡ drop n out
@@ -106,7 +106,7 @@ module _ (id : ℤ) (v : NodeValue) (t : Table) (out : List ℕ) where
       set-cases full id v t out (λ x. (n : ℕ) → x .answer ≡ Bytes n → drop n (x .out) ≡ drop n out) (λ k n e. refl)
       (λ o p q f d n e. past-front bytes out n (let z : length bytes ≡ n = cc in z))
 
-  whole : ltb (length out) (length bytes) ≡ false → wrote (Bytes (length bytes)) (bytes ++ drop (length bytes) out) ≡ writeOf bytes out
+  whole : ltb (length out) (length bytes) ≡ false → writeEffect (Bytes (length bytes)) (bytes ++ drop (length bytes) out) ≡ writeOf bytes out
   unfolding writeOf
   whole d = rw d
 
@@ -127,15 +127,15 @@ unfolding recallOf writtenResult
 recall-call t out b = record {
   writes = record {
     answered = unless came W (recallBytes full t) (usable full t) 7 _ _ _ refl (refl, tt) (command-writes (recallBytes full t) out .answered);
-    rest = branch (λ (x : Wrote). (n : ℕ) → x .answer ≡ Bytes n → drop n (x .out) ≡ drop n out) (usable full t) _ _ (λ _. written-rest (recallBytes full t) out) (λ _ n e. refl);
+    rest = branch (λ (x : WriteEffect). (n : ℕ) → x .answer ≡ Bytes n → drop n (x .out) ≡ drop n out) (usable full t) _ _ (λ _. written-rest (recallBytes full t) out) (λ _ n e. refl);
   };
   rebuilds = unfold recallOf in histories full-laws .tables t b out;
 }
   where
-    came : Wrote → Result (List ℕ)
+    came : WriteEffect → Result (List ℕ)
     came x = writtenResult (x .answer) (x .out)
 
-    W : Wrote → Type 0
+    W : WriteEffect → Type 0
     W x = (x .out ≡ out) × Unit {0}
 
 -- ---- queries

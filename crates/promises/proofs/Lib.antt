@@ -2,7 +2,7 @@ mod Typed
 mod Lines
 mod Reading
 mod Parses
-mod Nexts
+mod NextCalls
 mod Decodes
 mod Writers
 mod Calls

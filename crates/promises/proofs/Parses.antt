@@ -1,5 +1,5 @@
 -- What is promised of the parser and of the item calls, as specs/Node states it: wing_node's laws, said of the answers.
-use Prim.Native.Nat.{ℕ, _≤_, _<_}
+use Prim.Native.Nat.{ℕ, _≤_}
 use mathlib.Core.Path.{_≡_, refl, sym, _∙_}
 use mathlib.Core.Logic.{_↔_, _⊎_, inl, inr}
 use mathlib.Core.List.{List, [], _∷_}
@@ -7,13 +7,13 @@ use native.Mathlib.Omega.{arith}
 use Rattle.wing_node.specs.Result.{Result, ok, refused}
 use Rattle.wing_node.specs.Definition.{definitionOf}
 use Rattle.wing_node.specs.Items.{beginOf, stepAt, itemNumbered}
-use Rattle.wing_node.specs.Answers.{DefinitionValues, ItemValues, begunResult, itemResult}
+use Rattle.wing_node.specs.Answers.{DefinitionValues, begunResult}
 use Rattle.wing_node.specs.InBody.{countIn, definitionIn, walkIn}
-use Rattle.wing_node.specs.Parsing.{parserSays, Takes, beginSays, stepOf, numberSays, Parsing, Beginning, Stepping, ByNumber, Definitions}
+use Rattle.wing_node.specs.Parsing.{parserSays, Takes, beginSays, numberSays, Parsing, Beginning, ByNumber}
 use Rattle.wing_node.specs.declared.items.Walk.{Walk}
 use Rattle.wing_node.proofs.Bodies.Walks.{definitions}
 use Rattle.wing_mirror.specs.Rows.{In}
-use Rattle.promises.specs.Node.{Short, Unreadable, AllStand, AsParsed, ParserCall, BeginCall, StepCall, ItemCall}
+use Rattle.promises.specs.Node.{AllStand, ParserCall, BeginCall, StepCall, ItemCall}
 use Rattle.promises.proofs.Lines.{given}
 
 -- 4 or 5 as a member of the list

@@ -8,12 +8,13 @@ use native.Mathlib.Omega.{arith}
 use lib.Dec.{leb, eqb}
 use lib.IntN.{ℤ}
 use lib.ListN.{take, set}
+use Rattle.wing_wire.specs.State.{bodyLimit}
 use Rattle.wing_node.specs.Signed.{signed}
 use Rattle.wing_node.specs.Utf8.{utf8}
 use Rattle.wing_wire.specs.Token.{ruleOf}
 use Rattle.wing_wire.specs.Escape.{decodeOf}
-use Rattle.wing_wire.specs.Unit.{singleOf, tokenOf, beginOf, countOf, numberOf, shiftIn, numberUnit, Out, stringDone, stringUnit, keeps, bodyDone, bodyNext, bodyUnit, unitOf}
-use Rattle.wing_wire.specs.Stream.{Heard, isMore, pendingOf, settleOf, givenOf, firstOf, followOf, stepOf, runOf, advanceOf}
+use Rattle.wing_wire.specs.Unit.{singleOf, tokenOf, beginOf, countOf, numberOf, shiftIn, numberUnit, UnitEffect, stringDone, stringUnit, keeps, bodyDone, bodyNext, bodyUnit, unitOf}
+use Rattle.wing_wire.specs.Stream.{StepEffect, isMore, pendingOf, settleOf, givenOf, firstOf, followOf, stepOf, runOf, advanceOf}
 use Rattle.wing_wire.specs.declared.token.Class.{Class}
 use Rattle.wing_wire.specs.declared.token.Class.the-variants.{NoEvent, Integer, String, Length, Int16, Int32, Float, Node, End, Count, ZeroCount}
 use Rattle.wing_wire.specs.declared.state.Pending.{Pending}
@@ -38,11 +39,11 @@ Says a t = (n : ℕ) → a ≡ Refused n → In n (1 ∷ 2 ∷ 3 ∷ []) × (t �
 abbrev SaysTaken : Taken → Type 0
 SaysTaken t = Says (t .answer) (t .token)
 
-abbrev SaysOut : Out → Type 0
-SaysOut o = SaysTaken (o .taken)
+abbrev SaysUnitEffect : UnitEffect → Type 0
+SaysUnitEffect o = SaysTaken (o .taken)
 
-abbrev pub SaysHeard : Heard → Type 0
-SaysHeard o = Says (o .told .answer) (o .told .control .token)
+abbrev pub SaysStepEffect : StepEffect → Type 0
+SaysStepEffect o = Says (o .answered .answer) (o .answered .control .token)
 
 -- the number of a refusal, 0 for what is none
 abbrev number : Answer → ℕ
@@ -55,8 +56,8 @@ number anEnd = 0
 number (Refused n) = n + 1
 
 -- what is no refusal says nothing
-silent : (a : Answer) (t : Token) → number a ≡ 0 → Says a t
-silent a t q n e = absurd (let z = ap number e in omega arith)
+not-refused : (a : Answer) (t : Token) → number a ≡ 0 → Says a t
+not-refused a t q n e = absurd (let z = ap number e in omega arith)
 
 refuses : (k : ℕ) → In k (1 ∷ 2 ∷ 3 ∷ []) → Says (Refused k) Between
 refuses k i n e = let q : n ≡ k = (let z = ap number e in omega arith) in rw q (i, refl)
@@ -77,115 +78,77 @@ single-none ZeroCount t = refl
 
 number-says : (node : ℤ) (class : Class) (v : ℕ) → SaysTaken (numberOf node class v)
 unfolding numberOf countOf
-number-says node NoEvent v = silent More Between refl
-number-says node Integer v = silent More Between refl
-number-says node String v = silent More Between refl
-number-says node Length v = silent More (InString (v % 0x100 + 1) (v % 0x100 + 1)) refl
-number-says node Int16 v = silent (anInteger (signed 15 (v % 0x10000))) Between refl
-number-says node Int32 v = silent (anInteger (signed 31 v)) Between refl
-number-says node Float v = silent (aFloat v) Between refl
-number-says node Node v = silent More Between refl
-number-says node End v = silent More Between refl
+number-says node NoEvent v = not-refused More Between refl
+number-says node Integer v = not-refused More Between refl
+number-says node String v = not-refused More Between refl
+number-says node Length v = not-refused More (InString (v % 0x100 + 1) (v % 0x100 + 1)) refl
+number-says node Int16 v = not-refused (anInteger (signed 15 (v % 0x10000))) Between refl
+number-says node Int32 v = not-refused (anInteger (signed 31 v)) Between refl
+number-says node Float v = not-refused (aFloat v) Between refl
+number-says node Node v = not-refused More Between refl
+number-says node End v = not-refused More Between refl
 number-says node Count v =
-    branch SaysTaken (eqb (v % 0x10000) 0) _ _ (λ _. silent More (Number ZeroCount 4 0) refl) (λ _. silent More (InBody (v % 0x10000) (v % 0x10000) 0) refl)
+    branch SaysTaken (eqb (v % 0x10000) 0) _ _ (λ _. not-refused More (Number ZeroCount 4 0) refl) (λ _. not-refused More (InBody (v % 0x10000) (v % 0x10000) 0) refl)
 number-says node ZeroCount v = refuses 3 (inr (inr (inl refl)))
 
 body-says : (node : ℤ) (want left stored : ℕ) → SaysTaken (bodyNext node want left stored)
 unfolding bodyNext bodyDone
 body-says node want left stored =
     branch SaysTaken (leb left 1) _ _
-    (λ _. branch SaysTaken (leb want 4096) _ _ (λ _. silent (aBody stored) Between refl) (λ _. refuses 2 (inr (inl refl))))
-    (λ _. silent More (InBody want (left - 1) stored) refl)
+    (λ _. branch SaysTaken (leb want bodyLimit) _ _ (λ _. not-refused (aBody stored) Between refl) (λ _. refuses 2 (inr (inl refl))))
+    (λ _. not-refused More (InBody want (left - 1) stored) refl)
 
 -- one unit
-unit-says : (node : ℤ) (t : Token) (s : List ℕ) (u : ℕ) (a : Bool) → SaysOut (unitOf node t s u a)
+unit-says : (node : ℤ) (t : Token) (s : List ℕ) (u : ℕ) (a : Bool) → SaysUnitEffect (unitOf node t s u a)
 unfolding unitOf beginOf numberUnit stringUnit stringDone bodyUnit
 unit-says node Between s u a =
-    branch SaysTaken (eqb (ruleOf u .wants) 0) _ _ (λ _. silent (singleOf (ruleOf u .class) u) Between (single-none (ruleOf u .class) u))
-    (λ _. silent More (tokenOf (ruleOf u .class) (ruleOf u .wants)) refl)
+    branch SaysTaken (eqb (ruleOf u .wants) 0) _ _ (λ _. not-refused (singleOf (ruleOf u .class) u) Between (single-none (ruleOf u .class) u))
+    (λ _. not-refused More (tokenOf (ruleOf u .class) (ruleOf u .wants)) refl)
 unit-says node (Number class left v) s u a =
-    branch SaysTaken (leb left 1) _ _ (λ _. number-says node class (shiftIn v u)) (λ _. silent More (Number class (left - 1) (shiftIn v u)) refl)
+    branch SaysTaken (leb left 1) _ _ (λ _. number-says node class (shiftIn v u)) (λ _. not-refused More (Number class (left - 1) (shiftIn v u)) refl)
 unit-says node (InString want left) s u a =
-    branch SaysOut (leb left 1) _ _
-    (λ _. branch SaysOut (utf8 (take want (set s (want - left) u))) _ _ (λ _. silent (aString want) Between refl) (λ _. refuses 1 (inl refl)))
-    (λ _. silent More (InString want (left - 1)) refl)
+    branch SaysUnitEffect (leb left 1) _ _
+    (λ _. branch SaysUnitEffect (utf8 (take want (set s (want - left) u))) _ _ (λ _. not-refused (aString want) Between refl) (λ _. refuses 1 (inl refl)))
+    (λ _. not-refused More (InString want (left - 1)) refl)
 unit-says node (InBody want left stored) s u a =
-    branch SaysOut (keeps want stored a) _ _ (λ _. body-says node want left (stored + 1)) (λ _. body-says node want left stored)
-
--- ---- the node stays: what alters it is no refusal
-
-abbrev Kept : ℤ → Taken → Type 0
-Kept node t = (n : ℕ) → t .answer ≡ Refused n → t .node ≡ node
-
-abbrev KeptOut : ℤ → Out → Type 0
-KeptOut node o = Kept node (o .taken)
-
-number-kept : (node : ℤ) (class : Class) (v : ℕ) → Kept node (numberOf node class v)
-unfolding numberOf countOf
-number-kept node NoEvent v = λ n e. refl
-number-kept node Integer v = λ n e. refl
-number-kept node String v = λ n e. refl
-number-kept node Length v = λ n e. refl
-number-kept node Int16 v = λ n e. refl
-number-kept node Int32 v = λ n e. refl
-number-kept node Float v = λ n e. refl
-number-kept node Node v = λ n e. absurd (let z = ap number e in omega arith)
-number-kept node End v = λ n e. refl
-number-kept node Count v = branch (Kept node) (eqb (v % 0x10000) 0) _ _ (λ _ n e. refl) (λ _ n e. refl)
-number-kept node ZeroCount v = λ n e. refl
-
-body-kept : (node : ℤ) (want left stored : ℕ) → Kept node (bodyNext node want left stored)
-unfolding bodyNext bodyDone
-body-kept node want left stored =
-    branch (Kept node) (leb left 1) _ _ (λ _. branch (Kept node) (leb want 4096) _ _ (λ _ n e. refl) (λ _ n e. refl)) (λ _ n e. refl)
-
-pub unit-kept : (node : ℤ) (t : Token) (s : List ℕ) (u : ℕ) (a : Bool) → KeptOut node (unitOf node t s u a)
-unfolding unitOf beginOf numberUnit stringUnit stringDone bodyUnit
-unit-kept node Between s u a = branch (Kept node) (eqb (ruleOf u .wants) 0) _ _ (λ _ n e. refl) (λ _ n e. refl)
-unit-kept node (Number class left v) s u a = branch (Kept node) (leb left 1) _ _ (λ _. number-kept node class (shiftIn v u)) (λ _ n e. refl)
-unit-kept node (InString want left) s u a =
-    branch (KeptOut node) (leb left 1) _ _
-    (λ _. branch (KeptOut node) (utf8 (take want (set s (want - left) u))) _ _ (λ _ n e. refl) (λ _ n e. refl))
-    (λ _ n e. refl)
-unit-kept node (InBody want left stored) s u a =
-    branch (KeptOut node) (keeps want stored a) _ _ (λ _. body-kept node want left (stored + 1)) (λ _. body-kept node want left stored)
+    branch SaysUnitEffect (keeps want stored a) _ _ (λ _. body-says node want left (stored + 1)) (λ _. body-says node want left stored)
 
 -- ---- from one unit to a call
 
-settle-says : (c : Control) (s : List ℕ) → SaysHeard (settleOf c s)
+settle-says : (c : Control) (s : List ℕ) → SaysStepEffect (settleOf c s)
 unfolding settleOf
 settle-says c s = go (c .escape .pending)
   where
-    go : (p : Pending) → SaysHeard (pendingOf p c s)
-    go None = silent More (c .token) refl
+    go : (p : Pending) → SaysStepEffect (pendingOf p c s)
+    go None = not-refused More (c .token) refl
     go (Byte u) = unit-says (c .node) (c .token) s u true
 
-first-says : (c : Control) (s : List ℕ) (b : ℕ) → SaysHeard (firstOf c s b)
+first-says : (c : Control) (s : List ℕ) (b : ℕ) → SaysStepEffect (firstOf c s b)
 unfolding firstOf
 first-says c s b = go (decodeOf (c .escape) b .unit) (decodeOf (c .escape) b .escape)
   where
-    go : (u : Unitʷ) (e : Escape) → SaysHeard (givenOf u e c s)
-    go Nothing e = silent More (c .token) refl
+    go : (u : Unitʷ) (e : Escape) → SaysStepEffect (givenOf u e c s)
+    go Nothing e = not-refused More (c .token) refl
     go (Bare u) e = unit-says (c .node) (c .token) s u false
     go (Appended u) e = unit-says (c .node) (c .token) s u true
 
-step-says : (c : Control) (s : List ℕ) (b : ℕ) → SaysHeard (stepOf c s b)
+step-says : (c : Control) (s : List ℕ) (b : ℕ) → SaysStepEffect (stepOf c s b)
 unfolding followOf
 step-says c s b =
-    let o : Heard = firstOf c s b in
-    branch SaysHeard (isMore (o .told .answer)) _ _ (λ _. settle-says (o .told .control) (o .store)) (λ _. first-says c s b)
+    let o : StepEffect = firstOf c s b in
+    branch SaysStepEffect (isMore (o .answered .answer)) _ _ (λ _. settle-says (o .answered .control) (o .store)) (λ _. first-says c s b)
 
-run-says : (o : Heard) (n : ℕ) (bs : List ℕ) → SaysHeard o → SaysHeard (runOf (at o n) bs .heard)
+run-says : (o : StepEffect) (n : ℕ) (bs : List ℕ) → SaysStepEffect o → SaysStepEffect (runOf (at o n) bs .effect)
 unfolding runOf
 run-says o n [] h = h
-run-says o n (b ∷ bs) h = go (isMore (o .told .answer)) refl (run-says (stepOf (o .told .control) (o .store) b) (n + 1) bs (step-says (o .told .control) (o .store) b))
+run-says o n (b ∷ bs) h = go (isMore (o .answered .answer)) refl (run-says (stepOf (o .answered .control) (o .store) b) (n + 1) bs (step-says (o .answered .control) (o .store) b))
   where
-    go : (t : Bool) → isMore (o .told .answer) ≡ t → SaysHeard (runOf (at (stepOf (o .told .control) (o .store) b) (n + 1)) bs .heard) → SaysHeard (runOf (at o n) (b ∷ bs) .heard)
+    go : (t : Bool) → isMore (o .answered .answer) ≡ t → SaysStepEffect (runOf (at (stepOf (o .answered .control) (o .store) b) (n + 1)) bs .effect) → SaysStepEffect (runOf (at o n) (b ∷ bs) .effect)
     go true e ih = rw (run-on o n b bs e) ih
     go false e ih = rw (stays (at o n) (b ∷ bs) e) h
 
 -- a next call
-pub advance-says : (c : Control) (s bytes : List ℕ) → SaysHeard (advanceOf c s bytes .heard)
+pub advance-says : (c : Control) (s bytes : List ℕ) → SaysStepEffect (advanceOf c s bytes .effect)
 unfolding advanceOf
 advance-says c s bytes = run-says (settleOf c s) 0 bytes (settle-says c s)
 
@@ -201,23 +164,23 @@ is-more anEnd e = absurd (let z : _≡_ {A = ℕ} 0 1 = cc in omega arith)
 is-more (Refused n) e = absurd (let z : _≡_ {A = ℕ} 0 1 = cc in omega arith)
 
 -- a front of the bytes that a run took, shorter than these, gives nothing yet
-run-stops : (o : Heard) (n : ℕ) (bs : List ℕ) (k : ℕ) → n + k < runOf (at o n) bs .taken → isMore (runOf (at o n) (take k bs) .heard .told .answer) ≡ true
+run-stops : (o : StepEffect) (n : ℕ) (bs : List ℕ) (k : ℕ) → n + k < runOf (at o n) bs .taken → isMore (runOf (at o n) (take k bs) .effect .answered .answer) ≡ true
 unfolding runOf
 run-stops o n [] k l = absurd (omega arith)
-run-stops o n (b ∷ bs) k l = go (isMore (o .told .answer)) refl k l (λ j. run-stops (stepOf (o .told .control) (o .store) b) (n + 1) bs j)
+run-stops o n (b ∷ bs) k l = go (isMore (o .answered .answer)) refl k l (λ j. run-stops (stepOf (o .answered .control) (o .store) b) (n + 1) bs j)
   where
-    o′ : Heard
-    o′ = stepOf (o .told .control) (o .store) b
+    o′ : StepEffect
+    o′ = stepOf (o .answered .control) (o .store) b
 
-    go : (t : Bool) → isMore (o .told .answer) ≡ t → (k : ℕ) → n + k < runOf (at o n) (b ∷ bs) .taken →
-        ((j : ℕ) → n + 1 + j < runOf (at o′ (n + 1)) bs .taken → isMore (runOf (at o′ (n + 1)) (take j bs) .heard .told .answer) ≡ true) →
-        isMore (runOf (at o n) (take k (b ∷ bs)) .heard .told .answer) ≡ true
+    go : (t : Bool) → isMore (o .answered .answer) ≡ t → (k : ℕ) → n + k < runOf (at o n) (b ∷ bs) .taken →
+        ((j : ℕ) → n + 1 + j < runOf (at o′ (n + 1)) bs .taken → isMore (runOf (at o′ (n + 1)) (take j bs) .effect .answered .answer) ≡ true) →
+        isMore (runOf (at o n) (take k (b ∷ bs)) .effect .answered .answer) ≡ true
     go true e zero l ih = e
     go true e (suc k) l ih =
         let m : n + suc k < runOf (at o′ (n + 1)) bs .taken = rw (run-on o n b bs e) at l in
         rw (run-on o n b (take k bs) e) (ih k (omega arith))
     go false e k l ih = absurd (let m : n + k < n = rw (stays (at o n) (b ∷ bs) e) at l in omega arith)
 
-pub advance-stops : (c : Control) (s bytes : List ℕ) (k : ℕ) → k < advanceOf c s bytes .taken → isMore (advanceOf c s (take k bytes) .heard .told .answer) ≡ true
+pub advance-stops : (c : Control) (s bytes : List ℕ) (k : ℕ) → k < advanceOf c s bytes .taken → isMore (advanceOf c s (take k bytes) .effect .answered .answer) ≡ true
 unfolding advanceOf
 advance-stops c s bytes k l = run-stops (settleOf c s) 0 bytes k (omega arith)

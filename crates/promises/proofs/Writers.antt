@@ -1,31 +1,28 @@
 -- What is promised of the commands, the meter request and the packets, as specs/Wire states it.
 use Prim.Native.Nat.{ℕ, _+_}
-use mathlib.Core.Bool.{Bool, true, false}
-use mathlib.Core.Path.{_≡_, refl, sym, _∙_, ap}
-use mathlib.Core.List.{List, [], _∷_, _++_}
+use mathlib.Core.Path.{_≡_, refl, ap}
+use mathlib.Core.List.{List, _++_}
 use native.Mathlib.Omega.{arith}
 use lib.Dec.{ltb, leb, eqb}
 use lib.IntN.{ℤ}
 use lib.ListN.{length, take, drop}
 use lib.Seq.{take-append-seam, drop-append-seam}
-use Rattle.wing_node.specs.Bool.{if}
 use Rattle.wing_node.specs.Field.{big}
-use Rattle.wing_node.specs.Result.{Result, ok, refused}
+use Rattle.wing_node.specs.Result.{Result, ok}
 use Rattle.wing_node.specs.Utf8.{utf8}
 use Rattle.wing_node.specs.Signed.{InBits}
 use Rattle.wing_node.specs.Value.{NodeValue, string}
-use Rattle.wing_wire.specs.Write.{Wrote, wrote, writeOf}
+use Rattle.wing_wire.specs.Write.{WriteEffect, writeEffect, writeOf}
 use Rattle.wing_wire.specs.Command.{setBytes, setString}
-use Rattle.wing_wire.specs.Meter.{Asked, asked, askOf, meterRequest, requestMeter, Heard, heard, readings, packetOf}
+use Rattle.wing_wire.specs.Meter.{RequestEffect, requestEffect, writeRequestOf, meterRequest, requestMeter, PacketEffect, packetEffect, readings, packetOf}
 use Rattle.wing_wire.specs.Answers.{writtenResult, MeterRequest, requestedResult, MeterPacket, metersResult}
 use Rattle.wing_wire.specs.declared.write.Written.the-variants.{Bytes, Refused}
 use Rattle.wing_wire.specs.declared.meter.Meter.{Meter}
-use Rattle.wing_wire.specs.declared.meter.Requested.the-variants.{Bytes as Asks, Refused as Unrequested}
-use Rattle.wing_wire.specs.declared.meter.MetersRead.the-variants.{Readings, Refused as Unheard}
+use Rattle.wing_wire.specs.declared.meter.Requested.the-variants.{Bytes as RequestWritten, Refused as RequestRefused}
+use Rattle.wing_wire.specs.declared.meter.MetersRead.the-variants.{Readings, Refused as ReadRefused}
 use Rattle.wing_wire.specs.RoundTrip.{Settable}
 use Rattle.wing_node.proofs.Branches.{branch}
 use Rattle.wing_wire.proofs.BothWays.Orders.{reads-as-set, reads-as-string}
-use Rattle.promises.specs.Lines.{Line, _gives_, Answers}
 use Rattle.promises.specs.Wire.{Writes, CommandCall, commandLines, stringLines, SetOrder, MeterCall, PacketCall}
 use Rattle.promises.proofs.Lines.{taken, line, unless}
 
@@ -38,17 +35,17 @@ past-front bytes out n e = rw (← e) (drop-append-seam bytes (drop (length byte
 
 -- ---- commands
 
-abbrev came : Wrote → Result (List ℕ)
+abbrev came : WriteEffect → Result (List ℕ)
 came x = writtenResult (x .answer) (x .out)
 
-abbrev Kept : List ℕ → Wrote → Type 0
+abbrev Kept : List ℕ → WriteEffect → Type 0
 Kept out x = (x .out ≡ out) × Unit {0}
 
-abbrev Rest : List ℕ → Wrote → Type 0
+abbrev Rest : List ℕ → WriteEffect → Type 0
 Rest out x = (n : ℕ) → x .answer ≡ Bytes n → drop n (x .out) ≡ drop n out
 
 -- a refusal wrote nothing
-refused-rest : (k : ℕ) (out after : List ℕ) → Rest out (wrote (Refused k) after)
+refused-rest : (k : ℕ) (out after : List ℕ) → Rest out (writeEffect (Refused k) after)
 refused-rest k out after n e = absurd (let z : _≡_ {A = ℕ} 0 1 = cc in omega arith)
 
 pub written-rest : (bytes out : List ℕ) → Rest out (writeOf bytes out)
@@ -60,7 +57,7 @@ written-rest bytes out =
 pub command-writes : (bytes out : List ℕ) → CommandCall bytes out (writeOf bytes out .answer) (writeOf bytes out .out)
 unfolding writeOf writtenResult
 command-writes bytes out = record {
-  answered = line came (Kept out) bytes (ltb (length out) (length bytes)) 9 _ _ _ refl (refl, tt) (taken came (Kept out) bytes (wrote (Bytes (length bytes)) (bytes ++ drop (length bytes) out)) (ap ok (at-front bytes out)));
+  answered = line came (Kept out) bytes (ltb (length out) (length bytes)) 9 _ _ _ refl (refl, tt) (taken came (Kept out) bytes (writeEffect (Bytes (length bytes)) (bytes ++ drop (length bytes) out)) (ap ok (at-front bytes out)));
   rest = unfold writeOf in written-rest bytes out;
 }
 
@@ -87,13 +84,13 @@ string-call id s out i = record { writes = string-writes id s out; reads = reads
 -- ---- meters
 
 pub meters-write : (port last : ℕ) (ms : List Meter) (count : ℕ) (out : List ℕ) → MeterCall port last ms count out (requestMeter port last ms count out .answer) (requestMeter port last ms count out .out)
-unfolding requestMeter askOf requestedResult
+unfolding requestMeter writeRequestOf requestedResult
 meters-write port last ms count out = record {
-  answered = unless asks W request (leb count 64) 11 _ _ _ refl refl (line asks W request (eqb last 65535) 12 _ _ _ refl refl
-      (line asks W request (ltb (length out) (length bytes)) 9 _ _ _ refl refl (taken asks W request (asked (Asks (length bytes) (last + 1)) (bytes ++ drop (length bytes) out)) (ap (λ (b : List ℕ). ok (record { bytes = b; id = last + 1 })) (at-front bytes out)))));
+  answered = unless result-of W request (leb count 64) 11 _ _ _ refl refl (line result-of W request (eqb last 65535) 12 _ _ _ refl refl
+      (line result-of W request (ltb (length out) (length bytes)) 9 _ _ _ refl refl (taken result-of W request (requestEffect (RequestWritten (length bytes) (last + 1)) (bytes ++ drop (length bytes) out)) (ap (λ (b : List ℕ). ok (record { bytes = b; id = last + 1 })) (at-front bytes out)))));
   rest = branch R (leb count 64) _ _
-      (λ _. branch R (eqb last 65535) _ _ (λ _. none 12) (λ _. branch R (ltb (length out) (length bytes)) _ _ (λ _. none 9) (λ _ n id e. past-front bytes out n (let z : length bytes ≡ n = cc in z))))
-      (λ _. none 11);
+      (λ _. branch R (eqb last 65535) _ _ (λ _. of-refused 12) (λ _. branch R (ltb (length out) (length bytes)) _ _ (λ _. of-refused 9) (λ _ n id e. past-front bytes out n (let z : length bytes ≡ n = cc in z))))
+      (λ _. of-refused 11);
 }
   where
     bytes : List ℕ
@@ -102,25 +99,25 @@ meters-write port last ms count out = record {
     request : MeterRequest
     request = record { bytes = bytes; id = last + 1 }
 
-    asks : Asked → Result MeterRequest
-    asks x = requestedResult (x .answer) (x .out)
+    result-of : RequestEffect → Result MeterRequest
+    result-of x = requestedResult (x .answer) (x .out)
 
-    W : Asked → Type 0
+    W : RequestEffect → Type 0
     W x = x .out ≡ out
 
-    R : Asked → Type 0
-    R x = (n id : ℕ) → x .answer ≡ Asks n id → drop n (x .out) ≡ drop n out
+    R : RequestEffect → Type 0
+    R x = (n id : ℕ) → x .answer ≡ RequestWritten n id → drop n (x .out) ≡ drop n out
 
-    none : (k : ℕ) → R (asked (Unrequested k) out)
-    none k n id e = refl
+    of-refused : (k : ℕ) → R (requestEffect (RequestRefused k) out)
+    of-refused k n id e = refl
 
 pub packet-reads : (p : List ℕ) (out : List ℤ) → PacketCall p out (packetOf p out .answer) (packetOf p out .out)
 unfolding packetOf metersResult
 packet-reads p out = record {
-  answered = line hears W packet (ltb (length p) 4) 13 _ _ _ refl refl (line hears W packet (ltb 8192 (length p)) 13 _ _ _ refl refl
-      (line hears W packet (ltb (length out) (length rs)) 9 _ _ _ refl refl (taken hears W packet (heard (Readings (big (take 2 p)) (length rs)) (rs ++ drop (length rs) out)) (ap (λ (r : List ℤ). ok (record { id = big (take 2 p); readings = r })) (at-front rs out)))));
-  rest = branch R (ltb (length p) 4) _ _ (λ _. none 13)
-      (λ _. branch R (ltb 8192 (length p)) _ _ (λ _. none 13) (λ _. branch R (ltb (length out) (length rs)) _ _ (λ _. none 9) (λ _ id n e. past-front rs out n (let z : length rs ≡ n = cc in z))));
+  answered = line result-of W packet (ltb (length p) 4) 13 _ _ _ refl refl (line result-of W packet (ltb 8192 (length p)) 13 _ _ _ refl refl
+      (line result-of W packet (ltb (length out) (length rs)) 9 _ _ _ refl refl (taken result-of W packet (packetEffect (Readings (big (take 2 p)) (length rs)) (rs ++ drop (length rs) out)) (ap (λ (r : List ℤ). ok (record { id = big (take 2 p); readings = r })) (at-front rs out)))));
+  rest = branch R (ltb (length p) 4) _ _ (λ _. of-refused 13)
+      (λ _. branch R (ltb 8192 (length p)) _ _ (λ _. of-refused 13) (λ _. branch R (ltb (length out) (length rs)) _ _ (λ _. of-refused 9) (λ _ id n e. past-front rs out n (let z : length rs ≡ n = cc in z))));
 }
   where
     rs : List ℤ
@@ -129,14 +126,14 @@ packet-reads p out = record {
     packet : MeterPacket
     packet = record { id = big (take 2 p); readings = rs }
 
-    hears : Heard → Result MeterPacket
-    hears x = metersResult (x .answer) (x .out)
+    result-of : PacketEffect → Result MeterPacket
+    result-of x = metersResult (x .answer) (x .out)
 
-    W : Heard → Type 0
+    W : PacketEffect → Type 0
     W x = x .out ≡ out
 
-    R : Heard → Type 0
+    R : PacketEffect → Type 0
     R x = (id n : ℕ) → x .answer ≡ Readings id n → drop n (x .out) ≡ drop n out
 
-    none : (k : ℕ) → R (heard (Unheard k) out)
-    none k id n e = refl
+    of-refused : (k : ℕ) → R (packetEffect (ReadRefused k) out)
+    of-refused k id n e = refl

@@ -1,6 +1,6 @@
 -- 01's table 'What is sent back', read as lines: a call is sent back with the number of the first line that applies to it.
 use Prim.Native.Nat.{ℕ}
-use mathlib.Core.Bool.{Bool, true, false}
+use mathlib.Core.Bool.{Bool}
 use mathlib.Core.Path.{_≡_}
 use mathlib.Core.List.{List, [], _∷_}
 use Rattle.wing_node.specs.Bool.{if}

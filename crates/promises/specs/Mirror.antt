@@ -23,7 +23,7 @@ use Rattle.wing_mirror.specs.Query.{sameTables, refusedRecord}
 use Rattle.wing_mirror.specs.Answers.{lookupResult, recordResult, sameResult, feedResult}
 use Rattle.wing_mirror.specs.Lookups.{RecordOf}
 use Rattle.wing_mirror.specs.Counts.{zeroCounts}
-use Rattle.wing_mirror.specs.Call.{feed, set, Step, tooLong, notText}
+use Rattle.wing_mirror.specs.Call.{feed, set, tooLong, notText}
 use Rattle.wing_mirror.specs.Mirror.{TableTally, keepEvent, fedAll}
 use Rattle.wing_mirror.specs.Recall.{recallBytes}
 use Rattle.wing_mirror.specs.History.{Mirror, Equal, feedOutcome, setOutcome, mirrorStep, Rebuilt}

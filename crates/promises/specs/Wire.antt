@@ -1,13 +1,13 @@
 -- What is promised of each call of the wire, by its arguments, its answer and the lent buffers after it.
 use Prim.Native.Nat.{ℕ, _+_, _<_, _≤_}
-use mathlib.Core.Bool.{Bool, true, not}
+use mathlib.Core.Bool.{true, not}
 use mathlib.Core.Path.{_≡_}
 use mathlib.Core.List.{List, [], _∷_, _++_}
 use lib.Dec.{ltb, leb, eqb}
 use lib.IntN.{ℤ}
 use lib.ListN.{length, take, drop, getD}
 use Rattle.wing_node.specs.Field.{big}
-use Rattle.wing_node.specs.Result.{Result, ok, refused}
+use Rattle.wing_node.specs.Result.{ok, refused}
 use Rattle.wing_node.specs.Utf8.{utf8}
 use Rattle.wing_node.specs.Value.{NodeValue, string}
 use Rattle.wing_wire.specs.State.{soundEscape, soundState}
@@ -18,7 +18,7 @@ use Rattle.wing_wire.specs.Command.{setBytes}
 use Rattle.wing_wire.specs.Meter.{meterRequest, readings}
 use Rattle.wing_wire.specs.Reader.{Event, eventIn, stringBeside, bodyBeside, refusedNext, nextOf}
 use Rattle.wing_wire.specs.Repeated.{Accepted, fedState, feedEvents, CoreGives}
-use Rattle.wing_wire.specs.Answers.{writtenResult, MeterRequest, requestedResult, MeterPacket, metersResult}
+use Rattle.wing_wire.specs.Answers.{writtenResult, requestedResult, metersResult}
 use Rattle.wing_wire.specs.SetOrders.{ReadsAsSet}
 use Rattle.wing_wire.specs.declared.state.State.{State}
 use Rattle.wing_wire.specs.declared.state.Control.{Control}
@@ -34,7 +34,7 @@ use Rattle.wing_wire.specs.declared.write.Written.{Written}
 use Rattle.wing_wire.specs.declared.write.Written.the-variants.{Bytes}
 use Rattle.wing_wire.specs.declared.meter.Meter.{Meter}
 use Rattle.wing_wire.specs.declared.meter.Requested.{Requested}
-use Rattle.wing_wire.specs.declared.meter.Requested.the-variants.{Bytes as Asks}
+use Rattle.wing_wire.specs.declared.meter.Requested.the-variants.{Bytes as RequestWritten}
 use Rattle.wing_wire.specs.declared.meter.MetersRead.{MetersRead}
 use Rattle.wing_wire.specs.declared.meter.MetersRead.the-variants.{Readings}
 use Rattle.wing_mirror.specs.Rows.{In}
@@ -141,7 +141,7 @@ pub record SetOrder (lines : List Line) (id : ℤ) (v : NodeValue) (out : List �
 -- a meter request: 11, 12, 9; else its bytes and the id after the last one
 pub record MeterCall (port last : ℕ) (ms : List Meter) (count : ℕ) (out : List ℕ) (answer : Requested) (after : List ℕ) : Type 0 where
   pub answered : Answers (meterLines port last ms count out) (record { bytes = meterRequest port (last + 1) (take count ms); id = last + 1 }) (requestedResult answer after) (after ≡ out)
-  pub rest : (n id : ℕ) → answer ≡ Asks n id → drop n after ≡ drop n out
+  pub rest : (n id : ℕ) → answer ≡ RequestWritten n id → drop n after ≡ drop n out
 
 -- a meter packet: 13, 9; else its id and readings, and the readings' buffer past them as it was
 pub record PacketCall (p : List ℕ) (out : List ℤ) (answer : MetersRead) (after : List ℤ) : Type 0 where

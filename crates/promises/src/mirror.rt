@@ -1,5 +1,4 @@
 // The calls of the mirror, each with what is promised of it as its contract. There is nothing here but the call.
-ghost use mathlib.Core.Path.{_≡_};
 ghost use Rattle.wing_node.specs.Value.{integer as integerOf, float as floatOf, string as stringOf};
 ghost use Rattle.wing_mirror.specs.Table.{table as tableOf};
 ghost use Rattle.promises.specs.Mirror.{mirror as mirrorOf, FeedCall, SetCall, RecallCall, LookupCall, RecordCall, SameCall};

@@ -1,5 +1,4 @@
 // The calls of the wire, each with what is promised of it as its contract. There is nothing here but the call.
-ghost use mathlib.Core.Path.{_≡_};
 ghost use Rattle.wing_node.specs.Value.{integer as integerOf, float as floatOf, string as stringOf};
 ghost use Rattle.wing_wire.specs.Command.{setBytes, idBytes, suffixBytes, requestBytes};
 ghost use Rattle.wing_wire.specs.Lent.{wholeReply};
@@ -22,13 +21,6 @@ pub fn next(s: State, bytes: &[u8]) -> Reply
     ensures { λ r. ⌜ NextCall s (now (bytes .entry)) r ⌝ }
 {
     wing_wire::reader::next(s, bytes)
-}
-
-// The same with the reply parted from the state.
-pub fn next_parted(s: State, bytes: &[u8]) -> Parted
-    ensures { λ r. ⌜ NextCall s (now (bytes .entry)) (wholeReply (r .reply) (r .state)) ⌝ }
-{
-    wing_wire::lent::next_parted(s, bytes)
 }
 
 // The lent form, through a local that is lent to it.

@@ -11,7 +11,7 @@ pub mod Agrees
 pub mod Bounds
 pub mod Recalls
 pub mod Rebuilt
-pub mod Asked
+pub mod Answers
 pub mod Demand
 pub mod Starts
 pub mod Toy

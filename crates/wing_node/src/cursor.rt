@@ -1,6 +1,8 @@
 // Reading a body field by field. A cursor is the place reached and the refusal met, 0 for none; once it has
 // a refusal it stays as it is, so the first failing field counts.
 ghost use mathlib.Core.Path.{_≡_};
+ghost use Prim.Native.Nat.{min};
+ghost use Rattle.wing_node.specs.Bool.{if};
 ghost use Rattle.wing_node.specs.Cursor.{number, string, start, stopped, nothing, readAt, shortOf};
 use crate::field::left;
 use crate::field::u16_at;
@@ -97,6 +99,23 @@ pub(crate) fn read_16(body: &[u8], c: Cursor) -> ShortRead
     }
 }
 
+fn least(a: usize, b: usize) -> usize
+    ensures { λ r. ⌜ r ≡ min a b ⌝ }
+{
+    if a < b { a } else { b }
+}
+
+// 0, or why a string is refused. 01: length before UTF-8.
+fn string_fault(is_short: bool, is_text: bool) -> u8
+    ensures { λ r. ⌜ r ≡ if «is_short» 4 (if «is_text» 0 5) ⌝ }
+{
+    if is_short {
+        return 4;
+    }
+    if is_text { 0 } else { 5 }
+}
+
+// A string's bytes are looked at as far as they are there.
 pub(crate) fn read_string(body: &[u8], c: Cursor) -> FieldRead
     ensures { λ r. ⌜ r ≡ readAt string (now (body .entry)) c ⌝ }
 {
@@ -110,21 +129,18 @@ pub(crate) fn read_string(body: &[u8], c: Cursor) -> FieldRead
         return refuse(c, 4);
     }
     let len = body[at] as usize;
-    if there < 1 + len {
-        return refuse(c, 4);
-    }
     let first = at + 1;
-    let end = first + len;
-    if is_utf8(&body[first..end]) {
-        FieldRead {
-            value: len as u32,
-            start: first,
-            next: Cursor {
-                at: end,
-                refused: 0,
-            },
-        }
-    } else {
-        refuse(c, 5)
+    let end = first + least(len, there - 1);
+    let why = string_fault(there - 1 < len, is_utf8(&body[first..end]));
+    if why != 0 {
+        return refuse(c, why);
+    }
+    FieldRead {
+        value: len as u32,
+        start: first,
+        next: Cursor {
+            at: end,
+            refused: 0,
+        },
     }
 }

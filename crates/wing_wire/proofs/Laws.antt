@@ -12,10 +12,10 @@ use Rattle.wing_wire.specs.WriterLaws.{WriterLaws}
 use Rattle.wing_wire.specs.declared.state.Pending.the-variants.{None}
 use Rattle.wing_wire.proofs.Reading.Overs.{length-over}
 use Rattle.wing_wire.proofs.Reading.Branches.{and-left}
-use Rattle.wing_wire.proofs.Reading.Pieces.{calm-same, feed-pieces}
+use Rattle.wing_wire.proofs.Reading.Pieces.{pending-same, feed-pieces}
 use Rattle.wing_wire.proofs.Reading.Steps.{next-in, next-more, next-takes, feed-ends, feed-again}
 use Rattle.wing_wire.proofs.Reading.Bounds.{advance-bounded}
-use Rattle.wing_wire.proofs.Reading.Sound.{sound-tame, fresh-sound, decode-next-sound, sound-feed, state-parts}
+use Rattle.wing_wire.proofs.Reading.Sound.{sound-within, fresh-sound, decode-next-sound, sound-feed, state-parts}
 use Rattle.wing_wire.proofs.Reading.Ranges.{fresh-in, range-feed}
 use Rattle.wing_wire.proofs.Reading.Handled.{feed-keeps}
 use Rattle.wing_wire.proofs.Reading.Few.{answers-sound}
@@ -27,11 +27,11 @@ use Rattle.wing_wire.proofs.Writing.Sizes.{set-int-le, set-float-le, se
 use Rattle.wing_wire.proofs.BothWays.RoundTrip.{round-trip-pieces}
 
 next-laws : NextLaws
-next-laws = record { within = next-in; more = next-more; takes = next-takes; bounded = advance-bounded; sound = sound-tame }
+next-laws = record { within = next-in; more = next-more; takes = next-takes; bounded = advance-bounded; sound = sound-within }
 
 feed-none : {M : Type 0} (h : Handler M) (x : Fed M) → x .control .escape .pending ≡ None → feedOf h x [] ≡ x
 unfolding feedOf fedFrom
-feed-none h x e = calm-same h x e
+feed-none h x e = pending-same h x e
 
 feed-laws : FeedLaws
 feed-laws =

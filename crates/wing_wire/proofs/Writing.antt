@@ -3,6 +3,5 @@ pub mod Lays
 pub mod Choices
 pub mod Sizes
 pub mod Totals
-pub mod Asks
+pub mod Requests
 pub mod Packets
-pub mod Results

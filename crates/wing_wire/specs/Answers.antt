@@ -9,9 +9,9 @@ use Rattle.wing_wire.specs.Reader.{Event, more, value, body, end, refuse
 use Rattle.wing_wire.specs.declared.write.Written.{Written}
 use Rattle.wing_wire.specs.declared.write.Written.the-variants.{Bytes, Refused}
 use Rattle.wing_wire.specs.declared.meter.Requested.{Requested}
-use Rattle.wing_wire.specs.declared.meter.Requested.the-variants.{Bytes as Asks, Refused as Unrequested}
+use Rattle.wing_wire.specs.declared.meter.Requested.the-variants.{Bytes as RequestWritten, Refused as RequestRefused}
 use Rattle.wing_wire.specs.declared.meter.MetersRead.{MetersRead}
-use Rattle.wing_wire.specs.declared.meter.MetersRead.the-variants.{Readings, Refused as Unheard}
+use Rattle.wing_wire.specs.declared.meter.MetersRead.the-variants.{Readings, Refused as ReadRefused}
 use Rattle.wing_wire.specs.declared.unit.Answer.{Answer}
 use Rattle.wing_wire.specs.declared.reader.Reply.{Reply}
 
@@ -27,8 +27,8 @@ pub record MeterRequest : Type 0 where
 
 -- 01, Meters and requests: the bytes, the first n of the output after the call, and id = last id + 1
 unfoldable pub requestedResult : Requested → List ℕ → Result MeterRequest
-requestedResult (Asks n id) out = ok (record { bytes = take n out; id = id })
-requestedResult (Unrequested n) out = refused n
+requestedResult (RequestWritten n id) out = ok (record { bytes = take n out; id = id })
+requestedResult (RequestRefused n) out = refused n
 
 -- what a meter packet that is taken gives: its meter id and its readings
 pub record MeterPacket : Type 0 where
@@ -38,7 +38,7 @@ pub record MeterPacket : Type 0 where
 -- 01: packet: id, readings. The readings are the first n of the lent 16-bit output after the call
 unfoldable pub metersResult : MetersRead → List ℤ → Result MeterPacket
 metersResult (Readings id n) out = ok (record { id = id; readings = take n out })
-metersResult (Unheard n) out = refused n
+metersResult (ReadRefused n) out = refused n
 
 -- 01's events. A value belongs to the current node
 pub data NodeEvent : Type 0 where

@@ -7,18 +7,18 @@ use lib.ListN.{length, drop}
 use Rattle.wing_node.specs.Value.{integer, string}
 use Rattle.wing_wire.specs.State.{freshControl, freshState}
 use Rattle.wing_wire.specs.Reader.{Event, more, value, body, refused, eventOf, nextOf}
-use Rattle.wing_wire.specs.Units.{Given, given, unitsOf}
+use Rattle.wing_wire.specs.Units.{StreamUnit, streamUnit, unitsOf}
 use Rattle.wing_wire.specs.Command.{setBytes}
-use Rattle.wing_wire.specs.Meter.{Heard, heard, packetOf}
+use Rattle.wing_wire.specs.Meter.{PacketEffect, packetEffect, packetOf}
 use Rattle.wing_wire.specs.declared.meter.MetersRead.the-variants.{Readings}
 
 -- what a case gives: units, a channel, the event of a next call, the bytes of a command, or what a packet leaves
 pub data Outcome : Type 0 where
-  units : List Given → Outcome
+  units : List StreamUnit → Outcome
   channel : ℤ → Outcome
   event : Event → Outcome
   written : List ℕ → Outcome
-  packet : Heard → Outcome
+  packet : PacketEffect → Outcome
 
 -- what the definitions give, and what 01 wants
 pub record Case : Type 0 where
@@ -30,16 +30,16 @@ abbrev pub case : Outcome → Outcome → Case
 case got wanted = record { got = got; wanted = wanted }
 
 -- a unit that is appended to the body
-abbrev pub appended : ℕ → Given
-appended u = given u true
+abbrev pub appended : ℕ → StreamUnit
+appended u = streamUnit u true
 
 -- a unit of which nothing is appended
-abbrev pub bare : ℕ → Given
-bare u = given u false
+abbrev pub bare : ℕ → StreamUnit
+bare u = streamUnit u false
 
 -- the units that bytes give; feed-units (proofs/Reading/ByUnits.antt) says that a feed takes exactly these
-unfoldable pub gives : List ℕ → List Given → Case
-gives bytes us = case (units (unitsOf (freshControl .escape) bytes .units)) (units us)
+unfoldable pub unitsAre : List ℕ → List StreamUnit → Case
+unitsAre bytes us = case (units (unitsOf (freshControl .escape) bytes .units)) (units us)
 
 -- the channel after bytes
 unfoldable pub channelIs : List ℕ → ℤ → Case
@@ -52,8 +52,8 @@ reads bytes e =
     case (event (eventOf (n .answer) (n .string) (n .body))) (event e)
 
 -- the bytes of an order that sets node 7
-unfoldable pub setGives : ℤ → List ℕ → Case
-setGives x bs = case (written (setBytes (pos 7) (integer x))) (written bs)
+unfoldable pub setWrites : ℤ → List ℕ → Case
+setWrites x bs = case (written (setBytes (pos 7) (integer x))) (written bs)
 
 -- what follows the id in a set order of node 7
 unfoldable pub setEnds : ℤ → List ℕ → Case
@@ -61,21 +61,21 @@ setEnds x bs = case (written (drop 5 (setBytes (pos 7) (integer x)))) (written b
 
 -- the id and the readings of a packet, in an output of two readings
 unfoldable pub packetReads : List ℕ → ℕ → List ℤ → Case
-packetReads p id rs = case (packet (packetOf p (pos 0 ∷ pos 0 ∷ []))) (packet (heard (Readings id (length rs)) rs))
+packetReads p id rs = case (packet (packetOf p (pos 0 ∷ pos 0 ∷ []))) (packet (packetEffect (Readings id (length rs)) rs))
 
 -- 01's cases, a comment line each in 01's words
 unfoldable pub cases : List Case
 cases =
     -- fresh: df 41 → 41
-    gives (0xdf ∷ 0x41 ∷ []) (appended 0x41 ∷ []) ∷
+    unitsAre (0xdf ∷ 0x41 ∷ []) (appended 0x41 ∷ []) ∷
     -- df d1 df 41 → df, 41
-    gives (0xdf ∷ 0xd1 ∷ 0xdf ∷ 0x41 ∷ []) (appended 0xdf ∷ appended 0x41 ∷ []) ∷
+    unitsAre (0xdf ∷ 0xd1 ∷ 0xdf ∷ 0x41 ∷ []) (appended 0xdf ∷ appended 0x41 ∷ []) ∷
     -- df df de → df, df, one appended
-    gives (0xdf ∷ 0xdf ∷ 0xde ∷ []) (bare 0xdf ∷ appended 0xdf ∷ []) ∷
+    unitsAre (0xdf ∷ 0xdf ∷ 0xde ∷ []) (bare 0xdf ∷ appended 0xdf ∷ []) ∷
     -- df dd → channel 13
     channelIs (0xdf ∷ 0xdd ∷ []) (pos 13) ∷
     -- df de → unit df
-    gives (0xdf ∷ 0xde ∷ []) (appended 0xdf ∷ []) ∷
+    unitsAre (0xdf ∷ 0xde ∷ []) (appended 0xdf ∷ []) ∷
     -- 3f → 63
     reads (0x3f ∷ []) (value (integer (pos 63))) ∷
     -- 40 → none
@@ -87,7 +87,7 @@ cases =
     -- 80 80 → 1
     reads (0x80 ∷ 0x80 ∷ []) (refused 1) ∷
     -- set 7 to 63: d7 00 00 00 07 3f
-    setGives (pos 63) (0xd7 ∷ 0x00 ∷ 0x00 ∷ 0x00 ∷ 0x07 ∷ 0x3f ∷ []) ∷
+    setWrites (pos 63) (0xd7 ∷ 0x00 ∷ 0x00 ∷ 0x00 ∷ 0x07 ∷ 0x3f ∷ []) ∷
     -- to 64: ends d3 00 40
     setEnds (pos 64) (0xd3 ∷ 0x00 ∷ 0x40 ∷ []) ∷
     -- to 223: ends d3 00 df de

@@ -11,9 +11,9 @@ use Rattle.wing_wire.specs.State.{soundState, freshState}
 use Rattle.wing_wire.specs.Escape.{DecodeNextSound}
 use Rattle.wing_wire.specs.Stream.{isMore, Run, advanceOf, released, Fed, feedOf}
 use Rattle.wing_wire.specs.Reader.{Event, filled}
-use Rattle.wing_wire.specs.Units.{waiting}
-use Rattle.wing_wire.specs.Range.{AreBytes, Within, TokenWithin, HeardWithin, Stored, InRange, AnswerIn}
-use Rattle.wing_wire.specs.RoundTrip.{fedCalm, RoundTripPieces}
+use Rattle.wing_wire.specs.Units.{pendingCount}
+use Rattle.wing_wire.specs.Range.{AreBytes, Within, TokenWithin, StepEffectWithin, StoreIn, InRange, AnswerIn}
+use Rattle.wing_wire.specs.RoundTrip.{fedRest, RoundTripPieces}
 use Rattle.wing_wire.specs.declared.state.Pending.the-variants.{None}
 use Rattle.wing_wire.specs.declared.state.Control.{Control}
 use Rattle.wing_wire.specs.declared.state.State.{State}
@@ -44,29 +44,29 @@ pub record NextLaws : Type 0 where
   -- it takes no more bytes than there are
   pub within : (c : Control) (s bytes : List ℕ) → advanceOf c s bytes .taken ≤ length bytes
   -- 01: it answers "more" only when all bytes are taken and nothing is pending
-  pub more : (c : Control) (s bytes : List ℕ) → isMore (advanceOf c s bytes .heard .told .answer) ≡ true →
-      (advanceOf c s bytes .taken ≡ length bytes) × (advanceOf c s bytes .heard .told .control .escape .pending ≡ None)
+  pub more : (c : Control) (s bytes : List ℕ) → isMore (advanceOf c s bytes .effect .answered .answer) ≡ true →
+      (advanceOf c s bytes .taken ≡ length bytes) × (advanceOf c s bytes .effect .answered .control .escape .pending ≡ None)
   -- any other answer has taken a byte, or else the pending byte, and then nothing is pending after it
-  pub takes : (c : Control) (s bytes : List ℕ) → isMore (advanceOf c s bytes .heard .told .answer) ≡ false →
-      (1 ≤ advanceOf c s bytes .taken) ⊎ ((waiting (c .escape .pending) ≡ 1) × (advanceOf c s bytes .heard .told .control .escape .pending ≡ None))
+  pub takes : (c : Control) (s bytes : List ℕ) → isMore (advanceOf c s bytes .effect .answered .answer) ≡ false →
+      (1 ≤ advanceOf c s bytes .taken) ⊎ ((pendingCount (c .escape .pending) ≡ 1) × (advanceOf c s bytes .effect .answered .control .escape .pending ≡ None))
   -- 01: string (256 bytes) or body (4,096 bytes): from a token within these bounds the answer is within them, and so is the token that is left
-  pub bounded : (c : Control) (s bytes : List ℕ) → TokenWithin (c .token) → HeardWithin (length s) (advanceOf c s bytes .heard)
+  pub bounded : (c : Control) (s bytes : List ℕ) → TokenWithin (c .token) → StepEffectWithin (length s) (advanceOf c s bytes .effect)
   -- the token of a sound state is within them
   pub sound : (s : State) → soundState s ≡ true → TokenWithin (s .control .token)
 
 -- a feed with any handler
 pub record FeedLaws : Type 1 where
   -- 01: next until "more": with "more" the feed ends
-  pub ends : {M : Type 0} (h : Handler M) (x : Fed M) (bytes : List ℕ) → isMore (nextIn x bytes .heard .told .answer) ≡ true →
-      feedOf h x bytes ≡ record { control = nextIn x bytes .heard .told .control; store = nextIn x bytes .heard .store; memo = x .memo }
+  pub ends : {M : Type 0} (h : Handler M) (x : Fed M) (bytes : List ℕ) → isMore (nextIn x bytes .effect .answered .answer) ≡ true →
+      feedOf h x bytes ≡ record { control = nextIn x bytes .effect .answered .control; store = nextIn x bytes .effect .store; memo = x .memo }
   -- any other answer is handed on with its node, its bytes are released, and the feed goes on with the bytes that were not taken
-  pub again : {M : Type 0} (h : Handler M) (x : Fed M) (bytes : List ℕ) → isMore (nextIn x bytes .heard .told .answer) ≡ false →
+  pub again : {M : Type 0} (h : Handler M) (x : Fed M) (bytes : List ℕ) → isMore (nextIn x bytes .effect .answered .answer) ≡ false →
       feedOf h x bytes ≡
       feedOf h
       (record {
-        control = nextIn x bytes .heard .told .control;
-        store = released (nextIn x bytes .heard .told .answer) (nextIn x bytes .heard .store);
-        memo = h (nextIn x bytes .heard .told .control .node) (nextIn x bytes .heard .told .answer) (nextIn x bytes .heard .store) (x .memo);
+        control = nextIn x bytes .effect .answered .control;
+        store = released (nextIn x bytes .effect .answered .answer) (nextIn x bytes .effect .store);
+        memo = h (nextIn x bytes .effect .answered .control .node) (nextIn x bytes .effect .answered .answer) (nextIn x bytes .effect .store) (x .memo);
       })
       (drop (nextIn x bytes .taken) bytes)
   -- no bytes, where nothing is pending, change nothing
@@ -79,7 +79,7 @@ pub record FeedLaws : Type 1 where
       (x : Fed M) (bytes : List ℕ) → mapped f (feedOf h x bytes) ≡ feedOf k (mapped f x) bytes
   -- 01: d0 to dd after df: channel becomes byte − d0, no unit
   pub channel : {M : Type 0} (h : Handler M) (ch node : ℤ) (s : List ℕ) (m : M) (n : ℕ) → n ≤ 13 →
-      feedOf h (fedCalm ch node s m) (0xdf ∷ (0xd0 + n) ∷ []) ≡ fedCalm (pos n) node s m
+      feedOf h (fedRest ch node s m) (0xdf ∷ (0xd0 + n) ∷ []) ≡ fedRest (pos n) node s m
   -- a set order, its bytes in any pieces, is read as its value at its node
   pub order : {M : Type 0} (h : ℤ → Event → M → M) → RoundTripPieces h
 
@@ -99,7 +99,7 @@ pub record SoundLaws : Type 1 where
       soundState (stateIn x) ≡ true → soundState (stateIn (feedOf h x bytes)) ≡ true
   -- what a handler keeps at every answer that is in range and within bounds, the feed keeps
   pub keeps : {M : Type 0} (h : Handler M) (P : M → Type 0) →
-      ((node : ℤ) (a : Answer) (s : List ℕ) (m : M) → InBits 31 node → Within a s → AnswerIn a → Stored s → P m → P (h node a s m)) →
+      ((node : ℤ) (a : Answer) (s : List ℕ) (m : M) → InBits 31 node → Within a s → AnswerIn a → StoreIn s → P m → P (h node a s m)) →
       (x : Fed M) (bytes : List ℕ) → AreBytes bytes → InRange (x .control) (x .store) → soundState (stateIn x) ≡ true → P (x .memo) → P (feedOf h x bytes .memo)
   -- a sound state gives at most one answer more than there are bytes
   pub few : (x : Fed ℕ) (bytes : List ℕ) → soundState (stateIn x) ≡ true → feedOf count x bytes .memo ≤ x .memo + length bytes + 1

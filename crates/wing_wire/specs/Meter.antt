@@ -1,5 +1,5 @@
 -- 01, Meters and requests: what is written for meters, and what a packet holds.
-use Prim.Native.Nat.{ℕ, zero, suc, _+_, _-_}
+use Prim.Native.Nat.{ℕ, zero, suc, _+_}
 use mathlib.Core.List.{List, [], _∷_, _++_}
 use lib.Dec.{ltb, leb, eqb}
 use lib.IntN.{ℤ}
@@ -60,26 +60,26 @@ unfoldable pub meterRequest : ℕ → ℕ → List Meter → List ℕ
 meterRequest port id ms = requestHead port id ++ (metersBytes ms ++ (0xde ∷ 0xdf ∷ 0xd1 ∷ []))
 
 -- what a meter request leaves: its answer and the output
-pub record Asked : Type 0 where
+pub record RequestEffect : Type 0 where
   pub answer : Requested
   pub out : List ℕ
 
 -- an answer and the output
-abbrev pub asked : Requested → List ℕ → Asked
-asked answer out = record { answer = answer; out = out }
+abbrev pub requestEffect : Requested → List ℕ → RequestEffect
+requestEffect answer out = record { answer = answer; out = out }
 
 -- 01: output too short for the whole is 9, as it was; else the bytes, and the new id
-unfoldable pub askOf : List ℕ → ℕ → List ℕ → Asked
-askOf bytes id out =
-    if (ltb (length out) (length bytes)) (asked (Refused 9) out)
-    (asked (Bytes (length bytes) id) (bytes ++ drop (length bytes) out))
+unfoldable pub writeRequestOf : List ℕ → ℕ → List ℕ → RequestEffect
+writeRequestOf bytes id out =
+    if (ltb (length out) (length bytes)) (requestEffect (Refused 9) out)
+    (requestEffect (Bytes (length bytes) id) (bytes ++ drop (length bytes) out))
 
 -- 01: id = last id + 1. More than 64 meters is 11, then last meter id 65,535 is 12, then 9
-unfoldable pub requestMeter : ℕ → ℕ → List Meter → ℕ → List ℕ → Asked
+unfoldable pub requestMeter : ℕ → ℕ → List Meter → ℕ → List ℕ → RequestEffect
 requestMeter port last ms count out =
     if (leb count 64)
-    (if (eqb last 65535) (asked (Refused 12) out) (askOf (meterRequest port (last + 1) (take count ms)) (last + 1) out))
-    (asked (Refused 11) out)
+    (if (eqb last 65535) (requestEffect (Refused 12) out) (writeRequestOf (meterRequest port (last + 1) (take count ms)) (last + 1) out))
+    (requestEffect (Refused 11) out)
 
 -- 01: df d3 d4 id port df d1
 unfoldable pub keepAlive : ℕ → ℕ → List ℕ
@@ -97,19 +97,19 @@ readings (a ∷ []) = []
 readings (a ∷ b ∷ s) = signed 15 (big (a ∷ b ∷ [])) ∷ readings s
 
 -- what reading a packet leaves: its answer and the readings' buffer
-pub record Heard : Type 0 where
+pub record PacketEffect : Type 0 where
   pub answer : MetersRead
   pub out : List ℤ
 
 -- an answer and the buffer
-abbrev pub heard : MetersRead → List ℤ → Heard
-heard answer out = record { answer = answer; out = out }
+abbrev pub packetEffect : MetersRead → List ℤ → PacketEffect
+packetEffect answer out = record { answer = answer; out = out }
 
 -- 01: packet: id 2, two ignored, readings. Outside 4 to 8,192 bytes is 13, then output too short for the whole is 9
-unfoldable pub packetOf : List ℕ → List ℤ → Heard
+unfoldable pub packetOf : List ℕ → List ℤ → PacketEffect
 packetOf p out =
     let rs = readings (drop 4 p) in
-    if (ltb (length p) 4) (heard (ReadRefused 13) out)
-    (if (ltb 8192 (length p)) (heard (ReadRefused 13) out)
-    (if (ltb (length out) (length rs)) (heard (ReadRefused 9) out)
-    (heard (Readings (big (take 2 p)) (length rs)) (rs ++ drop (length rs) out))))
+    if (ltb (length p) 4) (packetEffect (ReadRefused 13) out)
+    (if (ltb 8192 (length p)) (packetEffect (ReadRefused 13) out)
+    (if (ltb (length out) (length rs)) (packetEffect (ReadRefused 9) out)
+    (packetEffect (Readings (big (take 2 p)) (length rs)) (rs ++ drop (length rs) out))))

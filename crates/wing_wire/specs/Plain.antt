@@ -9,7 +9,7 @@ use Rattle.wing_node.specs.Bool.{if}
 use Rattle.wing_wire.specs.State.{control}
 use Rattle.wing_wire.specs.Escape.{decodeNextOf}
 use Rattle.wing_wire.specs.Unit.{shiftIn}
-use Rattle.wing_wire.specs.Stream.{told, Heard, heard, quiet, isMore, givenOf}
+use Rattle.wing_wire.specs.Stream.{answered, StepEffect, stepEffect, noAnswer, isMore, givenOf}
 use Rattle.wing_wire.specs.declared.token.Class.{Class}
 use Rattle.wing_wire.specs.declared.state.Pending.{Pending}
 use Rattle.wing_wire.specs.declared.state.Pending.the-variants.{None, Byte}
@@ -19,14 +19,14 @@ use Rattle.wing_wire.specs.declared.state.Token.the-variants.{Between, N
 use Rattle.wing_wire.specs.declared.state.Control.{Control}
 use Rattle.wing_wire.specs.declared.escape.Unit.{Unit}
 use Rattle.wing_wire.specs.declared.escape.Unit.the-variants.{Nothing, Bare, Appended}
-use Rattle.wing_wire.specs.declared.stream.Told.{Told}
-use Rattle.wing_wire.specs.declared.stream.Inside.{Inside}
+use Rattle.wing_wire.specs.declared.stream.Answered.{Answered}
+use Rattle.wing_wire.specs.declared.stream.TokenAt.{TokenAt}
 use Rattle.wing_wire.specs.declared.stream.Stepped.{Stepped}
 
 -- whether a byte is pending
-abbrev pub isWaiting : Pending → Bool
-isWaiting None = false
-isWaiting (Byte u) = true
+abbrev pub isPending : Pending → Bool
+isPending None = false
+isPending (Byte u) = true
 
 -- whether a byte gave no unit
 abbrev pub isNothing : Unit → Bool
@@ -51,73 +51,73 @@ unfoldable pub isInner : ℕ → ℕ → Bool
 isInner left b = if (leb left 1) false (not (eqb b 0xdf))
 
 -- a token and the place reached
-abbrev pub ahead : Token → ℕ → Inside
-ahead t n = record { token = t; at = n }
+abbrev pub tokenAt : Token → ℕ → TokenAt
+tokenAt t n = record { token = t; at = n }
 
 -- the inner units of a number, from the bytes at n
-unfoldable pub numberAhead : Class → ℕ → ℕ → ℕ → List ℕ → Inside
-numberAhead class left v n [] = ahead (Number class left v) n
+unfoldable pub numberAhead : Class → ℕ → ℕ → ℕ → List ℕ → TokenAt
+numberAhead class left v n [] = tokenAt (Number class left v) n
 numberAhead class left v n (b ∷ bs) =
-    if (isInner left b) (numberAhead class (left - 1) (shiftIn v b) (n + 1) bs) (ahead (Number class left v) n)
+    if (isInner left b) (numberAhead class (left - 1) (shiftIn v b) (n + 1) bs) (tokenAt (Number class left v) n)
 
 -- the token, the place and the store after inner units
-pub record Gone : Type 0 where
-  pub ahead : Inside
+pub record AheadEffect : Type 0 where
+  pub ahead : TokenAt
   pub store : List ℕ
 
 -- the same with the store
-abbrev pub gone : Inside → List ℕ → Gone
-gone a s = record { ahead = a; store = s }
+abbrev pub aheadEffect : TokenAt → List ℕ → AheadEffect
+aheadEffect a s = record { ahead = a; store = s }
 
 -- the inner units of a string, from the bytes at n
-unfoldable pub stringAhead : ℕ → ℕ → List ℕ → ℕ → List ℕ → Gone
-stringAhead want left s n [] = gone (ahead (String want left) n) s
+unfoldable pub stringAhead : ℕ → ℕ → List ℕ → ℕ → List ℕ → AheadEffect
+stringAhead want left s n [] = aheadEffect (tokenAt (String want left) n) s
 stringAhead want left s n (b ∷ bs) =
-    if (isInner left b) (stringAhead want (left - 1) (set s (want - left) b) (n + 1) bs) (gone (ahead (String want left) n) s)
+    if (isInner left b) (stringAhead want (left - 1) (set s (want - left) b) (n + 1) bs) (aheadEffect (tokenAt (String want left) n) s)
 
 -- the inner units of a number or a string, as far as they go without an escape
-unfoldable pub tokenAhead : Token → List ℕ → ℕ → List ℕ → Gone
-tokenAhead Between s n bs = gone (ahead Between n) s
-tokenAhead (Number class left v) s n bs = gone (numberAhead class left v n bs) s
+unfoldable pub tokenAhead : Token → List ℕ → ℕ → List ℕ → AheadEffect
+tokenAhead Between s n bs = aheadEffect (tokenAt Between n) s
+tokenAhead (Number class left v) s n bs = aheadEffect (numberAhead class left v n bs) s
 tokenAhead (String want left) s n bs = stringAhead want left s n bs
-tokenAhead (Body want left stored) s n bs = gone (ahead (Body want left stored) n) s
+tokenAhead (Body want left stored) s n bs = aheadEffect (tokenAt (Body want left stored) n) s
 
 -- unescaped, and nothing pending
 abbrev pub isPlain : Escape → Bool
-isPlain e = if (e .escaped) false (not (isWaiting (e .pending)))
+isPlain e = if (e .escaped) false (not (isPending (e .pending)))
 
--- nothing told, and nothing escaped or pending
-abbrev pub isFree : Told → Bool
+-- no answer yet, and nothing escaped or pending
+abbrev pub isFree : Answered → Bool
 isFree t = if (isMore (t .answer)) (isPlain (t .control .escape)) false
 
--- what was heard, and the place of the byte after it
-pub record Turned : Type 0 where
-  pub heard : Heard
+-- what a step leaves, and the place of the byte after it
+pub record StepAt : Type 0 where
+  pub effect : StepEffect
   pub at : ℕ
 
--- what was heard, and the place reached
-abbrev pub turned : Heard → ℕ → Turned
-turned h n = record { heard = h; at = n }
+-- the same by its parts
+abbrev pub stepAt : StepEffect → ℕ → StepAt
+stepAt h n = record { effect = h; at = n }
 
 -- the same of one unit
-abbrev pub stepped : Stepped → List ℕ → Turned
-stepped r s = turned (heard (r .told) s) (r .at)
+abbrev pub stepped : Stepped → List ℕ → StepAt
+stepped r s = stepAt (stepEffect (r .answered) s) (r .at)
 
 -- the control and the store after such a run
-unfoldable pub aheadOf : Control → List ℕ → ℕ → List ℕ → Turned
+unfoldable pub aheadOf : Control → List ℕ → ℕ → List ℕ → StepAt
 aheadOf c s n bs =
-    turned (quiet (control (c .escape) (c .node) (tokenAhead (c .token) s n bs .ahead .token)) (tokenAhead (c .token) s n bs .store))
+    stepAt (noAnswer (control (c .escape) (c .node) (tokenAhead (c .token) s n bs .ahead .token)) (tokenAhead (c .token) s n bs .store))
     (tokenAhead (c .token) s n bs .ahead .at)
 
 -- the inner units, where nothing is escaped or pending
-unfoldable pub onAhead : Heard → List ℕ → ℕ → Turned
-onAhead h bytes n = if (isFree (h .told)) (aheadOf (h .told .control) (h .store) n (drop n bytes)) (turned h n)
+unfoldable pub onAhead : StepEffect → List ℕ → ℕ → StepAt
+onAhead h bytes n = if (isFree (h .answered)) (aheadOf (h .answered .control) (h .store) n (drop n bytes)) (stepAt h n)
 
 -- one unit, and the inner units after it
-unfoldable pub onceOf : Control → List ℕ → List ℕ → ℕ → Turned
+unfoldable pub onceOf : Control → List ℕ → List ℕ → ℕ → StepAt
 onceOf c s bytes n =
     onAhead (givenOf (decodeNextOf (c .escape) bytes n .unit) (decodeNextOf (c .escape) bytes n .escape) c s) bytes (decodeNextOf (c .escape) bytes n .at)
 
--- nothing told, and a byte is left or pending
-abbrev pub isOn : Told → ℕ → ℕ → Bool
-isOn t n end = if (isMore (t .answer)) (if (ltb n end) true (isWaiting (t .control .escape .pending))) false
+-- no answer yet, and a byte is left or pending
+abbrev pub isOn : Answered → ℕ → ℕ → Bool
+isOn t n end = if (isMore (t .answer)) (if (ltb n end) true (isPending (t .control .escape .pending))) false

@@ -6,7 +6,8 @@ use mathlib.Core.List.{List, [], _∷_}
 use lib.ListN.{length, take}
 use Rattle.wing_node.specs.Signed.{InBits}
 use Rattle.wing_node.specs.Utf8.{utf8}
-use Rattle.wing_wire.specs.Stream.{Heard}
+use Rattle.wing_wire.specs.State.{bodyLimit}
+use Rattle.wing_wire.specs.Stream.{StepEffect}
 use Rattle.wing_wire.specs.declared.state.Pending.{Pending}
 use Rattle.wing_wire.specs.declared.state.Pending.the-variants.{None, Byte}
 use Rattle.wing_wire.specs.declared.state.Token.{Token}
@@ -31,7 +32,7 @@ Within More s = Unit {0}
 Within (Integer x) s = Unit {0}
 Within (Float bits) s = Unit {0}
 Within (String n) s = (n ≤ 256) × (utf8 (take n s) ≡ true)
-Within (Body n) s = n ≤ 4096
+Within (Body n) s = n ≤ bodyLimit
 Within End s = Unit {0}
 Within (Refused n) s = Unit {0}
 
@@ -40,12 +41,12 @@ abbrev pub TokenWithin : Token → Type 0
 TokenWithin Between = Unit {0}
 TokenWithin (Number class left v) = Unit {0}
 TokenWithin (InString want left) = want ≤ 256
-TokenWithin (InBody want left stored) = stored ≤ 4096
+TokenWithin (InBody want left stored) = stored ≤ bodyLimit
 
--- what was heard is within these bounds, and n bytes stand in the store
-pub record HeardWithin (n : ℕ) (o : Heard) : Type 0 where
-  pub token : TokenWithin (o .told .control .token)
-  pub within : Within (o .told .answer) (o .store)
+-- what a step leaves is within these bounds, and n bytes stand in the store
+pub record StepEffectWithin (n : ℕ) (o : StepEffect) : Type 0 where
+  pub token : TokenWithin (o .answered .control .token)
+  pub within : Within (o .answered .answer) (o .store)
   pub size : length (o .store) ≡ n
 
 -- a number in progress has 32 bits
@@ -56,8 +57,8 @@ NumberIn (InString want left) = Unit {0}
 NumberIn (InBody want left stored) = Unit {0}
 
 -- a store is 4,096 bytes
-pub record Stored (s : List ℕ) : Type 0 where
-  pub size : length s ≡ 4096
+pub record StoreIn (s : List ℕ) : Type 0 where
+  pub size : length s ≡ bodyLimit
   pub bytes : AreBytes s
 
 -- what the types say of a control and a store: the pending byte is a byte, the current node and a number in progress have 32 bits
@@ -65,7 +66,7 @@ pub record InRange (c : Control) (s : List ℕ) : Type 0 where
   pub pending : PendingByte (c .escape .pending)
   pub node : InBits 31 (c .node)
   pub number : NumberIn (c .token)
-  pub store : Stored s
+  pub store : StoreIn s
 
 -- 01: d3, d4: signed 16, 32 bits; d5, d6: 32 float bits
 abbrev pub AnswerIn : Answer → Type 0

@@ -1,13 +1,11 @@
 -- The next call: 01's events and refusals, and what stands beside them.
 use Prim.Native.Nat.{ℕ}
-use mathlib.Core.Bool.{Bool, true, false}
 use mathlib.Core.List.{List, [], _∷_}
 use lib.Dec.{leb}
-use lib.IntN.{ℤ}
 use lib.ListN.{length, take, replicate}
 use Rattle.wing_node.specs.Bool.{if}
 use Rattle.wing_node.specs.Value.{NodeValue, integer, float, string}
-use Rattle.wing_wire.specs.State.{soundState}
+use Rattle.wing_wire.specs.State.{bodyLimit, soundState}
 use Rattle.wing_wire.specs.Stream.{Run, advanceOf, released}
 use Rattle.wing_wire.specs.declared.state.State.{State}
 use Rattle.wing_wire.specs.declared.unit.Answer.{Answer}
@@ -54,28 +52,28 @@ stringBeside (Refused n) s = replicate 256 0
 
 -- 01: the same of the body
 unfoldable pub bodyBeside : Answer → List ℕ → List ℕ
-bodyBeside More s = replicate 4096 0
-bodyBeside (Integer x) s = replicate 4096 0
-bodyBeside (Float bits) s = replicate 4096 0
-bodyBeside (String n) s = replicate 4096 0
-bodyBeside (Body n) s = filled 4096 (take n s)
-bodyBeside End s = replicate 4096 0
-bodyBeside (Refused n) s = replicate 4096 0
+bodyBeside More s = replicate bodyLimit 0
+bodyBeside (Integer x) s = replicate bodyLimit 0
+bodyBeside (Float bits) s = replicate bodyLimit 0
+bodyBeside (String n) s = replicate bodyLimit 0
+bodyBeside (Body n) s = filled bodyLimit (take n s)
+bodyBeside End s = replicate bodyLimit 0
+bodyBeside (Refused n) s = replicate bodyLimit 0
 
 -- a refused call: nothing taken, the state as it was
 abbrev pub refusedNext : ℕ → State → Reply
-refusedNext why s = record { answer = Refused why; taken = 0; state = s; string = replicate 256 0; body = replicate 4096 0 }
+refusedNext why s = record { answer = Refused why; taken = 0; state = s; string = replicate 256 0; body = replicate bodyLimit 0 }
 
 -- the reply to a run: the store cleared of what was given out
 abbrev pub nextFrom : Run → Reply
 nextFrom r =
-    let a = r .heard .told .answer in
+    let a = r .effect .answered .answer in
     record {
       answer = a;
       taken = r .taken;
-      state = record { control = r .heard .told .control; store = released a (r .heard .store) };
-      string = stringBeside a (r .heard .store);
-      body = bodyBeside a (r .heard .store);
+      state = record { control = r .effect .answered .control; store = released a (r .effect .store) };
+      string = stringBeside a (r .effect .store);
+      body = bodyBeside a (r .effect .store);
     }
 
 -- 01: 8 for an unsound state, then 14 for more than 65,536 bytes
@@ -92,5 +90,5 @@ eventIn r = eventOf (r .answer) (r .string) (r .body)
 -- 01's event or refusal of a next call, with its number or value, by the bytes that the units gave
 unfoldable pub nextEvent : State → List ℕ → Event
 nextEvent s bytes =
-    let h = advanceOf (s .control) (s .store) bytes .heard in
-    if (soundState s) (if (leb (length bytes) 65536) (eventOf (h .told .answer) (h .store) (h .store)) (refused 14)) (refused 8)
+    let h = advanceOf (s .control) (s .store) bytes .effect in
+    if (soundState s) (if (leb (length bytes) 65536) (eventOf (h .answered .answer) (h .store) (h .store)) (refused 14)) (refused 8)

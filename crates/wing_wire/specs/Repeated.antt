@@ -5,7 +5,7 @@ use mathlib.Core.Path.{_≡_}
 use mathlib.Core.List.{List}
 use lib.IntN.{ℤ}
 use lib.ListN.{length, drop}
-use Rattle.wing_wire.specs.State.{soundState}
+use Rattle.wing_wire.specs.State.{bodyLimit, soundState}
 use Rattle.wing_wire.specs.Stream.{Run, advanceOf, released, Fed, feedOf}
 use Rattle.wing_wire.specs.Reader.{Event, eventOf, nextOf, eventIn}
 use Rattle.wing_wire.specs.Range.{AreBytes, PendingByte}
@@ -15,7 +15,7 @@ use Rattle.wing_wire.specs.declared.unit.Answer.the-variants.{More}
 -- a next call that is not sent back: a sound state, whose store has 4,096 bytes, and at most 65,536 bytes
 pub record Accepted (s : State) (bytes : List ℕ) : Type 0 where
   pub sound : soundState s ≡ true
-  pub store : length (s .store) ≡ 4096
+  pub store : length (s .store) ≡ bodyLimit
   pub most : length bytes ≤ 65536
 
 -- for a handler of events
@@ -43,24 +43,24 @@ module _ {M : Type 0} (h : ℤ → Event → M → M) where
 
   -- next calls one after the other, each on the state that the one before left and the bytes that it did not take, until one answers
   -- more; every other answer is handed on. x is what is left
-  pub data Nexts : State → List ℕ → M → Fed M → Type 0 where
-    ends : (s : State) (bytes : List ℕ) (m : M) → nextOf s bytes .answer ≡ More → Nexts s bytes m (fedState (nextOf s bytes .state) m)
+  pub data NextCalls : State → List ℕ → M → Fed M → Type 0 where
+    ends : (s : State) (bytes : List ℕ) (m : M) → nextOf s bytes .answer ≡ More → NextCalls s bytes m (fedState (nextOf s bytes .state) m)
     goes-on : (s : State) (bytes : List ℕ) (m : M) (x : Fed M) → (nextOf s bytes .answer ≡ More → ⊥) →
-        Nexts (nextOf s bytes .state) (drop (nextOf s bytes .taken) bytes) (h (nextOf s bytes .state .control .node) (eventIn (nextOf s bytes)) m) x → Nexts s bytes m x
+        NextCalls (nextOf s bytes .state) (drop (nextOf s bytes .taken) bytes) (h (nextOf s bytes .state .control .node) (eventIn (nextOf s bytes)) m) x → NextCalls s bytes m x
 
   -- 01: feed runs next until 'more': there is such a row of next calls, and it leaves what the feed leaves. A pending byte is a byte
   abbrev pub UntilMore : Type 0
   UntilMore = (s : State) (bytes : List ℕ) (m : M) → Accepted s bytes → PendingByte (s .control .escape .pending) → AreBytes bytes →
-      Nexts s bytes m (feedEvents (fedState s m) bytes)
+      NextCalls s bytes m (feedEvents (fedState s m) bytes)
 
 -- the core's answer, bytes taken and control are those of the next call; its store holds the string or body at its front, and is
 -- next's store once these are given out
 pub record CoreGives (r : Run) (s : State) (bytes : List ℕ) : Type 0 where
-  pub answer : r .heard .told .answer ≡ nextOf s bytes .answer
+  pub answer : r .effect .answered .answer ≡ nextOf s bytes .answer
   pub taken : r .taken ≡ nextOf s bytes .taken
-  pub control : r .heard .told .control ≡ nextOf s bytes .state .control
-  pub event : eventOf (r .heard .told .answer) (r .heard .store) (r .heard .store) ≡ eventIn (nextOf s bytes)
-  pub store : released (r .heard .told .answer) (r .heard .store) ≡ nextOf s bytes .state .store
+  pub control : r .effect .answered .control ≡ nextOf s bytes .state .control
+  pub event : eventOf (r .effect .answered .answer) (r .effect .store) (r .effect .store) ≡ eventIn (nextOf s bytes)
+  pub store : released (r .effect .answered .answer) (r .effect .store) ≡ nextOf s bytes .state .store
 
 -- for every next call that is not sent back
 abbrev pub CoreIsNext : Type 0

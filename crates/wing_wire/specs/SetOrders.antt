@@ -7,7 +7,7 @@ use lib.IntN.{ℤ}
 use lib.ListN.{length, take}
 use Rattle.wing_node.specs.Result.{ok}
 use Rattle.wing_node.specs.Value.{NodeValue}
-use Rattle.wing_wire.specs.State.{soundState}
+use Rattle.wing_wire.specs.State.{bodyLimit, soundState}
 use Rattle.wing_wire.specs.Reader.{nextOf}
 use Rattle.wing_wire.specs.Answers.{valueAt, replyResult}
 use Rattle.wing_wire.specs.declared.state.Pending.the-variants.{None}
@@ -19,7 +19,7 @@ use Rattle.wing_wire.specs.declared.write.Written.the-variants.{Bytes, R
 -- a sound state that is unescaped, between tokens and with no byte pending, on any channel and at any node; a store has 4,096 bytes
 pub record AtRest (s : State) : Type 0 where
   pub sound : soundState s ≡ true
-  pub store : length (s .store) ≡ 4096
+  pub store : length (s .store) ≡ bodyLimit
   pub unescaped : s .control .escape .escaped ≡ false
   pub pending : s .control .escape .pending ≡ None
   pub between : s .control .token ≡ Between

@@ -17,6 +17,10 @@ use Rattle.wing_wire.specs.declared.state.Token.the-variants.{Between, N
 use Rattle.wing_wire.specs.declared.state.Control.{Control}
 use Rattle.wing_wire.specs.declared.state.State.{State}
 
+-- 01: a definition's count is at most 4,096; the store and the array of a body have as many bytes
+abbrev pub bodyLimit : ℕ
+bodyLimit = 4096
+
 -- escapes by their parts
 abbrev pub escape : Bool → ℤ → Pending → Escape
 escape escaped channel pending = record { escaped = escaped; channel = channel; pending = pending }
@@ -31,7 +35,7 @@ freshControl = control (escape false (negsuc 0) None) (pos 0) Between
 
 -- 01: a fresh state; no unit is stored
 unfoldable pub freshState : State
-freshState = record { control = freshControl; store = replicate 4096 0 }
+freshState = record { control = freshControl; store = replicate bodyLimit 0 }
 
 -- both tests
 abbrev pub and : Bool → Bool → Bool
@@ -66,7 +70,7 @@ soundString want left = and (underway left want) (leb want 256)
 
 -- 01: no more bytes stored than units collected; none stored for a body whose count is over 4,096
 unfoldable pub soundBody : ℕ → ℕ → ℕ → Bool
-soundBody want left stored = and (underway left want) (if (leb want 4096) (leb stored (want - left)) (eqb stored 0))
+soundBody want left stored = and (underway left want) (if (leb want bodyLimit) (leb stored (want - left)) (eqb stored 0))
 
 -- 01: fewer units collected than wanted, no more stored than collected
 unfoldable pub soundCounts : Token → Bool

@@ -6,7 +6,7 @@ use lib.IntN.{ℤ}
 use Rattle.wing_node.specs.Bool.{if}
 use Rattle.wing_wire.specs.State.{escape, control}
 use Rattle.wing_wire.specs.Escape.{decodeOf}
-use Rattle.wing_wire.specs.Unit.{Out, cleared, unitOf}
+use Rattle.wing_wire.specs.Unit.{UnitEffect, cleared, unitOf}
 use Rattle.wing_wire.specs.declared.state.Pending.{Pending}
 use Rattle.wing_wire.specs.declared.state.Pending.the-variants.{None, Byte}
 use Rattle.wing_wire.specs.declared.state.Escape.{Escape}
@@ -15,25 +15,25 @@ use Rattle.wing_wire.specs.declared.escape.Unit.{Unit}
 use Rattle.wing_wire.specs.declared.escape.Unit.the-variants.{Nothing, Bare, Appended}
 use Rattle.wing_wire.specs.declared.unit.Answer.{Answer}
 use Rattle.wing_wire.specs.declared.unit.Answer.the-variants.{More, Integer, Float, String, Body, End, Refused}
-use Rattle.wing_wire.specs.declared.stream.Told.{Told}
+use Rattle.wing_wire.specs.declared.stream.Answered.{Answered}
 use Rattle.wing_wire.specs.declared.stream.Advanced.{Advanced}
 
 -- an answer and the control after it
-abbrev pub told : Answer → Control → Told
-told answer c = record { answer = answer; control = c }
+abbrev pub answered : Answer → Control → Answered
+answered answer c = record { answer = answer; control = c }
 
 -- an answer, with the control and the store after it
-pub record Heard : Type 0 where
-  pub told : Told
+pub record StepEffect : Type 0 where
+  pub answered : Answered
   pub store : List ℕ
 
 -- the same with the store
-abbrev pub heard : Told → List ℕ → Heard
-heard t s = record { told = t; store = s }
+abbrev pub stepEffect : Answered → List ℕ → StepEffect
+stepEffect t s = record { answered = t; store = s }
 
 -- no answer yet
-abbrev pub quiet : Control → List ℕ → Heard
-quiet c s = heard (told More c) s
+abbrev pub noAnswer : Control → List ℕ → StepEffect
+noAnswer c s = stepEffect (answered More c) s
 
 -- 01's 'more'
 abbrev pub isMore : Answer → Bool
@@ -46,44 +46,44 @@ isMore End = false
 isMore (Refused n) = false
 
 -- what a unit gave, with the escapes as they now are
-abbrev pub joined : Escape → Out → Heard
-joined e o = heard (told (o .taken .answer) (control e (o .taken .node) (o .taken .token))) (o .store)
+abbrev pub afterUnit : Escape → UnitEffect → StepEffect
+afterUnit e o = stepEffect (answered (o .taken .answer) (control e (o .taken .node) (o .taken .token))) (o .store)
 
 -- 01: a pending byte is the next unit and is appended to the body
-abbrev pub pendingOf : Pending → Control → List ℕ → Heard
-pendingOf None c s = quiet c s
-pendingOf (Byte u) c s = joined (escape (c .escape .escaped) (c .escape .channel) None) (unitOf (c .node) (c .token) s u true)
+abbrev pub pendingOf : Pending → Control → List ℕ → StepEffect
+pendingOf None c s = noAnswer c s
+pendingOf (Byte u) c s = afterUnit (escape (c .escape .escaped) (c .escape .channel) None) (unitOf (c .node) (c .token) s u true)
 
 -- the same of the control's own pending byte, if it has one
-unfoldable pub settleOf : Control → List ℕ → Heard
+unfoldable pub settleOf : Control → List ℕ → StepEffect
 settleOf c s = pendingOf (c .escape .pending) c s
 
 -- the unit that a byte gave, if any, taken by the token in progress
-abbrev pub givenOf : Unit → Escape → Control → List ℕ → Heard
-givenOf Nothing e c s = quiet (control e (c .node) (c .token)) s
-givenOf (Bare u) e c s = joined e (unitOf (c .node) (c .token) s u false)
-givenOf (Appended u) e c s = joined e (unitOf (c .node) (c .token) s u true)
+abbrev pub givenOf : Unit → Escape → Control → List ℕ → StepEffect
+givenOf Nothing e c s = noAnswer (control e (c .node) (c .token)) s
+givenOf (Bare u) e c s = afterUnit e (unitOf (c .node) (c .token) s u false)
+givenOf (Appended u) e c s = afterUnit e (unitOf (c .node) (c .token) s u true)
 
 -- the unit that a byte gives
-unfoldable pub firstOf : Control → List ℕ → ℕ → Heard
+unfoldable pub firstOf : Control → List ℕ → ℕ → StepEffect
 firstOf c s b = givenOf (decodeOf (c .escape) b .unit) (decodeOf (c .escape) b .escape) c s
 
 -- after a unit that completes nothing comes the pending byte
-unfoldable pub followOf : Heard → Heard
-followOf h = if (isMore (h .told .answer)) (settleOf (h .told .control) (h .store)) h
+unfoldable pub followOf : StepEffect → StepEffect
+followOf h = if (isMore (h .answered .answer)) (settleOf (h .answered .control) (h .store)) h
 
 -- one byte
-abbrev pub stepOf : Control → List ℕ → ℕ → Heard
+abbrev pub stepOf : Control → List ℕ → ℕ → StepEffect
 stepOf c s b = followOf (firstOf c s b)
 
--- what was heard, and the number of bytes taken
+-- what the last step left, and the number of bytes taken
 pub record Run : Type 0 where
-  pub heard : Heard
+  pub effect : StepEffect
   pub taken : ℕ
 
 -- one byte more, unless there is an answer already
 abbrev pub onward : Run → ℕ → Run
-onward r b = if (isMore (r .heard .told .answer)) (record { heard = stepOf (r .heard .told .control) (r .heard .store) b; taken = r .taken + 1 }) r
+onward r b = if (isMore (r .effect .answered .answer)) (record { effect = stepOf (r .effect .answered .control) (r .effect .store) b; taken = r .taken + 1 }) r
 
 -- bytes one after the other, up to an answer: after one, onward takes no more
 unfoldable pub runOf : Run → List ℕ → Run
@@ -92,11 +92,11 @@ runOf r (b ∷ bs) = runOf (onward r b) bs
 
 -- 01: bytes up to the unit that completes an event or refusal; more only when all bytes are taken and nothing is pending
 unfoldable pub advanceOf : Control → List ℕ → List ℕ → Run
-advanceOf c s bytes = runOf (record { heard = settleOf c s; taken = 0 }) bytes
+advanceOf c s bytes = runOf (record { effect = settleOf c s; taken = 0 }) bytes
 
 -- what the core answers, as a run
 abbrev pub run : Advanced → List ℕ → Run
-run r s = record { heard = heard (told (r .answer) (r .control)) s; taken = r .taken }
+run r s = record { effect = stepEffect (answered (r .answer) (r .control)) s; taken = r .taken }
 
 -- the store once the bytes of an answer's string or body are given out
 abbrev pub released : Answer → List ℕ → List ℕ
@@ -118,21 +118,21 @@ pub record Fed (M : Type 0) : Type 0 where
 
 module _ {M : Type 0} (h : ℤ → Answer → List ℕ → M → M) where
   -- an answer other than 'more' is handed on with its node, and its bytes are released
-  abbrev pub heed : Heard → M → Fed M
-  heed x m =
+  abbrev pub handle : StepEffect → M → Fed M
+  handle x m =
       record {
-        control = x .told .control;
-        store = released (x .told .answer) (x .store);
-        memo = if (isMore (x .told .answer)) m (h (x .told .control .node) (x .told .answer) (x .store) m);
+        control = x .answered .control;
+        store = released (x .answered .answer) (x .store);
+        memo = if (isMore (x .answered .answer)) m (h (x .answered .control .node) (x .answered .answer) (x .store) m);
       }
 
   -- the pending byte, if there is one
-  abbrev pub calm : Fed M → Fed M
-  calm x = heed (settleOf (x .control) (x .store)) (x .memo)
+  abbrev pub fedPending : Fed M → Fed M
+  fedPending x = handle (settleOf (x .control) (x .store)) (x .memo)
 
   -- one byte, with the byte that it made pending
   abbrev pub fedByte : Fed M → ℕ → Fed M
-  fedByte x b = calm (heed (firstOf (x .control) (x .store) b) (x .memo))
+  fedByte x b = fedPending (handle (firstOf (x .control) (x .store) b) (x .memo))
 
   -- bytes one after the other, through every answer
   unfoldable pub fedFrom : Fed M → List ℕ → Fed M
@@ -141,4 +141,4 @@ module _ {M : Type 0} (h : ℤ → Answer → List ℕ → M → M) where
 
   -- 01: next until 'more': FeedLaws (specs/DecoderLaws.antt) says that it is that
   unfoldable pub feedOf : Fed M → List ℕ → Fed M
-  feedOf x bs = fedFrom (calm x) bs
+  feedOf x bs = fedFrom (fedPending x) bs

@@ -1,6 +1,5 @@
 -- 01's token table: the class of a first unit t, and how many units its token wants after it.
 use Prim.Native.Nat.{ℕ, _+_, _-_}
-use mathlib.Core.Bool.{Bool, true, false}
 use mathlib.Core.List.{List, [], _∷_}
 use lib.Dec.{leb}
 use lib.ListN.{getD}
@@ -17,11 +16,11 @@ rule class wants = record { class = class; wants = wants }
 pub record Row : Type 0 where
   pub low : ℕ
   pub high : ℕ
-  pub gives : ℕ → Rule
+  pub ruleAt : ℕ → Rule
 
 -- such a row, by its ends and what each first unit in it begins
 abbrev pub from : ℕ → ℕ → (ℕ → Rule) → Row
-from low high gives = record { low = low; high = high; gives = gives }
+from low high ruleAt = record { low = low; high = high; ruleAt = ruleAt }
 
 -- a row of one first unit
 abbrev pub only : ℕ → Class → ℕ → Row
@@ -47,7 +46,7 @@ table =
 -- the row of t, or no event: 40–7f, d8, da–dd, e0–ff
 unfoldable pub ruleIn : List Row → ℕ → Rule
 ruleIn [] t = rule NoEvent 0
-ruleIn (r ∷ rs) t = if (leb (r .low) t) (if (leb t (r .high)) (r .gives t) (ruleIn rs t)) (ruleIn rs t)
+ruleIn (r ∷ rs) t = if (leb (r .low) t) (if (leb t (r .high)) (r .ruleAt t) (ruleIn rs t)) (ruleIn rs t)
 
 -- 01: what a first unit begins
 unfoldable pub ruleOf : ℕ → Rule

@@ -12,31 +12,31 @@ use Rattle.wing_node.specs.Field.{big}
 use Rattle.wing_node.specs.Signed.{signed}
 use Rattle.wing_node.specs.Utf8.{utf8}
 use Rattle.wing_node.specs.Value.{integer, float, string}
-use Rattle.wing_wire.specs.State.{control}
+use Rattle.wing_wire.specs.State.{bodyLimit, control}
 use Rattle.wing_wire.specs.Stream.{Fed, feedOf}
 use Rattle.wing_wire.specs.Reader.{Event, value, body, end, refused, eventOf}
 use Rattle.wing_wire.specs.Range.{AreBytes, PendingByte}
-use Rattle.wing_wire.specs.Units.{Given, given, unitsOf, withEscape, unitsTaken}
+use Rattle.wing_wire.specs.Units.{StreamUnit, streamUnit, unitsOf, withEscape, unitsTaken}
 use Rattle.wing_wire.specs.declared.state.Escape.{Escape}
 use Rattle.wing_wire.specs.declared.state.Token.the-variants.{Between}
 use Rattle.wing_wire.specs.declared.unit.Answer.{Answer}
 
 -- a store with nothing in it: 4,096 zeros
 unfoldable pub emptyStore : List ℕ
-emptyStore = replicate 4096 0
+emptyStore = replicate bodyLimit 0
 
 -- the values of units
-abbrev pub values : List Given → List ℕ
+abbrev pub values : List StreamUnit → List ℕ
 values [] = []
 values (g ∷ gs) = g .unit ∷ values gs
 
 -- 01: a body is what its units append
-abbrev pub appended : List Given → List ℕ
+abbrev pub appended : List StreamUnit → List ℕ
 appended [] = []
 appended (g ∷ gs) = if (g .appended) (g .unit ∷ appended gs) (appended gs)
 
 -- n units, each a byte, appended or not
-pub record Further (n : ℕ) (us : List Given) : Type 0 where
+pub record Further (n : ℕ) (us : List StreamUnit) : Type 0 where
   pub number : length us ≡ n
   pub bytes : AreBytes (values us)
 
@@ -49,69 +49,69 @@ abbrev pub Rest : ℕ → Type 0
 Rest t = From 0x40 0x7f t ⊎ (From 0xd8 0xd8 t ⊎ (From 0xda 0xdd t ⊎ From 0xe0 0xff t))
 
 -- what a token gives when its last unit comes
-pub data Gives : Type 0 where
+pub data TokenResult : Type 0 where
   -- an event or a refusal, at the node that was current
-  event : Event → Gives
+  event : Event → TokenResult
   -- no event
-  nothing : Gives
+  nothing : TokenResult
   -- a new current node, and no event
-  newNode : ℤ → Gives
+  newNode : ℤ → TokenResult
 
 -- 01: strings are UTF-8; one that is not is 1
-abbrev pub stringOf : List ℕ → Gives
+abbrev pub stringOf : List ℕ → TokenResult
 stringOf s = if (utf8 s) (event (value (string s))) (event (refused 1))
 
 -- 01's table: the units of one token, and what it gives when its last unit comes. t is the first unit, a whether it is appended, and
 -- us are the units that the row wants after it
-pub data InTable : List Given → Gives → Type 0 where
+pub data InTable : List StreamUnit → TokenResult → Type 0 where
   -- 00–3f: integer t
-  integer-t : (t : ℕ) (a : Bool) → From 0x00 0x3f t → InTable (given t a ∷ []) (event (value (integer (pos t))))
+  integer-t : (t : ℕ) (a : Bool) → From 0x00 0x3f t → InTable (streamUnit t a ∷ []) (event (value (integer (pos t))))
   -- 80–bf: string of t − 80 + 1 units
-  string-80 : (t : ℕ) (a : Bool) (us : List Given) → From 0x80 0xbf t → Further (t - 0x80 + 1) us → InTable (given t a ∷ us) (stringOf (values us))
+  string-80 : (t : ℕ) (a : Bool) (us : List StreamUnit) → From 0x80 0xbf t → Further (t - 0x80 + 1) us → InTable (streamUnit t a ∷ us) (stringOf (values us))
   -- c0–cf: string of t − c0 + 1 units
-  string-c0 : (t : ℕ) (a : Bool) (us : List Given) → From 0xc0 0xcf t → Further (t - 0xc0 + 1) us → InTable (given t a ∷ us) (stringOf (values us))
+  string-c0 : (t : ℕ) (a : Bool) (us : List StreamUnit) → From 0xc0 0xcf t → Further (t - 0xc0 + 1) us → InTable (streamUnit t a ∷ us) (stringOf (values us))
   -- d0: empty string
-  string-d0 : (a : Bool) → InTable (given 0xd0 a ∷ []) (event (value (string [])))
+  string-d0 : (a : Bool) → InTable (streamUnit 0xd0 a ∷ []) (event (value (string [])))
   -- d1: length n, then string of n + 1
-  string-d1 : (n : ℕ) (a b : Bool) (us : List Given) → n < 256 → Further (n + 1) us → InTable (given 0xd1 a ∷ given n b ∷ us) (stringOf (values us))
+  string-d1 : (n : ℕ) (a b : Bool) (us : List StreamUnit) → n < 256 → Further (n + 1) us → InTable (streamUnit 0xd1 a ∷ streamUnit n b ∷ us) (stringOf (values us))
   -- d3, d4: signed 16, 32 bits: integer
-  integer-16 : (a : Bool) (us : List Given) → Further 2 us → InTable (given 0xd3 a ∷ us) (event (value (integer (signed 15 (big (values us))))))
-  integer-32 : (a : Bool) (us : List Given) → Further 4 us → InTable (given 0xd4 a ∷ us) (event (value (integer (signed 31 (big (values us))))))
+  integer-16 : (a : Bool) (us : List StreamUnit) → Further 2 us → InTable (streamUnit 0xd3 a ∷ us) (event (value (integer (signed 15 (big (values us))))))
+  integer-32 : (a : Bool) (us : List StreamUnit) → Further 4 us → InTable (streamUnit 0xd4 a ∷ us) (event (value (integer (signed 31 (big (values us))))))
   -- d5, d6: 32 float bits
-  float-bits : (t : ℕ) (a : Bool) (us : List Given) → From 0xd5 0xd6 t → Further 4 us → InTable (given t a ∷ us) (event (value (float (big (values us)))))
+  float-bits : (t : ℕ) (a : Bool) (us : List StreamUnit) → From 0xd5 0xd6 t → Further 4 us → InTable (streamUnit t a ∷ us) (event (value (float (big (values us)))))
   -- d7: 32 bits: new current node, no event
-  new-node : (a : Bool) (us : List Given) → Further 4 us → InTable (given 0xd7 a ∷ us) (newNode (signed 31 (big (values us))))
+  new-node : (a : Bool) (us : List StreamUnit) → Further 4 us → InTable (streamUnit 0xd7 a ∷ us) (newNode (signed 31 (big (values us))))
   -- d2, d9: two units, one unit, no event
-  skips-two : (a : Bool) (us : List Given) → Further 2 us → InTable (given 0xd2 a ∷ us) nothing
-  skips-one : (a : Bool) (us : List Given) → Further 1 us → InTable (given 0xd9 a ∷ us) nothing
+  skips-two : (a : Bool) (us : List StreamUnit) → Further 2 us → InTable (streamUnit 0xd2 a ∷ us) nothing
+  skips-one : (a : Bool) (us : List StreamUnit) → Further 1 us → InTable (streamUnit 0xd9 a ∷ us) nothing
   -- de: end
-  end-unit : (a : Bool) → InTable (given 0xde a ∷ []) (event end)
+  end-unit : (a : Bool) → InTable (streamUnit 0xde a ∷ []) (event end)
   -- df: 16-bit count c, then c units; body is what they append
-  bodies : (a : Bool) (c us : List Given) → Further 2 c → 1 ≤ big (values c) → big (values c) ≤ 4096 → Further (big (values c)) us →
-      InTable (given 0xdf a ∷ (c ++ us)) (event (body (appended us)))
+  bodies : (a : Bool) (c us : List StreamUnit) → Further 2 c → 1 ≤ big (values c) → big (values c) ≤ bodyLimit → Further (big (values c)) us →
+      InTable (streamUnit 0xdf a ∷ (c ++ us)) (event (body (appended us)))
   -- count over 4,096 reads all c units, then answers 2
-  count-over : (a : Bool) (c us : List Given) → Further 2 c → 4096 < big (values c) → Further (big (values c)) us →
-      InTable (given 0xdf a ∷ (c ++ us)) (event (refused 2))
+  count-over : (a : Bool) (c us : List StreamUnit) → Further 2 c → bodyLimit < big (values c) → Further (big (values c)) us →
+      InTable (streamUnit 0xdf a ∷ (c ++ us)) (event (refused 2))
   -- count 0 reads four more units, then answers 3
-  count-zero : (a : Bool) (c us : List Given) → Further 2 c → big (values c) ≡ 0 → Further 4 us →
-      InTable (given 0xdf a ∷ (c ++ us)) (event (refused 3))
+  count-zero : (a : Bool) (c us : List StreamUnit) → Further 2 c → big (values c) ≡ 0 → Further 4 us →
+      InTable (streamUnit 0xdf a ∷ (c ++ us)) (event (refused 3))
   -- 40–7f, d8, da–dd, e0–ff: no event
-  no-event : (t : ℕ) (a : Bool) → Rest t → InTable (given t a ∷ []) nothing
+  no-event : (t : ℕ) (a : Bool) → Rest t → InTable (streamUnit t a ∷ []) nothing
 
 -- units cut into tokens of the table, with what these give in order
-pub data Cut : List Given → List Gives → Type 0 where
+pub data Cut : List StreamUnit → List TokenResult → Type 0 where
   -- a token, and what comes after it
-  token : (us more : List Given) (g : Gives) (gs : List Gives) → InTable us g → Cut more gs → Cut (us ++ more) (g ∷ gs)
+  token : (us more : List StreamUnit) (g : TokenResult) (gs : List TokenResult) → InTable us g → Cut more gs → Cut (us ++ more) (g ∷ gs)
   -- at the end, the units so far of a token that wants more: u and what follows it have not come
-  waits : (us more : List Given) (u : Given) (g : Gives) → InTable (us ++ (u ∷ more)) g → Cut us []
+  waits : (us more : List StreamUnit) (u : StreamUnit) (g : TokenResult) → InTable (us ++ (u ∷ more)) g → Cut us []
 
 -- a cut of units, and what it gives
-pub record CutOf (us : List Given) : Type 0 where
-  pub gives : List Gives
-  pub cut : Cut us gives
+pub record CutOf (us : List StreamUnit) : Type 0 where
+  pub results : List TokenResult
+  pub cut : Cut us results
 
 -- the current node after tokens: the last new one
-abbrev pub nodeAfter : ℤ → List Gives → ℤ
+abbrev pub nodeAfter : ℤ → List TokenResult → ℤ
 nodeAfter node [] = node
 nodeAfter node (event x ∷ gs) = nodeAfter node gs
 nodeAfter node (nothing ∷ gs) = nodeAfter node gs
@@ -120,7 +120,7 @@ nodeAfter node (newNode id ∷ gs) = nodeAfter id gs
 -- for a handler of events
 module _ {M : Type 0} (h : ℤ → Event → M → M) where
   -- units through every answer: each event or refusal is handed on, with the node that is current
-  abbrev pub through : Fed M → List Given → Fed M
+  abbrev pub through : Fed M → List StreamUnit → Fed M
   through x us = unitsTaken (λ node a s m. h node (eventOf a s s) m) x us
 
   -- between tokens with an empty store
@@ -128,7 +128,7 @@ module _ {M : Type 0} (h : ℤ → Event → M → M) where
   between e node m = record { control = control e node Between; store = emptyStore; memo = m }
 
   -- between tokens again, with the same escapes: what is given was handed on once at the node that was current, or there is a new node
-  abbrev pub after : Escape → ℤ → M → Gives → Fed M
+  abbrev pub after : Escape → ℤ → M → TokenResult → Fed M
   after e node m (event x) = between e node (h node x m)
   after e node m nothing = between e node m
   after e node m (newNode id) = between e id m
@@ -140,14 +140,14 @@ module _ {M : Type 0} (h : ℤ → Event → M → M) where
     pub escape : x .control .escape ≡ e
 
   -- the units of one token, from between tokens with an empty store, at any node and with any escapes
-  pub record Token (us : List Given) (g : Gives) : Type 0 where
+  pub record Token (us : List StreamUnit) (g : TokenResult) : Type 0 where
     -- after every front of the units that is not all of them nothing is handed on, and the node and the escapes are what they were
     pub before : (e : Escape) (node : ℤ) (m : M) (n : ℕ) → n < length us → Holds e node m (through (between e node m) (take n us))
     -- with the last unit comes what the token gives
     pub last : (e : Escape) (node : ℤ) (m : M) → through (between e node m) us ≡ after e node m g
 
   -- what tokens give one after the other, each event or refusal handed on at the node that is current
-  abbrev pub handedOn : ℤ → M → List Gives → M
+  abbrev pub handedOn : ℤ → M → List TokenResult → M
   handedOn node m [] = m
   handedOn node m (event x ∷ gs) = handedOn node (h node x m) gs
   handedOn node m (nothing ∷ gs) = handedOn node m gs
@@ -155,19 +155,19 @@ module _ {M : Type 0} (h : ℤ → Event → M → M) where
 
   -- what a feed of bytes makes: the units of the bytes are cut into tokens, and what these give is handed on
   pub record Read (e : Escape) (id : ℤ) (m : M) (bytes : List ℕ) : Type 0 where
-    pub gives : List Gives
-    pub cut : Cut (unitsOf e bytes .units) gives
-    pub fed : Holds (unitsOf e bytes .escape) (nodeAfter id gives) (handedOn id m gives) (feedOf (λ node a s m. h node (eventOf a s s) m) (between e id m) bytes)
+    pub results : List TokenResult
+    pub cut : Cut (unitsOf e bytes .units) results
+    pub fed : Holds (unitsOf e bytes .escape) (nodeAfter id results) (handedOn id m results) (feedOf (λ node a s m. h node (eventOf a s s) m) (between e id m) bytes)
 
   -- what is said of tokens
   pub record Tokens : Type 0 where
     -- every token of the table is taken as a whole and gives what its row says: 1 for a string that is not UTF-8, 2 for a count over
     -- 4,096 and 3 for count 0, each when the last unit comes and with the node as it was
-    pub row : (us : List Given) (g : Gives) → InTable us g → Token us g
+    pub row : (us : List StreamUnit) (g : TokenResult) → InTable us g → Token us g
     -- whatever units come, they can be cut into tokens of the table: no unit is outside it
-    pub cut : (us : List Given) → AreBytes (values us) → CutOf us
+    pub cut : (us : List StreamUnit) → AreBytes (values us) → CutOf us
     -- units that are cut into tokens hand on what these give, in order and nothing else: so 1, 2 and 3 come for no other cause
-    pub stream : (us : List Given) (gs : List Gives) → Cut us gs → (e : Escape) (node : ℤ) (m : M) →
+    pub stream : (us : List StreamUnit) (gs : List TokenResult) → Cut us gs → (e : Escape) (node : ℤ) (m : M) →
         Holds e (nodeAfter node gs) (handedOn node m gs) (through (between e node m) us)
     -- and so it is with a feed of any bytes
     pub feed : (e : Escape) (node : ℤ) (m : M) (bytes : List ℕ) → PendingByte (e .pending) → AreBytes bytes → Read e node m bytes

@@ -1,17 +1,17 @@
 -- 01, Tokens: what one unit makes of the token in progress and of the store, and the event or refusal that it completes.
 use Prim.Native.Nat.{ℕ, _+_, _-_, _*_, _%_}
 use mathlib.Core.Bool.{Bool, true, false}
-use mathlib.Core.List.{List, [], _∷_, _++_}
+use mathlib.Core.List.{List, _++_}
 use lib.Dec.{ltb, leb, eqb}
-use lib.IntN.{ℤ, pos, negsuc}
+use lib.IntN.{ℤ, pos}
 use lib.ListN.{length, take, drop, set, replicate}
 use Rattle.wing_node.specs.Bool.{if}
 use Rattle.wing_node.specs.Signed.{signed}
 use Rattle.wing_node.specs.Utf8.{utf8}
+use Rattle.wing_wire.specs.State.{bodyLimit}
 use Rattle.wing_wire.specs.Token.{ruleOf}
 use Rattle.wing_wire.specs.declared.token.Class.{Class}
 use Rattle.wing_wire.specs.declared.token.Class.the-variants.{NoEvent, Integer, String, Length, Int16, Int32, Float, Node, End, Count, ZeroCount}
-use Rattle.wing_wire.specs.declared.token.Rule.{Rule}
 use Rattle.wing_wire.specs.declared.state.Token.{Token}
 use Rattle.wing_wire.specs.declared.state.Token.the-variants.{Between, Number, String as InString, Body as InBody}
 use Rattle.wing_wire.specs.declared.unit.Answer.{Answer}
@@ -23,8 +23,8 @@ abbrev pub taken : Answer → ℤ → Token → Taken
 taken answer node token = record { answer = answer; node = node; token = token }
 
 -- an event or a refusal, after which the reader stands between tokens
-abbrev pub gives : ℤ → Answer → Taken
-gives node answer = taken answer node Between
+abbrev pub completes : ℤ → Answer → Taken
+completes node answer = taken answer node Between
 
 -- nothing yet
 abbrev pub awaits : ℤ → Token → Taken
@@ -65,7 +65,7 @@ tokenOf class wants = if (isString class) (InString wants wants) (Number class w
 -- the first unit of a token, by the table
 unfoldable pub beginOf : ℤ → ℕ → Taken
 beginOf node t =
-    if (eqb (ruleOf t .wants) 0) (gives node (singleOf (ruleOf t .class) t))
+    if (eqb (ruleOf t .wants) 0) (completes node (singleOf (ruleOf t .class) t))
     (awaits node (tokenOf (ruleOf t .class) (ruleOf t .wants)))
 
 -- 01: count 0 reads four more units; any other count c is followed by c units
@@ -74,17 +74,17 @@ countOf node c = if (eqb c 0) (awaits node (Number ZeroCount 4 0)) (awaits node 
 
 -- what a number gives when its last unit is there. The remainders keep each case in the width of its units
 unfoldable pub numberOf : ℤ → Class → ℕ → Taken
-numberOf node NoEvent v = gives node More
-numberOf node Integer v = gives node More
-numberOf node String v = gives node More
+numberOf node NoEvent v = completes node More
+numberOf node Integer v = completes node More
+numberOf node String v = completes node More
 numberOf node Length v = awaits node (InString (v % 0x100 + 1) (v % 0x100 + 1))
-numberOf node Int16 v = gives node (anInteger (signed 15 (v % 0x10000)))
-numberOf node Int32 v = gives node (anInteger (signed 31 v))
-numberOf node Float v = gives node (aFloat v)
-numberOf node Node v = gives (signed 31 v) More
-numberOf node End v = gives node More
+numberOf node Int16 v = completes node (anInteger (signed 15 (v % 0x10000)))
+numberOf node Int32 v = completes node (anInteger (signed 31 v))
+numberOf node Float v = completes node (aFloat v)
+numberOf node Node v = completes (signed 31 v) More
+numberOf node End v = completes node More
 numberOf node Count v = countOf node (v % 0x10000)
-numberOf node ZeroCount v = gives node (Refused 3)
+numberOf node ZeroCount v = completes node (Refused 3)
 
 -- a number of 32 bits with one unit more at its end
 abbrev pub shiftIn : ℕ → ℕ → ℕ
@@ -96,36 +96,36 @@ numberUnit node class left v u =
     if (leb left 1) (numberOf node class (shiftIn v u)) (awaits node (Number class (left - 1) (shiftIn v u)))
 
 -- what stands in the reader and in its store after a unit
-pub record Out : Type 0 where
+pub record UnitEffect : Type 0 where
   pub taken : Taken
   pub store : List ℕ
 
 -- with the store
-abbrev pub out : Taken → List ℕ → Out
-out t s = record { taken = t; store = s }
+abbrev pub unitEffect : Taken → List ℕ → UnitEffect
+unitEffect t s = record { taken = t; store = s }
 
 -- the store with its first n bytes 0
 abbrev pub cleared : ℕ → List ℕ → List ℕ
 cleared n s = replicate (length (take n s)) 0 ++ drop n s
 
 -- 01: strings are UTF-8, else refusal 1
-unfoldable pub stringDone : ℤ → ℕ → List ℕ → Out
+unfoldable pub stringDone : ℤ → ℕ → List ℕ → UnitEffect
 stringDone node want s =
-    if (utf8 (take want s)) (out (gives node (aString want)) s) (out (gives node (Refused 1)) (cleared want s))
+    if (utf8 (take want s)) (unitEffect (completes node (aString want)) s) (unitEffect (completes node (Refused 1)) (cleared want s))
 
 -- every unit of a string is stored
-unfoldable pub stringUnit : ℤ → ℕ → ℕ → List ℕ → ℕ → Out
+unfoldable pub stringUnit : ℤ → ℕ → ℕ → List ℕ → ℕ → UnitEffect
 stringUnit node want left s u =
     if (leb left 1) (stringDone node want (set s (want - left) u))
-    (out (awaits node (InString want (left - 1))) (set s (want - left) u))
+    (unitEffect (awaits node (InString want (left - 1))) (set s (want - left) u))
 
 -- 01: a body is what its units append; of a count over 4,096 nothing is kept
 unfoldable pub keeps : ℕ → ℕ → Bool → Bool
-keeps want stored appended = if appended (if (leb want 4096) (ltb stored 4096) false) false
+keeps want stored appended = if appended (if (leb want bodyLimit) (ltb stored bodyLimit) false) false
 
 -- 01: count over 4,096 reads all c units, then answers 2
 unfoldable pub bodyDone : ℤ → ℕ → ℕ → Taken
-bodyDone node want stored = if (leb want 4096) (gives node (aBody stored)) (gives node (Refused 2))
+bodyDone node want stored = if (leb want bodyLimit) (completes node (aBody stored)) (completes node (Refused 2))
 
 -- one unit less is wanted; the last one gives the body
 unfoldable pub bodyNext : ℤ → ℕ → ℕ → ℕ → Taken
@@ -133,14 +133,14 @@ bodyNext node want left stored =
     if (leb left 1) (bodyDone node want stored) (awaits node (InBody want (left - 1) stored))
 
 -- 01: a body's units, appended or not
-unfoldable pub bodyUnit : ℤ → ℕ → ℕ → ℕ → List ℕ → ℕ → Bool → Out
+unfoldable pub bodyUnit : ℤ → ℕ → ℕ → ℕ → List ℕ → ℕ → Bool → UnitEffect
 bodyUnit node want left stored s u appended =
-    if (keeps want stored appended) (out (bodyNext node want left (stored + 1)) (set s stored u))
-    (out (bodyNext node want left stored) s)
+    if (keeps want stored appended) (unitEffect (bodyNext node want left (stored + 1)) (set s stored u))
+    (unitEffect (bodyNext node want left stored) s)
 
 -- one unit
-unfoldable pub unitOf : ℤ → Token → List ℕ → ℕ → Bool → Out
-unitOf node Between s u appended = out (beginOf node u) s
-unitOf node (Number class left v) s u appended = out (numberUnit node class left v u) s
+unfoldable pub unitOf : ℤ → Token → List ℕ → ℕ → Bool → UnitEffect
+unitOf node Between s u appended = unitEffect (beginOf node u) s
+unitOf node (Number class left v) s u appended = unitEffect (numberUnit node class left v u) s
 unitOf node (InString want left) s u appended = stringUnit node want left s u
 unitOf node (InBody want left stored) s u appended = bodyUnit node want left stored s u appended

@@ -9,7 +9,7 @@ use Rattle.wing_node.specs.Bool.{if}
 use Rattle.wing_wire.specs.State.{escape, control}
 use Rattle.wing_wire.specs.Escape.{decodeOf, decodeNextOf}
 use Rattle.wing_wire.specs.Unit.{unitOf}
-use Rattle.wing_wire.specs.Stream.{joined, Fed, heed}
+use Rattle.wing_wire.specs.Stream.{afterUnit, Fed, handle}
 use Rattle.wing_wire.specs.declared.state.Pending.{Pending}
 use Rattle.wing_wire.specs.declared.state.Pending.the-variants.{None, Byte}
 use Rattle.wing_wire.specs.declared.state.Escape.{Escape}
@@ -18,33 +18,33 @@ use Rattle.wing_wire.specs.declared.escape.Unit.the-variants.{Nothing, B
 use Rattle.wing_wire.specs.declared.unit.Answer.{Answer}
 
 -- a unit, and whether it is appended to a body
-pub record Given : Type 0 where
+pub record StreamUnit : Type 0 where
   pub unit : ℕ
   pub appended : Bool
 
 -- a unit by its value and whether it is appended
-abbrev pub given : ℕ → Bool → Given
-given unit appended = record { unit = unit; appended = appended }
+abbrev pub streamUnit : ℕ → Bool → StreamUnit
+streamUnit unit appended = record { unit = unit; appended = appended }
 
 -- the units of bytes in their order, and the escapes after them
 pub record Units : Type 0 where
-  pub units : List Given
+  pub units : List StreamUnit
   pub escape : Escape
 
 -- units by their list and the escapes after them
-abbrev pub units : List Given → Escape → Units
+abbrev pub units : List StreamUnit → Escape → Units
 units us e = record { units = us; escape = e }
 
 -- 01: a pending byte is the next unit and is appended to the body
-abbrev pub pendingUnits : Pending → List Given
+abbrev pub pendingUnits : Pending → List StreamUnit
 pendingUnits None = []
-pendingUnits (Byte u) = given u true ∷ []
+pendingUnits (Byte u) = streamUnit u true ∷ []
 
 -- the unit that a byte gives, if it gives one
-abbrev pub byteUnits : Unit → List Given
+abbrev pub byteUnits : Unit → List StreamUnit
 byteUnits Nothing = []
-byteUnits (Bare u) = given u false ∷ []
-byteUnits (Appended u) = given u true ∷ []
+byteUnits (Bare u) = streamUnit u false ∷ []
+byteUnits (Appended u) = streamUnit u true ∷ []
 
 -- the escapes once the pending byte is a unit
 abbrev pub settled : Escape → Escape
@@ -66,14 +66,14 @@ UnitsByStep = (e : Escape) (bytes : List ℕ) (n : ℕ) →
     let rest = unitsOf (d .escape) (drop (d .at) bytes) in
     units (byteUnits (d .unit) ++ rest .units) (rest .escape))
 
--- 1 for a byte that waits
-abbrev pub waiting : Pending → ℕ
-waiting None = 0
-waiting (Byte u) = 1
+-- 1 for a pending byte
+abbrev pub pendingCount : Pending → ℕ
+pendingCount None = 0
+pendingCount (Byte u) = 1
 
 -- how many units the escapes may still give without a byte of their own: 1 if escaped, 1 if a byte is pending
 abbrev pub weight : Escape → ℕ
-weight e = (if (e .escaped) 1 0) + waiting (e .pending)
+weight e = (if (e .escaped) 1 0) + pendingCount (e .pending)
 
 -- ---- units through every answer
 
@@ -83,10 +83,10 @@ withEscape e x = record { control = control e (x .control .node) (x .control .to
 
 module _ {M : Type 0} (h : ℤ → Answer → List ℕ → M → M) where
   -- one unit for the token in progress; the escapes stay
-  abbrev pub unitTaken : Fed M → Given → Fed M
-  unitTaken x g = heed h (joined (x .control .escape) (unitOf (x .control .node) (x .control .token) (x .store) (g .unit) (g .appended))) (x .memo)
+  abbrev pub unitTaken : Fed M → StreamUnit → Fed M
+  unitTaken x g = handle h (afterUnit (x .control .escape) (unitOf (x .control .node) (x .control .token) (x .store) (g .unit) (g .appended))) (x .memo)
 
   -- units one after the other
-  unfoldable pub unitsTaken : Fed M → List Given → Fed M
+  unfoldable pub unitsTaken : Fed M → List StreamUnit → Fed M
   unitsTaken x [] = x
   unitsTaken x (g ∷ gs) = unitsTaken (unitTaken x g) gs

@@ -25,16 +25,16 @@ pub record Laid (s : List ℕ) (at : ℕ) (d e : List ℕ) (r : ℕ) : Type 0 wh
   pub next : r ≡ at + length s
 
 -- what a call leaves: its answer and the output
-pub record Wrote : Type 0 where
+pub record WriteEffect : Type 0 where
   pub answer : Written
   pub out : List ℕ
 
 -- an answer and the output
-abbrev pub wrote : Written → List ℕ → Wrote
-wrote answer out = record { answer = answer; out = out }
+abbrev pub writeEffect : Written → List ℕ → WriteEffect
+writeEffect answer out = record { answer = answer; out = out }
 
 -- 01: output too short for the whole is 9, as it was; bytes past what is written are not altered
-unfoldable pub writeOf : List ℕ → List ℕ → Wrote
+unfoldable pub writeOf : List ℕ → List ℕ → WriteEffect
 writeOf bytes out =
-    if (ltb (length out) (length bytes)) (wrote (Refused 9) out)
-    (wrote (Bytes (length bytes)) (bytes ++ drop (length bytes) out))
+    if (ltb (length out) (length bytes)) (writeEffect (Refused 9) out)
+    (writeEffect (Bytes (length bytes)) (bytes ++ drop (length bytes) out))

@@ -1,7 +1,7 @@
 // The escapes: bytes into units, one at a time (libwing's decode_next).
 ghost use mathlib.Core.Path.{_≡_};
 ghost use Rattle.wing_wire.specs.State.{escape};
-ghost use Rattle.wing_wire.specs.Escape.{ended, otherOf, escapedOf, plainOf, decodeOf, decodeNextOf};
+ghost use Rattle.wing_wire.specs.Escape.{decoded, ended, otherOf, escapedOf, plainOf, decodeOf, decodeNextOf};
 use crate::state::Escape;
 use crate::state::Pending;
 
@@ -60,21 +60,25 @@ fn other(e: Escape, b: u8) -> Decoded
     }
 }
 
+fn decoded_of(e: Escape, unit: Unit) -> Decoded
+    ensures { λ r. ⌜ r ≡ decoded e unit ⌝ }
+{
+    Decoded {
+        escape: e,
+        unit: unit,
+    }
+}
+
 fn decode_escaped(e: Escape, b: u8) -> Decoded
     ensures { λ r. ⌜ r ≡ escapedOf e b ⌝ }
 {
+    // 01: df df is still escaped; anything else ends escaped.
+    let ended = end_escape(e);
     if b == 0xdf {
-        return Decoded {
-            escape: e,
-            unit: Unit::Bare(0xdf),
-        };
+        return decoded_of(e, Unit::Bare(0xdf));
     }
     if b == 0xde {
-        let after = end_escape(e);
-        return Decoded {
-            escape: after,
-            unit: Unit::Appended(0xdf),
-        };
+        return decoded_of(ended, Unit::Appended(0xdf));
     }
     if b < 0xd0 {
         return other(e, b);
@@ -82,10 +86,7 @@ fn decode_escaped(e: Escape, b: u8) -> Decoded
     if b < 0xde {
         let pending = e.pending;
         let after = escape_of(false, (b - 0xd0) as i8, pending);
-        return Decoded {
-            escape: after,
-            unit: Unit::Nothing,
-        };
+        return decoded_of(after, Unit::Nothing);
     }
     other(e, b)
 }

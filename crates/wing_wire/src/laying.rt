@@ -6,7 +6,7 @@ ghost use mathlib.Core.List.{_∷_, []};
 ghost use Prim.Native.Nat.{_+_, _*_, _≤_};
 ghost use lib.ListN.{length, take};
 ghost use Rattle.wing_node.specs.Signed.{unsigned};
-ghost use Rattle.wing_wire.specs.Write.{escaped, field, Laid, wrote, writeOf};
+ghost use Rattle.wing_wire.specs.Write.{escaped, field, Laid, writeEffect, writeOf};
 use crate::reader::copy_front;
 use crate::write::Written;
 use wing_node::field::bytes_16;
@@ -81,9 +81,10 @@ pub(crate) fn lay_id(out: &mut [u8], prefix: u8, id: i32) -> usize
 // The first n bytes laid, to the front of out. 01: output too short for the whole is 9, as it was.
 pub(crate) fn hand_over(out: &mut [u8], laid: &[u8], n: usize) -> Written
     requires { ⌜ n ≤ length (now laid) ⌝ }
-    ensures { λ r. ⌜ wrote r (now (out .exit)) ≡ writeOf (take n (now (laid .entry))) (now (out .entry)) ⌝ }
+    ensures { λ r. ⌜ writeEffect r (now (out .exit)) ≡ writeOf (take n (now (laid .entry))) (now (out .entry)) ⌝ }
 {
-    if out.len() < n {
+    let room = out.len();
+    if room < n {
         return Written::Refused(9);
     }
     copy_front(out, laid, n);

@@ -13,7 +13,7 @@ pub struct LentReply {
     pub answer: Answer,
     pub taken: usize,
     pub string: [u8; 256],
-    pub body: [u8; 4096],
+    pub body: [u8; State::BODY_LIMIT],
 }
 
 // The walk stores the one field back and returns the other.
@@ -23,7 +23,7 @@ pub struct Parted {
 }
 
 // next with its reply parted from the state, as the lent form stores them apart.
-pub fn next_parted(s: State, bytes: &[u8]) -> Parted
+fn next_parted(s: State, bytes: &[u8]) -> Parted
     ensures { λ r. ⌜ (wholeReply (r .reply) (r .state) ≡ nextOf s (now (bytes .entry))) × (eventIn (wholeReply (r .reply) (r .state)) ≡ nextEvent s (now (bytes .entry))) ⌝ }
 {
     let r = reader::next(s, bytes);
@@ -52,7 +52,7 @@ pub fn next_lent(s: &mut State, bytes: &[u8]) -> LentReply
     r.reply
 }
 
-// next_lent for callers that keep the state by value, as the borrow checker covers no caller that lends a struct.
+// Test support: next_lent for programs that cannot lend a struct, since the borrow checker covers none that does. It lends a local.
 pub fn next_over(s: State, bytes: &[u8]) -> Parted
     ensures { λ r. ⌜ (wholeReply (r .reply) (r .state) ≡ nextOf s (now (bytes .entry))) × (eventIn (wholeReply (r .reply) (r .state)) ≡ nextEvent s (now (bytes .entry))) ⌝ }
 {

@@ -5,8 +5,8 @@ ghost use Prim.Native.Nat.{_+_, _*_, _≤_};
 ghost use lib.ListN.{length, take, drop, getD};
 ghost use Rattle.wing_node.specs.Field.{big, fieldAt};
 ghost use Rattle.wing_node.specs.Signed.{signed};
-ghost use Rattle.wing_wire.specs.Write.{Laid, wrote, writeOf};
-ghost use Rattle.wing_wire.specs.Meter.{itemOf, itemBytes, metersBytes, requestHead, meterRequest, asked, requestMeter, keepAlive, keepAlives, readings, heard, packetOf};
+ghost use Rattle.wing_wire.specs.Write.{Laid, writeEffect, writeOf};
+ghost use Rattle.wing_wire.specs.Meter.{itemOf, itemBytes, metersBytes, requestHead, meterRequest, requestEffect, requestMeter, keepAlive, keepAlives, readings, packetEffect, packetOf};
 use crate::laying::hand_over;
 use crate::laying::lay;
 use crate::laying::lay_8;
@@ -143,7 +143,7 @@ pub fn request_meter(
     port: u16,
     last_id: u16,
 ) -> Requested
-    ensures { λ r. ⌜ asked r (now (out .exit)) ≡ requestMeter port «last_id» meters count (now (out .entry)) ⌝ }
+    ensures { λ r. ⌜ requestEffect r (now (out .exit)) ≡ requestMeter port «last_id» meters count (now (out .entry)) ⌝ }
 {
     if 64 < count {
         return Requested::Refused(11);
@@ -210,7 +210,7 @@ fn lay_keep_alives(out: &mut [u8], last_id: u16, port: u16) -> usize
 
 // 01: for ids from last to 1; with no id nothing is written. No keep-alive is longer than 13 bytes.
 pub fn keep_alive_meters(out: &mut [u8], last_id: u16, port: u16) -> Written
-    ensures { λ r. ⌜ wrote r (now (out .exit)) ≡ writeOf (keepAlives port «last_id») (now (out .entry)) ⌝ }
+    ensures { λ r. ⌜ writeEffect r (now (out .exit)) ≡ writeOf (keepAlives port «last_id») (now (out .entry)) ⌝ }
 {
     if out.len() < 13 * (last_id as usize) {
         if out.len() < keep_alives_len(last_id, port) {
@@ -253,7 +253,7 @@ fn fill_readings(packet: &[u8], out: &mut [i16], count: usize)
 
 // 01: packet outside 4 to 8,192 bytes is 13, then 9. An odd last byte is dropped.
 pub fn read_meters(packet: &[u8], out: &mut [i16]) -> MetersRead
-    ensures { λ r. ⌜ heard r (now (out .exit)) ≡ packetOf (now (packet .entry)) (now (out .entry)) ⌝ }
+    ensures { λ r. ⌜ packetEffect r (now (out .exit)) ≡ packetOf (now (packet .entry)) (now (out .entry)) ⌝ }
 {
     if packet.len() < 4 {
         return MetersRead::Refused(13);

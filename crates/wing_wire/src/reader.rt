@@ -2,6 +2,7 @@
 ghost use mathlib.Core.Path.{_≡_};
 ghost use Prim.Native.Nat.{min};
 ghost use lib.ListN.{take};
+ghost use Rattle.wing_wire.specs.State.{bodyLimit};
 ghost use Rattle.wing_wire.specs.Stream.{advanceOf};
 ghost use Rattle.wing_wire.specs.Reader.{over, filled, stringBeside, bodyBeside, nextFrom, refusedNext, nextOf, eventIn, nextEvent};
 use crate::state::State;
@@ -17,7 +18,7 @@ pub struct Reply {
     pub taken: usize,
     pub state: State,
     pub string: [u8; 256],
-    pub body: [u8; 4096],
+    pub body: [u8; State::BODY_LIMIT],
 }
 
 fn least(a: usize, b: usize) -> usize
@@ -46,10 +47,10 @@ fn string_front(store: &[u8], n: u16) -> [u8; 256]
     out
 }
 
-fn body_front(store: &[u8], n: u16) -> [u8; 4096]
-    ensures { λ r. ⌜ r ≡ filled 4096 (take n (now (store .entry))) ⌝ }
+fn body_front(store: &[u8], n: u16) -> [u8; State::BODY_LIMIT]
+    ensures { λ r. ⌜ r ≡ filled bodyLimit (take n (now (store .entry))) ⌝ }
 {
-    let mut out = [0u8; 4096];
+    let mut out = [0u8; State::BODY_LIMIT];
     copy_front(&mut out, store, n as usize);
     out
 }
@@ -68,17 +69,17 @@ fn string_beside(a: Answer, store: &[u8]) -> [u8; 256]
     }
 }
 
-fn body_beside(a: Answer, store: &[u8]) -> [u8; 4096]
+fn body_beside(a: Answer, store: &[u8]) -> [u8; State::BODY_LIMIT]
     ensures { λ r. ⌜ r ≡ bodyBeside a (now (store .entry)) ⌝ }
 {
     match a {
-        Answer::More => [0u8; 4096],
-        Answer::Integer(_) => [0u8; 4096],
-        Answer::Float(_) => [0u8; 4096],
-        Answer::String(_) => [0u8; 4096],
+        Answer::More => [0u8; State::BODY_LIMIT],
+        Answer::Integer(_) => [0u8; State::BODY_LIMIT],
+        Answer::Float(_) => [0u8; State::BODY_LIMIT],
+        Answer::String(_) => [0u8; State::BODY_LIMIT],
         Answer::Body(n) => body_front(store, n),
-        Answer::End => [0u8; 4096],
-        Answer::Refused(_) => [0u8; 4096],
+        Answer::End => [0u8; State::BODY_LIMIT],
+        Answer::Refused(_) => [0u8; State::BODY_LIMIT],
     }
 }
 
@@ -91,7 +92,7 @@ fn refuse(s: State, why: u8) -> Reply
         taken: 0,
         state: s,
         string: [0u8; 256],
-        body: [0u8; 4096],
+        body: [0u8; State::BODY_LIMIT],
     }
 }
 

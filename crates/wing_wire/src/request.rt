@@ -1,6 +1,6 @@
 // Requests for a node's definition and data.
 ghost use mathlib.Core.Path.{_≡_};
-ghost use Rattle.wing_wire.specs.Write.{Laid, wrote, writeOf};
+ghost use Rattle.wing_wire.specs.Write.{Laid, writeEffect, writeOf};
 ghost use Rattle.wing_wire.specs.Command.{requestBytes};
 use crate::laying::hand_over;
 use crate::laying::lay;
@@ -19,8 +19,8 @@ fn lay_request(out: &mut [u8], what: u8, id: i32) -> usize
     lay(out, at, what)
 }
 
-fn ask(out: &mut [u8], what: u8, id: i32) -> Written
-    ensures { λ r. ⌜ wrote r (now (out .exit)) ≡ writeOf (requestBytes what id) (now (out .entry)) ⌝ }
+fn write_request(out: &mut [u8], what: u8, id: i32) -> Written
+    ensures { λ r. ⌜ writeEffect r (now (out .exit)) ≡ writeOf (requestBytes what id) (now (out .entry)) ⌝ }
 {
     if 10 <= out.len() {
         return Written::Bytes(lay_request(out, what, id));
@@ -32,14 +32,14 @@ fn ask(out: &mut [u8], what: u8, id: i32) -> Written
 
 // 01: definition request: da dd for id 0, else d7 id dd. 9.
 pub fn request_node_definition(out: &mut [u8], id: i32) -> Written
-    ensures { λ r. ⌜ wrote r (now (out .exit)) ≡ writeOf (requestBytes 0xdd id) (now (out .entry)) ⌝ }
+    ensures { λ r. ⌜ writeEffect r (now (out .exit)) ≡ writeOf (requestBytes 0xdd id) (now (out .entry)) ⌝ }
 {
-    ask(out, 0xdd, id)
+    write_request(out, 0xdd, id)
 }
 
 // 01: data request: dc for dd. 9.
 pub fn request_node_data(out: &mut [u8], id: i32) -> Written
-    ensures { λ r. ⌜ wrote r (now (out .exit)) ≡ writeOf (requestBytes 0xdc id) (now (out .entry)) ⌝ }
+    ensures { λ r. ⌜ writeEffect r (now (out .exit)) ≡ writeOf (requestBytes 0xdc id) (now (out .entry)) ⌝ }
 {
-    ask(out, 0xdc, id)
+    write_request(out, 0xdc, id)
 }

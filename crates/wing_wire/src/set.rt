@@ -6,7 +6,7 @@ ghost use mathlib.Core.Path.{_≡_};
 ghost use Prim.Native.Nat.{_+_, _≤_};
 ghost use lib.ListN.{length};
 ghost use Rattle.wing_node.specs.Value.{integer, float, string};
-ghost use Rattle.wing_wire.specs.Write.{Laid, wrote, writeOf};
+ghost use Rattle.wing_wire.specs.Write.{Laid, writeEffect, writeOf};
 ghost use Rattle.wing_wire.specs.Command.{from_to_, integerBytes, lengthBytes, idBytes, suffixBytes, setBytes, setString};
 use crate::laying::hand_over;
 use crate::laying::lay;
@@ -38,7 +38,7 @@ fn lay_format(out: &mut [u8], id: i32, prefix: u8, suffix: Suffix) -> usize
 
 // A prefix, an id and a suffix; only the id is escaped.
 pub fn format_id(out: &mut [u8], id: i32, prefix: u8, suffix: Suffix) -> Written
-    ensures { λ r. ⌜ wrote r (now (out .exit)) ≡ writeOf (idBytes prefix id (suffixBytes suffix)) (now (out .entry)) ⌝ }
+    ensures { λ r. ⌜ writeEffect r (now (out .exit)) ≡ writeOf (idBytes prefix id (suffixBytes suffix)) (now (out .entry)) ⌝ }
 {
     if 10 <= out.len() {
         return Written::Bytes(lay_format(out, id, prefix, suffix));
@@ -83,7 +83,7 @@ fn lay_set_int(out: &mut [u8], id: i32, value: i32) -> usize
 
 // 01: set: d7, id, value: an integer. 9.
 pub fn set_int(out: &mut [u8], id: i32, value: i32) -> Written
-    ensures { λ r. ⌜ wrote r (now (out .exit)) ≡ writeOf (setBytes id (integer value)) (now (out .entry)) ⌝ }
+    ensures { λ r. ⌜ writeEffect r (now (out .exit)) ≡ writeOf (setBytes id (integer value)) (now (out .entry)) ⌝ }
 {
     if 18 <= out.len() {
         return Written::Bytes(lay_set_int(out, id, value));
@@ -103,7 +103,7 @@ fn lay_set_float(out: &mut [u8], id: i32, bits: u32) -> usize
 
 // The same for a float, by its 32 bits.
 pub fn set_float(out: &mut [u8], id: i32, bits: u32) -> Written
-    ensures { λ r. ⌜ wrote r (now (out .exit)) ≡ writeOf (setBytes id (float bits)) (now (out .entry)) ⌝ }
+    ensures { λ r. ⌜ writeEffect r (now (out .exit)) ≡ writeOf (setBytes id (float bits)) (now (out .entry)) ⌝ }
 {
     if 18 <= out.len() {
         return Written::Bytes(lay_set_float(out, id, bits));
@@ -140,7 +140,7 @@ fn lay_set_string(out: &mut [u8], id: i32, value: &[u8]) -> usize
 
 // 01: a string over 256 bytes is 10, then one that is not UTF-8 is 1, then 9.
 pub fn set_string(out: &mut [u8], id: i32, value: &[u8]) -> Written
-    ensures { λ r. ⌜ wrote r (now (out .exit)) ≡ setString id (now (value .entry)) (now (out .entry)) ⌝ }
+    ensures { λ r. ⌜ writeEffect r (now (out .exit)) ≡ setString id (now (value .entry)) (now (out .entry)) ⌝ }
 {
     if 256 < value.len() {
         return Written::Refused(10);

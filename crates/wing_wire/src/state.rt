@@ -40,7 +40,7 @@ pub struct Control {
 
 pub struct State {
     pub control: Control,
-    pub store: [u8; 4096],
+    pub store: [u8; State::BODY_LIMIT],
 }
 
 impl Control {
@@ -154,7 +154,7 @@ fn sound_body(want: u16, left: u16, stored: u16) -> bool
     ensures { λ r. ⌜ r ≡ soundBody want left stored ⌝ }
 {
     if is_underway(left, want) {
-        if want <= 4096 {
+        if want as usize <= State::BODY_LIMIT {
             return stored <= want - left;
         }
         return stored == 0;
@@ -173,18 +173,19 @@ fn sound_counts(token: Token) -> bool
     }
 }
 
-// The units collected; 0 where more are left than wanted, which no sound token has.
-fn collected(want: u16, left: u16) -> u16
+// The units collected: none where more are left than wanted, which no sound token has.
+pub(crate) fn collected(want: u16, left: u16) -> usize
     ensures { λ r. ⌜ r ≡ want - left ⌝ }
 {
     if left < want {
-        return want - left;
+        (want - left) as usize
+    } else {
+        0
     }
-    0
 }
 
 // A string keeps every unit, so what it stores is what it collected.
-fn stored_by(token: Token) -> u16
+fn stored_by(token: Token) -> usize
     ensures { λ r. ⌜ r ≡ storedBy token ⌝ }
 {
     match token {
@@ -199,7 +200,7 @@ fn stored_by(token: Token) -> u16
             want: _,
             left: _,
             stored,
-        } => stored,
+        } => stored as usize,
     }
 }
 
@@ -208,20 +209,20 @@ fn stored_by(token: Token) -> u16
 pub fn zeros_from(store: &[u8], at: usize) -> bool
     ensures { λ r. ⌜ r ≡ zeros (drop at (now (store .entry))) ⌝ }
 {
-    let mut joined: u8 = 0;
+    let mut bits: u8 = 0;
     let mut i = at;
     while i < store.len() {
-        joined |= store[i];
+        bits |= store[i];
         i += 1;
     }
-    joined == 0
+    bits == 0
 }
 
 fn sound_token(token: Token, store: &[u8]) -> bool
     ensures { λ r. ⌜ r ≡ soundToken token (now (store .entry)) ⌝ }
 {
     if sound_counts(token) {
-        return zeros_from(store, stored_by(token) as usize);
+        return zeros_from(store, stored_by(token));
     }
     false
 }

@@ -2,25 +2,25 @@
 ghost use mathlib.Core.Path.{_≡_};
 ghost use Rattle.wing_wire.specs.State.{control};
 ghost use lib.ListN.{drop};
-ghost use Rattle.wing_wire.specs.Stream.{told, heard, isMore, givenOf, advanceOf, run, released};
-ghost use Rattle.wing_wire.specs.Plain.{isWaiting, isNothing, isAppended, valueOf, isInner, numberAhead, gone, stringAhead, tokenAhead, isPlain, isFree, stepped, aheadOf, onceOf, isOn};
+ghost use Rattle.wing_wire.specs.Stream.{answered, stepEffect, isMore, givenOf, advanceOf, run, released};
+ghost use Rattle.wing_wire.specs.Plain.{isPending, isNothing, isAppended, valueOf, isInner, numberAhead, aheadEffect, stringAhead, tokenAhead, isPlain, isFree, stepped, aheadOf, onceOf, isOn};
 use crate::escape::Unit;
 use crate::escape::decode_next;
 use crate::state::Control;
 use crate::state::Escape;
 use crate::state::Pending;
 use crate::state::Token;
+use crate::state::collected;
 use crate::token::Class;
 use crate::unit::Answer;
 use crate::unit::Taken;
 use crate::unit::clear;
-use crate::unit::collected;
 use crate::unit::put;
 use crate::unit::shift_in;
 use crate::unit::take_unit;
 
 // An answer, with the control after it.
-pub struct Told {
+pub struct Answered {
     pub answer: Answer,
     pub control: Control,
 }
@@ -43,13 +43,13 @@ fn control_of(e: Escape, node: i32, token: Token) -> Control
 }
 
 // What a unit gave, with the escapes as they now are.
-fn join(e: Escape, t: Taken) -> Told
-    ensures { λ r. ⌜ r ≡ told (t .answer) (control e (t .node) (t .token)) ⌝ }
+fn after_unit(e: Escape, t: Taken) -> Answered
+    ensures { λ r. ⌜ r ≡ answered (t .answer) (control e (t .node) (t .token)) ⌝ }
 {
     let answer = t.answer;
     let token = t.token;
     let c = control_of(e, t.node, token);
-    Told {
+    Answered {
         answer: answer,
         control: c,
     }
@@ -71,19 +71,19 @@ pub fn is_more(a: Answer) -> bool
 }
 
 // The token after a run of plain bytes, and the place of the byte after them.
-pub struct Inside {
+pub struct TokenAt {
     pub token: Token,
     pub at: usize,
 }
 
-// What was told, and the place of the byte after it.
+// An answer with the control after it, and the place of the byte after it.
 pub struct Stepped {
-    pub told: Told,
+    pub answered: Answered,
     pub at: usize,
 }
 
-fn is_waiting(p: Pending) -> bool
-    ensures { λ r. ⌜ r ≡ isWaiting p ⌝ }
+fn is_pending(p: Pending) -> bool
+    ensures { λ r. ⌜ r ≡ isPending p ⌝ }
 {
     match p {
         Pending::None => false,
@@ -122,19 +122,19 @@ fn value_of(u: Unit) -> u8
 }
 
 // What a unit makes of the control. take_unit is called here alone, so that it becomes part of the loop.
-fn take(c: Control, store: &mut [u8], after: Escape, unit: Unit) -> Told
-    ensures { λ r. ⌜ heard r (now (store .exit)) ≡ givenOf unit after c (now (store .entry)) ⌝ }
+fn take(c: Control, store: &mut [u8], after: Escape, unit: Unit) -> Answered
+    ensures { λ r. ⌜ stepEffect r (now (store .exit)) ≡ givenOf unit after c (now (store .entry)) ⌝ }
 {
     let token = c.token;
     if is_nothing(unit) {
         let same = control_of(after, c.node, token);
-        return Told {
+        return Answered {
             answer: Answer::More,
             control: same,
         };
     }
     let t = take_unit(c.node, token, store, value_of(unit), is_appended(unit));
-    join(after, t)
+    after_unit(after, t)
 }
 
 // Whether a plain byte is a unit of its token but not the last.
@@ -148,7 +148,7 @@ fn is_inner(left: u16, b: u8) -> bool
 }
 
 // The units of a number up to its last, from plain bytes: these change nothing else, so they go fast.
-fn number_ahead(class: Class, left: u16, value: u32, bytes: &[u8], at: usize) -> Inside
+fn number_ahead(class: Class, left: u16, value: u32, bytes: &[u8], at: usize) -> TokenAt
     ensures { λ r. ⌜ r ≡ numberAhead class left value at (drop at (now (bytes .entry))) ⌝ }
 {
     let mut l = left;
@@ -163,7 +163,7 @@ fn number_ahead(class: Class, left: u16, value: u32, bytes: &[u8], at: usize) ->
             break;
         }
     }
-    Inside {
+    TokenAt {
         token: Token::Number {
             class: class,
             left: l,
@@ -174,8 +174,8 @@ fn number_ahead(class: Class, left: u16, value: u32, bytes: &[u8], at: usize) ->
 }
 
 // The inner units of a string, which are stored as they come.
-fn string_ahead(want: u16, left: u16, store: &mut [u8], bytes: &[u8], at: usize) -> Inside
-    ensures { λ r. ⌜ gone r (now (store .exit)) ≡ stringAhead want left (now (store .entry)) at (drop at (now (bytes .entry))) ⌝ }
+fn string_ahead(want: u16, left: u16, store: &mut [u8], bytes: &[u8], at: usize) -> TokenAt
+    ensures { λ r. ⌜ aheadEffect r (now (store .exit)) ≡ stringAhead want left (now (store .entry)) at (drop at (now (bytes .entry))) ⌝ }
 {
     let mut l = left;
     let mut i = at;
@@ -188,7 +188,7 @@ fn string_ahead(want: u16, left: u16, store: &mut [u8], bytes: &[u8], at: usize)
             break;
         }
     }
-    Inside {
+    TokenAt {
         token: Token::String {
             want: want,
             left: l,
@@ -197,11 +197,11 @@ fn string_ahead(want: u16, left: u16, store: &mut [u8], bytes: &[u8], at: usize)
     }
 }
 
-fn token_ahead(token: Token, store: &mut [u8], bytes: &[u8], at: usize) -> Inside
-    ensures { λ r. ⌜ gone r (now (store .exit)) ≡ tokenAhead token (now (store .entry)) at (drop at (now (bytes .entry))) ⌝ }
+fn token_ahead(token: Token, store: &mut [u8], bytes: &[u8], at: usize) -> TokenAt
+    ensures { λ r. ⌜ aheadEffect r (now (store .exit)) ≡ tokenAhead token (now (store .entry)) at (drop at (now (bytes .entry))) ⌝ }
 {
     match token {
-        Token::Between => Inside {
+        Token::Between => TokenAt {
             token: token,
             at: at,
         },
@@ -211,7 +211,7 @@ fn token_ahead(token: Token, store: &mut [u8], bytes: &[u8], at: usize) -> Insid
             want: _,
             left: _,
             stored: _,
-        } => Inside {
+        } => TokenAt {
             token: token,
             at: at,
         },
@@ -226,11 +226,11 @@ fn is_plain(e: Escape) -> bool
         return false;
     }
     let pending = e.pending;
-    !is_waiting(pending)
+    !is_pending(pending)
 }
 
-// Nothing told yet, and the next byte is plain or df.
-fn is_free(t: Told) -> bool
+// No answer yet, and the next byte is plain or df.
+fn is_free(t: Answered) -> bool
     ensures { λ r. ⌜ r ≡ isFree t ⌝ }
 {
     let a = t.answer;
@@ -250,11 +250,14 @@ fn ahead(c: Control, store: &mut [u8], bytes: &[u8], at: usize) -> Stepped
     let g = token_ahead(token, store, bytes, at);
     let after = g.token;
     let d = control_of(e, c.node, after);
-    let t = Told {
+    let t = Answered {
         answer: Answer::More,
         control: d,
     };
-    Stepped { told: t, at: g.at }
+    Stepped {
+        answered: t,
+        at: g.at,
+    }
 }
 
 // One unit, and after it the plain bytes that go fast.
@@ -270,11 +273,14 @@ fn step(c: Control, store: &mut [u8], bytes: &[u8], at: usize) -> Stepped
         let d = t.control;
         return ahead(d, store, bytes, g.at);
     }
-    Stepped { told: t, at: g.at }
+    Stepped {
+        answered: t,
+        at: g.at,
+    }
 }
 
-// Nothing told yet, and a byte is left or pending.
-fn is_on(t: Told, at: usize, end: usize) -> bool
+// No answer yet, and a byte is left or pending.
+fn is_on(t: Answered, at: usize, end: usize) -> bool
     ensures { λ r. ⌜ r ≡ isOn t at end ⌝ }
 {
     let a = t.answer;
@@ -285,7 +291,7 @@ fn is_on(t: Told, at: usize, end: usize) -> bool
         let c = t.control;
         let e = c.escape;
         let pending = e.pending;
-        return is_waiting(pending);
+        return is_pending(pending);
     }
     false
 }
@@ -294,7 +300,7 @@ fn is_on(t: Told, at: usize, end: usize) -> bool
 pub fn advance(c: Control, store: &mut [u8], bytes: &[u8]) -> Advanced
     ensures { λ r. ⌜ run r (now (store .exit)) ≡ advanceOf c (now (store .entry)) (now (bytes .entry)) ⌝ }
 {
-    let mut t = Told {
+    let mut t = Answered {
         answer: Answer::More,
         control: c,
     };
@@ -302,7 +308,7 @@ pub fn advance(c: Control, store: &mut [u8], bytes: &[u8]) -> Advanced
     while is_on(t, i, bytes.len()) {
         let d = t.control;
         let g = step(d, store, bytes, i);
-        t = g.told;
+        t = g.answered;
         i = g.at;
     }
     let a = t.answer;

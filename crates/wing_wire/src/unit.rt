@@ -3,8 +3,10 @@ ghost use mathlib.Core.Path.{_≡_};
 ghost use Prim.Native.Nat.{_-_};
 ghost use lib.ListN.{set, take};
 ghost use Rattle.wing_node.specs.Utf8.{utf8};
-ghost use Rattle.wing_wire.specs.Unit.{taken, singleOf, isString, tokenOf, beginOf, countOf, numberOf, shiftIn, numberUnit, out, cleared, stringDone, stringUnit, keeps, bodyDone, bodyNext, bodyUnit, unitOf};
+ghost use Rattle.wing_wire.specs.Unit.{taken, singleOf, isString, tokenOf, beginOf, countOf, numberOf, shiftIn, numberUnit, unitEffect, cleared, stringDone, stringUnit, keeps, bodyDone, bodyNext, bodyUnit, unitOf};
+use crate::state::State;
 use crate::state::Token;
+use crate::state::collected;
 use crate::token::Class;
 use crate::token::first_rule;
 use wing_node::field::to_i16;
@@ -213,7 +215,7 @@ fn front_is_utf8(store: &[u8], n: usize) -> bool
 }
 
 fn string_done(node: i32, want: u16, store: &mut [u8]) -> Taken
-    ensures { λ r. ⌜ out r (now (store .exit)) ≡ stringDone node want (now (store .entry)) ⌝ }
+    ensures { λ r. ⌜ unitEffect r (now (store .exit)) ≡ stringDone node want (now (store .entry)) ⌝ }
 {
     let n = want as usize;
     if front_is_utf8(store, n) {
@@ -223,19 +225,8 @@ fn string_done(node: i32, want: u16, store: &mut [u8]) -> Taken
     taken_of(Answer::Refused(1), node, Token::Between)
 }
 
-// The units collected: none where more are left than wanted, which no sound state has.
-pub(crate) fn collected(want: u16, left: u16) -> usize
-    ensures { λ r. ⌜ r ≡ want - left ⌝ }
-{
-    if left < want {
-        (want - left) as usize
-    } else {
-        0
-    }
-}
-
 fn string_unit(node: i32, want: u16, left: u16, store: &mut [u8], u: u8) -> Taken
-    ensures { λ r. ⌜ out r (now (store .exit)) ≡ stringUnit node want left (now (store .entry)) u ⌝ }
+    ensures { λ r. ⌜ unitEffect r (now (store .exit)) ≡ stringUnit node want left (now (store .entry)) u ⌝ }
 {
     put(store, collected(want, left), u);
     if left <= 1 {
@@ -256,8 +247,8 @@ fn is_kept(want: u16, stored: u16, appended: bool) -> bool
     ensures { λ r. ⌜ r ≡ keeps want stored appended ⌝ }
 {
     if appended {
-        if want <= 4096 {
-            return stored < 4096;
+        if want as usize <= State::BODY_LIMIT {
+            return (stored as usize) < State::BODY_LIMIT;
         }
     }
     false
@@ -266,7 +257,7 @@ fn is_kept(want: u16, stored: u16, appended: bool) -> bool
 fn body_done(node: i32, want: u16, stored: u16) -> Taken
     ensures { λ r. ⌜ r ≡ bodyDone node want stored ⌝ }
 {
-    if want <= 4096 {
+    if want as usize <= State::BODY_LIMIT {
         return taken_of(Answer::Body(stored), node, Token::Between);
     }
     taken_of(Answer::Refused(2), node, Token::Between)
@@ -298,7 +289,7 @@ fn body_unit(
     u: u8,
     appended: bool,
 ) -> Taken
-    ensures { λ r. ⌜ out r (now (store .exit)) ≡ bodyUnit node want left stored (now (store .entry)) u appended ⌝ }
+    ensures { λ r. ⌜ unitEffect r (now (store .exit)) ≡ bodyUnit node want left stored (now (store .entry)) u appended ⌝ }
 {
     if is_kept(want, stored, appended) {
         put(store, stored as usize, u);
@@ -309,7 +300,7 @@ fn body_unit(
 
 // One unit. What a body's units append is in the store, as is every unit of a string.
 pub(crate) fn take_unit(node: i32, token: Token, store: &mut [u8], u: u8, appended: bool) -> Taken
-    ensures { λ r. ⌜ out r (now (store .exit)) ≡ unitOf node token (now (store .entry)) u appended ⌝ }
+    ensures { λ r. ⌜ unitEffect r (now (store .exit)) ≡ unitOf node token (now (store .entry)) u appended ⌝ }
 {
     match token {
         Token::Between => begin(node, u),

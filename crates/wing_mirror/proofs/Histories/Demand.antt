@@ -22,7 +22,7 @@ use Rattle.wing_mirror.proofs.Histories.Maps.{all-order, order-rising}
 use Rattle.wing_mirror.proofs.Records.Entries.{rows-valid, rows-back, rows-rise, rows-signed}
 use Rattle.wing_mirror.proofs.Histories.Rebuilt.{order-own, map-rebuilt}
 use Rattle.wing_mirror.proofs.Histories.Agrees.{map-valid, run-agrees, run-order, run-equal}
-use Rattle.wing_mirror.proofs.Histories.Asked.{comparing, recalling}
+use Rattle.wing_mirror.proofs.Histories.Answers.{comparing, recalling}
 use Rattle.wing_mirror.proofs.Histories.Bounds.{run-bounded}
 
 module _ {L : Layout} (laws : Lawful L) where

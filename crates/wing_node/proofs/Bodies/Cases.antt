@@ -2,13 +2,13 @@
 use mathlib.Core.Path.{_≡_, refl, _∙_, ap, sym}
 use mathlib.Core.Bool.{Bool, true, false}
 use mathlib.Core.List.{List, [], _∷_, _++_}
-use Prim.Native.Nat.{ℕ, suc, _+_, _-_, _*_, _≤_, _<_}
+use Prim.Native.Nat.{ℕ, suc, min, _+_, _-_, _*_, _≤_, _<_}
 use native.Mathlib.Omega.{arith}
 use native.Mathlib.Numerals.{add-one}
 use lib.Dec.{ltb, eqb}
 use lib.ListN.{length, take, drop, getD, length-drop}
 use lib.Seq.{drop-cons, getD-drop, drop-drop}
-use borrow.Author.Tests.{eq-eqb, ne-eqb, lt-ltb, le-ltb}
+use borrow.Author.Tests.{eq-eqb, ne-eqb, lt-ltb, le-ltb, ltb-true, ltb-false}
 use Rattle.wing_node.specs.Bool.{if}
 use Rattle.wing_node.specs.Utf8.{utf8}
 use Rattle.wing_node.specs.Cursor.{Field, number, string, size, content, right, fault, valueOf, begins, stopped, cursor, from, fieldRead, nothing, readAt}
@@ -44,14 +44,40 @@ module _ (body : List ℕ) (c : Cursor) (none : c .refused ≡ 0) where
   unfolding size
   string-short h = read-short string body c none (rw first-byte h)
 
-  module _ (fits : 1 + getD body (c .at) 0 ≤ length body - c .at) where
-    pub string-there : utf8 (take (getD body (c .at) 0) (drop (c .at + 1) body)) ≡ true →
-        readAt string body c ≡ fieldRead (getD body (c .at) 0) (c .at + 1) (cursor (c .at + 1 + getD body (c .at) 0) 0)
-    unfolding size right content valueOf begins
-    string-there u =
-        let e : c .at + (1 + getD body (c .at) 0) ≡ c .at + 1 + getD body (c .at) 0 = omega arith in
-        simp (read-there string body c none (rw first-byte fits) (rw (first-byte, drop-drop) u), first-byte, e)
+  -- e of the string's bytes are there, and u says whether these are UTF-8
+  module _ (some : 1 ≤ length body - c .at) (e : ℕ) (ee : e ≡ min (getD body (c .at) 0) (length body - c .at - 1))
+      (u : Bool) (eu : u ≡ utf8 (take e (drop (c .at + 1) body))) where
+    abbrev told : ℕ
+    told = if (ltb (length body - c .at - 1) (getD body (c .at) 0)) 4 (if u 0 5)
 
-    pub string-wrong : utf8 (take (getD body (c .at) 0) (drop (c .at + 1) body)) ≡ false → readAt string body c ≡ nothing (stopped c 5)
-    unfolding size right content
-    string-wrong u = read-wrong string body c none (rw first-byte fits) (rw (first-byte, drop-drop) u)
+    string-told : fault string (from body c) ≡ told
+    unfolding fault size right content
+    string-told = go (ltb (length body - c .at - 1) (getD body (c .at) 0)) refl
+      where
+        go : (t : Bool) → ltb (length body - c .at - 1) (getD body (c .at) 0) ≡ t → fault string (from body c) ≡ told
+        go true q =
+            let l : length body - c .at - 1 < getD body (c .at) 0 = ltb-true _ _ q in
+            let h : length body - c .at < 1 + getD body (c .at) 0 = omega arith in
+            rw (q, length-drop, first-byte, lt-ltb _ _ h)
+        go false q =
+            let l : getD body (c .at) 0 ≤ length body - c .at - 1 = ltb-false _ _ q in
+            let h : 1 + getD body (c .at) 0 ≤ length body - c .at = omega arith in
+            let k : e ≡ getD body (c .at) 0 = omega arith in
+            rw (q, eu, k, length-drop, first-byte, drop-drop, le-ltb _ _ h)
+
+    whole : told ≡ 0 → getD body (c .at) 0 ≤ length body - c .at - 1
+    whole = go (ltb (length body - c .at - 1) (getD body (c .at) 0)) refl
+      where
+        go : (t : Bool) → ltb (length body - c .at - 1) (getD body (c .at) 0) ≡ t → told ≡ 0 → getD body (c .at) 0 ≤ length body - c .at - 1
+        go true q z = absurd (let f : _≡_ {A = ℕ} 4 0 = rw q at z in omega arith)
+        go false q z = ltb-false _ _ q
+
+    pub string-refused : (why : ℕ) → why ≡ told → (why ≡ 0 → ⊥) → readAt string body c ≡ nothing (stopped c why)
+    unfolding readAt
+    string-refused why q h = simp (eq-eqb _ _ none, string-told, ← q, ne-eqb _ _ h)
+
+    pub string-good : told ≡ 0 → readAt string body c ≡ fieldRead (getD body (c .at) 0) (c .at + 1) (cursor (c .at + 1 + e) 0)
+    unfolding readAt size valueOf begins
+    string-good q =
+        let k : c .at + (1 + getD body (c .at) 0) ≡ c .at + 1 + e = omega (arith, whole q) in
+        simp (eq-eqb _ _ none, string-told, q, first-byte, k)

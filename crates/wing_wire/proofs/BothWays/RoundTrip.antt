@@ -1,15 +1,14 @@
 -- Demand 2: a set order that is read gives its node and value back.
-use Prim.Native.Nat.{ℕ, zero, suc, _+_, _-_, _*_, _%_, _^_, _≤_, _<_}
+use Prim.Native.Nat.{ℕ, suc, _+_, _-_, _%_, _^_, _≤_, _<_}
 use mathlib.Core.Bool.{Bool, true, false}
 use mathlib.Core.Path.{_≡_, refl, sym, _∙_, ap}
 use mathlib.Core.List.{List, [], _∷_, _++_, append-nil}
 use native.Mathlib.Omega.{arith}
 use lib.Dec.{eqb, leb}
 use lib.IntN.{ℤ, pos, negsuc, natAbs}
-use lib.Signed.{leZ}
-use lib.ListN.{length, take, drop, getD, replicate, length-append}
-use lib.Seq.{drop-append-seam, drop-length, sets, sets-eq, length-sets, take-at, take-all, take-suc, length-take-le}
-use borrow.Author.Tests.{eqb-true, eqb-false, leb-true, leb-false, lt-leb, le-leb, eq-eqb, ne-eqb}
+use lib.ListN.{length, take, getD}
+use lib.Seq.{drop-length, sets, length-sets, take-all, take-suc, length-take-le}
+use borrow.Author.Tests.{leb-true, lt-leb, le-leb, ne-eqb}
 use Rattle.wing_node.specs.Bool.{if}
 use Rattle.wing_node.specs.Digits.{digitsIn}
 use Rattle.wing_node.specs.Field.{bytesOf}
@@ -18,29 +17,28 @@ use Rattle.wing_node.specs.Utf8.{utf8}
 use Rattle.wing_node.specs.Value.{NodeValue, integer, float, string}
 use Rattle.wing_node.proofs.Characters.Grammar.{decides}
 use Rattle.wing_node.proofs.Numerals.Signs.{signed-unsigned}
+use Rattle.wing_node.proofs.Characters.Fronts.{if-both}
 use Rattle.wing_wire.specs.Write.{escaped, field}
 use Rattle.wing_wire.specs.Command.{from_to_, integerBytes, floatBytes, lengthBytes, stringBytes, valueBytes, idBytes, setBytes}
 use Rattle.wing_wire.specs.Token.{rule, ruleIn, ruleOf}
 use Rattle.wing_wire.specs.State.{escape, control, zeros, soundEscape, soundCounts, storedBy, soundToken, soundState}
-use Rattle.wing_wire.specs.Unit.{gives, singleOf, isString, tokenOf, numberOf, out, stringDone}
-use Rattle.wing_wire.specs.Stream.{told, Heard, heard, quiet, isMore, joined, settleOf, Run, runOf, advanceOf, released, Fed, fedFrom, feedOf}
-use Rattle.wing_wire.specs.Reader.{Event, value, eventOf, stringBeside, bodyBeside, nextOf, eventIn}
+use Rattle.wing_wire.specs.Unit.{singleOf, isString, tokenOf, numberOf, unitEffect, stringDone}
+use Rattle.wing_wire.specs.Stream.{answered, StepEffect, stepEffect, isMore, afterUnit, settleOf, Run, runOf, advanceOf, released, Fed, fedFrom, feedOf}
+use Rattle.wing_wire.specs.Reader.{Event, value, eventOf, nextOf}
 use Rattle.wing_wire.specs.Range.{Within}
-use Rattle.wing_wire.specs.RoundTrip.{Settable, calmState, Returned, RoundTrip, joint, feeds, fedCalm, RoundTripPieces}
+use Rattle.wing_wire.specs.RoundTrip.{Settable, RoundTrip, joint, feeds, fedRest, RoundTripPieces}
 use Rattle.wing_wire.specs.declared.token.Class.{Class}
 use Rattle.wing_wire.specs.declared.token.Class.the-variants.{Integer as anInteger, String as aString, Length, Int16, Int32, Float as aFloat, Node}
 use Rattle.wing_wire.specs.declared.state.Pending.the-variants.{None}
-use Rattle.wing_wire.specs.declared.state.Escape.{Escape}
-use Rattle.wing_wire.specs.declared.state.State.{State}
-use Rattle.wing_wire.specs.declared.state.Token.{Token}
-use Rattle.wing_wire.specs.declared.state.Token.the-variants.{Between, Number, String as InString}
+use Rattle.wing_wire.specs.declared.state.Token.the-variants.{Between, String as InString}
 use Rattle.wing_wire.specs.declared.unit.Answer.{Answer}
-use Rattle.wing_wire.specs.declared.unit.Answer.the-variants.{More, Integer, Float, String}
+use Rattle.wing_wire.specs.declared.unit.Answer.the-variants.{Integer, Float, String}
+use Rattle.wing_wire.proofs.Reading.Clears.{front-read, front-cleared}
 use Rattle.wing_wire.proofs.Writing.Lays.{escaped-append}
 use Rattle.wing_wire.proofs.Writing.Sizes.{set-int-le, set-float-le, set-string-le}
-use Rattle.wing_wire.proofs.Reading.Pieces.{at, calm-same, feed-calm, feed-pieces}
+use Rattle.wing_wire.proofs.Reading.Pieces.{at, pending-same, feed-not-pending, feed-pieces}
 use Rattle.wing_wire.proofs.Reading.Steps.{fed, feed-again}
-use Rattle.wing_wire.proofs.Reading.Branches.{and-left, and-right}
+use Rattle.wing_wire.proofs.Reading.Branches.{and-right}
 use Rattle.wing_wire.proofs.Reading.Beside.{event-beside}
 use Rattle.wing_wire.proofs.BothWays.Trips.{width, width-append, ready, waits, number-whole, string-whole, begin-run, single-run}
 
@@ -76,11 +74,7 @@ unfolding escaped
 plain b us h = rw (ne-eqb b 0xdf h)
 
 small-bounds : (x : ℤ) → from_to_ (pos 0) (pos 63) x ≡ true → (x ≡ pos (natAbs x)) × (natAbs x ≤ 63)
-small-bounds (pos n) e = (refl, leb-true n 63 (both (leb 0 n) (leb n 63) e))
-  where
-    both : (a b : Bool) → if a b false ≡ true → b ≡ true
-    both true b e = e
-    both false b e = cc
+small-bounds (pos n) e = (refl, leb-true n 63 (if-both (leb 0 n) (leb n 63) e .1))
 small-bounds (negsuc n) e = absurd (let z : _≡_ {A = Bool} false true = e in let w : _≡_ {A = ℕ} 0 1 = cc in omega arith)
 
 middle-bounds : (x : ℤ) → from_to_ (negsuc 32767) (pos 32767) x ≡ true → InBits 15 x
@@ -136,29 +130,11 @@ set-escaped id v h =
     ap (λ (l : List ℕ). 0xd7 ∷ (escaped bs ++ l)) (value-escaped v h) ∙
     (ap (λ (l : List ℕ). 0xd7 ∷ l) (sym (escaped-append bs (valueUnits v))) ∙ sym (plain 0xd7 (bs ++ valueUnits v) (λ z. omega arith)))
 
--- ---- a string in the store
-
-stored-front : (t s : List ℕ) → length t ≤ length s → sets s 0 t ≡ t ++ drop (length t) s
-stored-front t s h = let z : 0 + length t ≡ length t = omega arith in rw z at (sets-eq t s 0 (omega arith))
-
-string-held : (t s : List ℕ) → length t ≤ length s → take (length t) (sets s 0 t) ≡ t
-string-held t s h = ap (take (length t)) (stored-front t s h) ∙ take-at t (drop (length t) s) (length t) refl
-
--- once a string is given out, the store is as it was
-zeros-front : (n : ℕ) (s : List ℕ) → n ≤ length s → zeros s ≡ true → s ≡ replicate n 0 ++ drop n s
-unfolding zeros
-zeros-front zero s h z = refl
-zeros-front (suc n) [] h z = absurd (omega arith)
-zeros-front (suc n) (b ∷ s) h z =
-    let first : b ≡ 0 = eqb-true b 0 (and-left (eqb b 0) (zeros s) z) in
-    rw first (ap (λ (l : List ℕ). 0 ∷ l) (zeros-front n s (omega arith) (and-right (eqb b 0) (zeros s) z)))
-
+-- once a value is given out, the store is as it was
 given-out : (v : NodeValue) (s : List ℕ) → Settable v → 256 ≤ length s → zeros s ≡ true → released (answerTo v) (storeWith v s) ≡ s
 given-out (integer x) s h room z = refl
 given-out (float bits) s h room z = refl
-given-out (string t) s h room z =
-    let fits : length t ≤ length s = omega (arith, h .0) in
-    rw (string-held t s fits, stored-front t s fits, drop-append-seam t (drop (length t) s)) (sym (zeros-front (length t) s fits z))
+given-out (string t) s h room z = front-cleared t s (omega (arith, h .0)) z
 
 -- ---- the table at the units of a set order
 
@@ -171,15 +147,15 @@ unfolding ruleOf ruleIn
 rule-string t l h = rw (le-leb 0 t (omega arith), lt-leb t 0x3f (omega arith), le-leb 0x80 t l, le-leb t 0xbf h)
 
 module _ (ch : ℤ) where
-  -- the value is heard, and the reader stands between tokens at the node
-  abbrev pub heardValue : ℤ → NodeValue → List ℕ → Heard
-  heardValue node v s = heard (told (answerTo v) (control (ready ch) node Between)) (storeWith v s)
+  -- the answer is the value, and the reader stands between tokens at the node
+  abbrev pub valueEffect : ℤ → NodeValue → List ℕ → StepEffect
+  valueEffect node v s = stepEffect (answered (answerTo v) (control (ready ch) node Between)) (storeWith v s)
 
   -- a number's token: its first unit, then its bytes
   number-token : (class : Class) (node : ℤ) (s us : List ℕ) (t w bits n : ℕ) → ruleOf t ≡ rule class (suc w) → isString class ≡ false →
       bits < 256 ^ suc w → bits < 0x100000000 →
       runOf (at (waits ch node Between s) n) (escaped (t ∷ (bytesOf (suc w) bits ++ us))) ≡
-      runOf (at (joined (ready ch) (out (numberOf node class bits) s)) (n + width (t ∷ bytesOf (suc w) bits))) (escaped us)
+      runOf (at (afterUnit (ready ch) (unitEffect (numberOf node class bits) s)) (n + width (t ∷ bytesOf (suc w) bits))) (escaped us)
   unfolding tokenOf
   number-token class node s us t w bits n e k fits small =
       let wide : n + width (t ∷ []) + width (bytesOf (suc w) bits) ≡ n + width (t ∷ bytesOf (suc w) bits) = omega (arith, width-append (t ∷ []) (bytesOf (suc w) bits)) in
@@ -192,7 +168,7 @@ module _ (ch : ℤ) where
 
   -- a string, once its length is known
   string-token : (node : ℤ) (s : List ℕ) (b : ℕ) (r : List ℕ) (n : ℕ) → utf8 (b ∷ r) ≡ true → suc (length r) ≤ length s →
-      runOf (at (waits ch node (InString (suc (length r)) (suc (length r))) s) n) (escaped (b ∷ r)) ≡ at (heardValue node (string (b ∷ r)) s) (n + width (b ∷ r))
+      runOf (at (waits ch node (InString (suc (length r)) (suc (length r))) s) n) (escaped (b ∷ r)) ≡ at (valueEffect node (string (b ∷ r)) s) (n + width (b ∷ r))
   unfolding stringDone
   string-token node s b r n good room =
       let str = b ∷ r in
@@ -201,17 +177,17 @@ module _ (ch : ℤ) where
       let u = getD str k 0 in
       let apart : str ≡ front ++ (u ∷ []) = sym (take-all (suc k) str (omega arith)) ∙ take-suc str k 0 (omega arith) in
       let long : length front ≡ k = length-take-le k str (omega arith) in
-      let held : take (suc k) (sets s 0 str) ≡ str = string-held str s room in
-      let done : joined (ready ch) (stringDone node (suc k) (sets s 0 str)) ≡ heardValue node (string str) s = rw (held, good) in
+      let back : take (suc k) (sets s 0 str) ≡ str = front-read str s room in
+      let done : afterUnit (ready ch) (stringDone node (suc k) (sets s 0 str)) ≡ valueEffect node (string str) s = rw (back, good) in
       let step :
       runOf (at (waits ch node (InString (suc k) (suc k)) s) n) (escaped ((front ++ (u ∷ [])) ++ [])) ≡
-      runOf (at (joined (ready ch) (stringDone node (suc k) (sets s 0 (front ++ (u ∷ []))))) (n + width (front ++ (u ∷ [])))) (escaped []) =
+      runOf (at (afterUnit (ready ch) (stringDone node (suc k) (sets s 0 (front ++ (u ∷ []))))) (n + width (front ++ (u ∷ [])))) (escaped []) =
       rw long at (string-whole ch node front [] s u n) in
       ap (λ (l : List ℕ). runOf (at (waits ch node (InString (suc k) (suc k)) s) n) (escaped l)) (apart ∙ sym (append-nil (front ++ (u ∷ [])))) ∙
       (step ∙
       (ended _ ∙
-      (ap (λ (l : List ℕ). at (joined (ready ch) (stringDone node (suc k) (sets s 0 l))) (n + width l)) (sym apart) ∙
-      ap (λ (h : Heard). at h (n + width str)) done)))
+      (ap (λ (l : List ℕ). at (afterUnit (ready ch) (stringDone node (suc k) (sets s 0 l))) (n + width l)) (sym apart) ∙
+      ap (λ (h : StepEffect). at h (n + width str)) done)))
 
   -- a string's length, in its first unit or after d1
   length-run : (node : ℤ) (s us : List ℕ) (k n : ℕ) → suc k ≤ 256 →
@@ -237,34 +213,34 @@ module _ (ch : ℤ) where
 
   -- a value's token
   value-run : (node : ℤ) (s : List ℕ) (n : ℕ) (v : NodeValue) → Settable v → 256 ≤ length s →
-      runOf (at (waits ch node Between s) n) (escaped (valueUnits v)) ≡ at (heardValue node v s) (n + width (valueUnits v))
+      runOf (at (waits ch node Between s) n) (escaped (valueUnits v)) ≡ at (valueEffect node v s) (n + width (valueUnits v))
   unfolding valueUnits unitsOfInteger unitsOfLength ruleOf ruleIn isString numberOf singleOf
   value-run node s n (integer x) h room = go (from_to_ (pos 0) (pos 63) x) (from_to_ (negsuc 32767) (pos 32767) x) refl refl
     where
-      told16 : InBits 15 x → signed 15 (unsigned 15 x % 0x10000) ≡ x
-      told16 i =
+      signed-16 : InBits 15 x → signed 15 (unsigned 15 x % 0x10000) ≡ x
+      signed-16 i =
           let b : unsigned 15 x < 65536 = bits-below 15 x refl i in
           let m : unsigned 15 x % 0x10000 ≡ unsigned 15 x = omega arith in
           ap (signed 15) m ∙ signed-unsigned 15 x i
 
       go : (q r : Bool) → from_to_ (pos 0) (pos 63) x ≡ q → from_to_ (negsuc 32767) (pos 32767) x ≡ r →
           runOf (at (waits ch node Between s) n) (escaped (if q (natAbs x ∷ []) (if r (0xd3 ∷ bytesOf 2 (unsigned 15 x)) (0xd4 ∷ bytesOf 4 (unsigned 31 x))))) ≡
-          at (heardValue node (integer x) s) (n + width (if q (natAbs x ∷ []) (if r (0xd3 ∷ bytesOf 2 (unsigned 15 x)) (0xd4 ∷ bytesOf 4 (unsigned 31 x)))))
+          at (valueEffect node (integer x) s) (n + width (if q (natAbs x ∷ []) (if r (0xd3 ∷ bytesOf 2 (unsigned 15 x)) (0xd4 ∷ bytesOf 4 (unsigned 31 x)))))
       go true r e f =
           let b = small-bounds x e in
           single-run ch node s [] n (natAbs x) anInteger (rule-integer (natAbs x) (b .1)) ∙
-          (ended _ ∙ ap (λ (y : ℤ). at (heardValue node (integer y) s) (n + width (natAbs x ∷ []))) (sym (b .0)))
+          (ended _ ∙ ap (λ (y : ℤ). at (valueEffect node (integer y) s) (n + width (natAbs x ∷ []))) (sym (b .0)))
       go false true e f =
           let i = middle-bounds x f in
           let us = bytesOf 2 (unsigned 15 x) in
           ap (λ (l : List ℕ). runOf (at (waits ch node Between s) n) (escaped (0xd3 ∷ l))) (sym (append-nil us)) ∙
           (number-token Int16 node s [] 0xd3 1 (unsigned 15 x) n refl refl (bits-below 15 x refl i) (omega (arith, bits-below 15 x refl i)) ∙
-          (ended _ ∙ ap (λ (y : ℤ). at (heardValue node (integer y) s) (n + width (0xd3 ∷ us))) (told16 i)))
+          (ended _ ∙ ap (λ (y : ℤ). at (valueEffect node (integer y) s) (n + width (0xd3 ∷ us))) (signed-16 i)))
       go false false e f =
           let us = bytesOf 4 (unsigned 31 x) in
           ap (λ (l : List ℕ). runOf (at (waits ch node Between s) n) (escaped (0xd4 ∷ l))) (sym (append-nil us)) ∙
           (number-token Int32 node s [] 0xd4 3 (unsigned 31 x) n refl refl (bits-below 31 x refl h) (bits-below 31 x refl h) ∙
-          (ended _ ∙ ap (λ (y : ℤ). at (heardValue node (integer y) s) (n + width (0xd4 ∷ us))) (signed-unsigned 31 x h)))
+          (ended _ ∙ ap (λ (y : ℤ). at (valueEffect node (integer y) s) (n + width (0xd4 ∷ us))) (signed-unsigned 31 x h)))
   value-run node s n (float bits) h room =
       let us = bytesOf 4 bits in
       ap (λ (l : List ℕ). runOf (at (waits ch node Between s) n) (escaped (0xd5 ∷ l))) (sym (append-nil us)) ∙
@@ -277,7 +253,7 @@ module _ (ch : ℤ) where
 
   -- a whole set order
   pub set-run : (node id : ℤ) (s : List ℕ) (v : NodeValue) → InBits 31 id → Settable v → 256 ≤ length s →
-      advanceOf (control (ready ch) node Between) s (setBytes id v) ≡ at (heardValue id v s) (length (setBytes id v))
+      advanceOf (control (ready ch) node Between) s (setBytes id v) ≡ at (valueEffect id v s) (length (setBytes id v))
   unfolding advanceOf settleOf ruleOf ruleIn isString numberOf
   set-run node id s v i h room =
       let bits = unsigned 31 id in
@@ -291,18 +267,18 @@ module _ (ch : ℤ) where
       runOf (at (waits ch node Between s) 0) (escaped (front ++ us)) ≡ runOf (at (waits ch id Between s) (0 + width front)) (escaped us) =
       number-token Node node s us 0xd7 3 bits 0 refl refl fits fits ∙ rw there in
       ap (λ (l : List ℕ). runOf (at (waits ch node Between s) 0) l) whole ∙
-      (named ∙ (value-run id s (0 + width front) v h room ∙ ap (at (heardValue id v s)) (wide ∙ sym (ap length whole))))
+      (named ∙ (value-run id s (0 + width front) v h room ∙ ap (at (valueEffect id v s)) (wide ∙ sym (ap length whole))))
 
 within-answer : (v : NodeValue) (s : List ℕ) → Settable v → 256 ≤ length s → Within (answerTo v) (storeWith v s)
 within-answer (integer x) s h room = tt
 within-answer (float bits) s h room = tt
-within-answer (string t) s h room = (h .0, ap utf8 (string-held t s (omega (arith, h .0))) ∙ h .1)
+within-answer (string t) s h room = (h .0, ap utf8 (front-read t s (omega (arith, h .0))) ∙ h .1)
 
 pub value-event : (v : NodeValue) (s : List ℕ) → Settable v → 256 ≤ length s → eventOf (answerTo v) (storeWith v s) (storeWith v s) ≡ value v
 unfolding eventOf
 value-event (integer x) s h room = refl
 value-event (float bits) s h room = refl
-value-event (string t) s h room = ap (λ (l : List ℕ). value (string l)) (string-held t s (omega (arith, h .0)))
+value-event (string t) s h room = ap (λ (l : List ℕ). value (string l)) (front-read t s (omega (arith, h .0)))
 
 stored-length : (v : NodeValue) (s : List ℕ) → length (storeWith v s) ≡ length s
 stored-length (integer x) s = refl
@@ -345,7 +321,7 @@ module _ {M : Type 0} (f : ℤ → Answer → List ℕ → M → M) where
       let c = control (escape false ch None) node Between in
       let run = set-run ch node id s v i h room in
       let again = rw run at (feed-again f c s m (setBytes id v) (rw run (not-more v))) in
-      again ∙ rw (drop-length (setBytes id v), given-out v s h room clear) (calm-same f (fed f (control (escape false ch None) id Between) s (f id (answerTo v) (storeWith v s) m)) refl)
+      again ∙ rw (drop-length (setBytes id v), given-out v s h room clear) (pending-same f (fed f (control (escape false ch None) id Between) s (f id (answerTo v) (storeWith v s) m)) refl)
 
 module _ {M : Type 0} (h : ℤ → Event → M → M) where
   abbrev handed : ℤ → Answer → List ℕ → M → M
@@ -353,15 +329,15 @@ module _ {M : Type 0} (h : ℤ → Event → M → M) where
 
   pieces : (x : Fed M) (ps : List (List ℕ)) → x .control .escape .pending ≡ None → feeds h x ps ≡ feedOf handed x (joint ps)
   unfolding feedOf fedFrom
-  pieces x [] e = sym (calm-same handed x e)
-  pieces x (p ∷ ps) e = pieces (feedOf handed x p) ps (feed-calm handed x p) ∙ sym (feed-pieces handed x p (joint ps))
+  pieces x [] e = sym (pending-same handed x e)
+  pieces x (p ∷ ps) e = pieces (feedOf handed x p) ps (feed-not-pending handed x p) ∙ sym (feed-pieces handed x p (joint ps))
 
   -- the same for the bytes arriving in any pieces
   pub round-trip-pieces : RoundTripPieces h
   unfolding soundState soundToken soundCounts storedBy
   round-trip-pieces ch node id s v m ps i k full sound e =
       let room : 256 ≤ length s = omega arith in
-      pieces (fedCalm ch node s m) ps refl
-      ∙ ap (feedOf handed (fedCalm ch node s m)) e
+      pieces (fedRest ch node s m) ps refl
+      ∙ ap (feedOf handed (fedRest ch node s m)) e
       ∙ fed-whole handed ch node id s v m i k room (and-right (soundEscape (escape false ch None)) (zeros s) sound)
-      ∙ ap (λ (x : Event). fedCalm ch id s (h id x m)) (value-event v s k room)
+      ∙ ap (λ (x : Event). fedRest ch id s (h id x m)) (value-event v s k room)

@@ -1,16 +1,15 @@
 -- What escaped units do to a reader that is unescaped with nothing pending: each is taken as it is.
-use Prim.Native.Nat.{ℕ, zero, suc, _+_, _-_, _*_, _/_, _%_, _^_, _≤_, _<_}
+use Prim.Native.Nat.{ℕ, suc, _+_, _-_, _*_, _/_, _%_, _^_, _≤_, _<_}
 use mathlib.Core.Bool.{Bool, true, false}
-use mathlib.Core.Path.{_≡_, refl, sym, _∙_, ap}
+use mathlib.Core.Path.{_≡_, refl, _∙_, ap}
 use mathlib.Core.List.{List, [], _∷_, _++_, append-assoc}
 use native.Mathlib.Omega.{arith}
-use native.Mathlib.Numerals.{add-one}
 use native.Mathlib.Nat.{pow-suc}
-use lib.Dec.{eqb, leb}
+use lib.Dec.{eqb}
 use lib.IntN.{ℤ}
-use lib.ListN.{length, take, set, length-append, length-set}
+use lib.ListN.{length, set, length-append}
 use lib.Seq.{sets}
-use borrow.Author.Tests.{eqb-true, eqb-false, lt-leb, le-leb, ne-eqb}
+use borrow.Author.Tests.{eqb-true, lt-leb, ne-eqb}
 use Rattle.wing_node.specs.Bool.{if}
 use Rattle.wing_node.specs.Digits.{numberFrom, numberIn, digitsIn}
 use Rattle.wing_node.specs.Field.{bytesOf}
@@ -19,8 +18,8 @@ use Rattle.wing_wire.specs.Write.{escaped}
 use Rattle.wing_wire.specs.Token.{rule, ruleOf}
 use Rattle.wing_wire.specs.State.{escape, control}
 use Rattle.wing_wire.specs.Escape.{decodeOf, plainOf, escapedOf}
-use Rattle.wing_wire.specs.Unit.{gives, awaits, singleOf, tokenOf, beginOf, numberOf, shiftIn, numberUnit, Out, out, stringUnit, stringDone, unitOf}
-use Rattle.wing_wire.specs.Stream.{told, Heard, heard, quiet, isMore, joined, settleOf, givenOf, firstOf, followOf, stepOf, Run, runOf}
+use Rattle.wing_wire.specs.Unit.{completes, singleOf, tokenOf, beginOf, numberOf, shiftIn, numberUnit, unitEffect, stringUnit, stringDone, unitOf}
+use Rattle.wing_wire.specs.Stream.{answered, StepEffect, stepEffect, noAnswer, afterUnit, settleOf, firstOf, followOf, stepOf, runOf}
 use Rattle.wing_wire.specs.declared.token.Class.{Class}
 use Rattle.wing_wire.specs.declared.state.Pending.the-variants.{None}
 use Rattle.wing_wire.specs.declared.state.Escape.{Escape}
@@ -63,56 +62,56 @@ module _ (ch : ℤ) where
   ready = escape false ch None
 
   -- no answer yet, in a token or between tokens
-  abbrev pub waits : ℤ → Token → List ℕ → Heard
-  waits node token s = quiet (control ready node token) s
+  abbrev pub waits : ℤ → Token → List ℕ → StepEffect
+  waits node token s = noAnswer (control ready node token) s
 
-  follow-joined : (a : Answer) (node : ℤ) (token : Token) (s : List ℕ) →
-      followOf (heard (told a (control ready node token)) s) ≡ heard (told a (control ready node token)) s
+  follow-after-unit : (a : Answer) (node : ℤ) (token : Token) (s : List ℕ) →
+      followOf (stepEffect (answered a (control ready node token)) s) ≡ stepEffect (answered a (control ready node token)) s
   unfolding followOf settleOf
-  follow-joined More node token s = refl
-  follow-joined (Integer x) node token s = refl
-  follow-joined (Float x) node token s = refl
-  follow-joined (String n) node token s = refl
-  follow-joined (Body n) node token s = refl
-  follow-joined End node token s = refl
-  follow-joined (Refused n) node token s = refl
+  follow-after-unit More node token s = refl
+  follow-after-unit (Integer x) node token s = refl
+  follow-after-unit (Float x) node token s = refl
+  follow-after-unit (String n) node token s = refl
+  follow-after-unit (Body n) node token s = refl
+  follow-after-unit End node token s = refl
+  follow-after-unit (Refused n) node token s = refl
 
   -- a byte that is not df is its own unit
   plain-step : (node : ℤ) (token : Token) (s : List ℕ) (u : ℕ) → eqb u 0xdf ≡ false →
-      stepOf (control ready node token) s u ≡ joined ready (unitOf node token s u true)
+      stepOf (control ready node token) s u ≡ afterUnit ready (unitOf node token s u true)
   unfolding firstOf decodeOf plainOf
   plain-step node token s u e =
       let o = unitOf node token s u true in
-      rw e (follow-joined (o .taken .answer) (o .taken .node) (o .taken .token) (o .store))
+      rw e (follow-after-unit (o .taken .answer) (o .taken .node) (o .taken .token) (o .store))
 
   -- df de is the unit df
-  df-step : (node : ℤ) (token : Token) (s : List ℕ) → stepOf (control ready node token) s 0xdf ≡ quiet (control (escape true ch None) node token) s
+  df-step : (node : ℤ) (token : Token) (s : List ℕ) → stepOf (control ready node token) s 0xdf ≡ noAnswer (control (escape true ch None) node token) s
   unfolding firstOf decodeOf plainOf followOf settleOf
   df-step node token s = refl
 
   de-step : (node : ℤ) (token : Token) (s : List ℕ) →
-      stepOf (control (escape true ch None) node token) s 0xde ≡ joined ready (unitOf node token s 0xdf true)
+      stepOf (control (escape true ch None) node token) s 0xde ≡ afterUnit ready (unitOf node token s 0xdf true)
   unfolding firstOf decodeOf escapedOf
   de-step node token s =
       let o = unitOf node token s 0xdf true in
-      follow-joined (o .taken .answer) (o .taken .node) (o .taken .token) (o .store)
+      follow-after-unit (o .taken .answer) (o .taken .node) (o .taken .token) (o .store)
 
   pub unit-run : (node : ℤ) (token : Token) (s : List ℕ) (n u : ℕ) (us : List ℕ) →
-      runOf (at (waits node token s) n) (escaped (u ∷ us)) ≡ runOf (at (joined ready (unitOf node token s u true)) (n + width (u ∷ []))) (escaped us)
+      runOf (at (waits node token s) n) (escaped (u ∷ us)) ≡ runOf (at (afterUnit ready (unitOf node token s u true)) (n + width (u ∷ []))) (escaped us)
   unfolding escaped
   unit-run node token s n u us = go (eqb u 0xdf) refl
     where
       go : (q : Bool) → eqb u 0xdf ≡ q →
           runOf (at (waits node token s) n) (if q (0xdf ∷ 0xde ∷ escaped us) (u ∷ escaped us)) ≡
-          runOf (at (joined ready (unitOf node token s u true)) (n + length (if q (0xdf ∷ 0xde ∷ []) (u ∷ [])))) (escaped us)
-      go false e = run-on (waits node token s) n u (escaped us) refl ∙ ap (λ (h : Heard). runOf (at h (n + 1)) (escaped us)) (plain-step node token s u e)
+          runOf (at (afterUnit ready (unitOf node token s u true)) (n + length (if q (0xdf ∷ 0xde ∷ []) (u ∷ [])))) (escaped us)
+      go false e = run-on (waits node token s) n u (escaped us) refl ∙ ap (λ (h : StepEffect). runOf (at h (n + 1)) (escaped us)) (plain-step node token s u e)
       go true e =
           let d : u ≡ 0xdf = eqb-true u 0xdf e in
           let two : n + 1 + 1 ≡ n + 2 = omega arith in
           run-on (waits node token s) n 0xdf (0xde ∷ escaped us) refl ∙
-          (ap (λ (h : Heard). runOf (at h (n + 1)) (0xde ∷ escaped us)) (df-step node token s) ∙
-          (run-on (quiet (control (escape true ch None) node token) s) (n + 1) 0xde (escaped us) refl ∙
-          (ap (λ (h : Heard). runOf (at h (n + 1 + 1)) (escaped us)) (de-step node token s) ∙
+          (ap (λ (h : StepEffect). runOf (at h (n + 1)) (0xde ∷ escaped us)) (df-step node token s) ∙
+          (run-on (noAnswer (control (escape true ch None) node token) s) (n + 1) 0xde (escaped us) refl ∙
+          (ap (λ (h : StepEffect). runOf (at h (n + 1 + 1)) (escaped us)) (de-step node token s) ∙
           rw (two, d))))
 
   -- ---- a number's units
@@ -130,18 +129,18 @@ module _ (ch : ℤ) where
       let low : v * 256 + b < 0x1000000 = omega (arith, number-up (v * 256 + b) bs) in
       let in24 : v % 0x1000000 ≡ v = omega arith in
       let shifted : shiftIn v b ≡ v * 256 + b = ap (λ (x : ℕ). x * 256 + b) in24 in
-      let one : joined ready (unitOf node (Number class left v) s b true) ≡ waits node (Number class (left - 1) (v * 256 + b)) s =
+      let one : afterUnit ready (unitOf node (Number class left v) s b true) ≡ waits node (Number class (left - 1) (v * 256 + b)) s =
       rw (lt-leb left 1 (omega arith), shifted) in
       let wide : n + width (b ∷ []) + width bs ≡ n + width (b ∷ bs) = omega (arith, width-append (b ∷ []) bs) in
       let fewer : left - 1 - length bs ≡ left - suc (length bs) = omega arith in
       unit-run node (Number class left v) s n b (bs ++ us) ∙
-      (ap (λ (o : Heard). runOf (at o (n + width (b ∷ []))) (escaped (bs ++ us))) one ∙
+      (ap (λ (o : StepEffect). runOf (at o (n + width (b ∷ []))) (escaped (bs ++ us))) one ∙
       (number-run class node s bs us (left - 1) (v * 256 + b) (n + width (b ∷ [])) (omega arith) small ∙ rw (fewer, wide)))
 
   -- all of a number's units
   pub number-whole : (class : Class) (node : ℤ) (s us : List ℕ) (w bits n : ℕ) → bits < 256 ^ suc w → bits < 0x100000000 →
       runOf (at (waits node (Number class (suc w) 0) s) n) (escaped (bytesOf (suc w) bits ++ us)) ≡
-      runOf (at (joined ready (out (numberOf node class bits) s)) (n + width (bytesOf (suc w) bits))) (escaped us)
+      runOf (at (afterUnit ready (unitEffect (numberOf node class bits) s)) (n + width (bytesOf (suc w) bits))) (escaped us)
   unfolding digitsIn unitOf numberUnit
   number-whole class node s us w bits n fits small =
       let front = bytesOf w (bits / 256) in
@@ -170,19 +169,19 @@ module _ (ch : ℤ) where
       let y : n + 0 ≡ n = omega arith in
       rw (z, y)
   string-run node (b ∷ t) us s want left n h k =
-      let one : joined ready (unitOf node (InString want left) s b true) ≡ waits node (InString want (left - 1)) (set s (want - left) b) =
+      let one : afterUnit ready (unitOf node (InString want left) s b true) ≡ waits node (InString want (left - 1)) (set s (want - left) b) =
       rw (lt-leb left 1 (omega arith)) in
       let wide : n + width (b ∷ []) + width t ≡ n + width (b ∷ t) = omega (arith, width-append (b ∷ []) t) in
       let fewer : left - 1 - length t ≡ left - suc (length t) = omega arith in
       let place : want - (left - 1) ≡ suc (want - left) = omega arith in
       unit-run node (InString want left) s n b (t ++ us) ∙
-      (ap (λ (o : Heard). runOf (at o (n + width (b ∷ []))) (escaped (t ++ us))) one ∙
+      (ap (λ (o : StepEffect). runOf (at o (n + width (b ∷ []))) (escaped (t ++ us))) one ∙
       (string-run node t us (set s (want - left) b) want (left - 1) (n + width (b ∷ [])) (omega arith) (omega arith) ∙ rw (fewer, wide, place)))
 
   -- all of a string's units, the last of which is u
   pub string-whole : (node : ℤ) (t us s : List ℕ) (u n : ℕ) →
       runOf (at (waits node (InString (suc (length t)) (suc (length t))) s) n) (escaped ((t ++ (u ∷ [])) ++ us)) ≡
-      runOf (at (joined ready (stringDone node (suc (length t)) (sets s 0 (t ++ (u ∷ []))))) (n + width (t ++ (u ∷ [])))) (escaped us)
+      runOf (at (afterUnit ready (stringDone node (suc (length t)) (sets s 0 (t ++ (u ∷ []))))) (n + width (t ++ (u ∷ [])))) (escaped us)
   unfolding unitOf stringUnit
   string-whole node t us s u n =
       let k = suc (length t) in
@@ -207,6 +206,6 @@ module _ (ch : ℤ) where
 
   -- one that is its whole token
   pub single-run : (node : ℤ) (s us : List ℕ) (n t : ℕ) (class : Class) → ruleOf t ≡ rule class 0 →
-      runOf (at (waits node Between s) n) (escaped (t ∷ us)) ≡ runOf (at (joined ready (out (gives node (singleOf class t)) s)) (n + width (t ∷ []))) (escaped us)
+      runOf (at (waits node Between s) n) (escaped (t ∷ us)) ≡ runOf (at (afterUnit ready (unitEffect (completes node (singleOf class t)) s)) (n + width (t ∷ []))) (escaped us)
   unfolding unitOf beginOf
   single-run node s us n t class e = unit-run node Between s n t us ∙ rw e

@@ -11,11 +11,12 @@ use lib.IntN.{ℤ}
 use lib.ListN.{length, take, drop, set, replicate, length-set, length-append, length-replicate, take-append-drop}
 use Rattle.wing_node.specs.Bool.{if}
 use Rattle.wing_node.specs.Utf8.{utf8, charsFrom}
+use Rattle.wing_wire.specs.State.{bodyLimit}
 use Rattle.wing_wire.specs.Token.{Row, table, ruleIn, ruleOf, widthOf}
 use Rattle.wing_wire.specs.Escape.{decodeOf}
-use Rattle.wing_wire.specs.Unit.{gives, singleOf, isString, tokenOf, beginOf, countOf, numberOf, shiftIn, numberUnit, Out, cleared, stringDone, stringUnit, keeps, bodyDone, bodyNext, bodyUnit, unitOf}
-use Rattle.wing_wire.specs.Stream.{Heard, isMore, pendingOf, settleOf, givenOf, firstOf, followOf, stepOf, runOf, advanceOf}
-use Rattle.wing_wire.specs.Range.{Within, TokenWithin, HeardWithin}
+use Rattle.wing_wire.specs.Unit.{completes, singleOf, isString, tokenOf, beginOf, countOf, numberOf, shiftIn, numberUnit, UnitEffect, cleared, stringDone, stringUnit, keeps, bodyDone, bodyNext, bodyUnit, unitOf}
+use Rattle.wing_wire.specs.Stream.{StepEffect, isMore, pendingOf, settleOf, givenOf, firstOf, followOf, stepOf, runOf, advanceOf}
+use Rattle.wing_wire.specs.Range.{Within, TokenWithin, StepEffectWithin}
 use Rattle.wing_wire.specs.declared.token.Class.{Class}
 use Rattle.wing_wire.specs.declared.token.Class.the-variants.{NoEvent, Integer, String, Length, Int16, Int32, Float, Node, End, Count, ZeroCount}
 use Rattle.wing_wire.specs.declared.token.Rule.{Rule}
@@ -38,7 +39,7 @@ Fits r = r .wants ≤ (if (isString (r .class)) 256 (widthOf (r .class)))
 
 abbrev Fitting : List Row → Type 0
 Fitting [] = Unit {0}
-Fitting (r ∷ rs) = ((t : ℕ) → r .low ≤ t → t ≤ r .high → Fits (r .gives t)) × Fitting rs
+Fitting (r ∷ rs) = ((t : ℕ) → r .low ≤ t → t ≤ r .high → Fits (r .ruleAt t)) × Fitting rs
 
 fits-in : (rs : List Row) → Fitting rs → (t : ℕ) → Fits (ruleIn rs t)
 unfolding ruleIn isString widthOf
@@ -66,11 +67,11 @@ pub record Bounded (s : List ℕ) (t : Taken) : Type 0 where
   pub within : Within (t .answer) s
 
 -- the same of what a unit leaves, with the store as long as it was
-pub record BoundedOut (n : ℕ) (o : Out) : Type 0 where
+pub record BoundedUnitEffect (n : ℕ) (o : UnitEffect) : Type 0 where
   pub taken : Bounded (o .store) (o .taken)
   pub size : length (o .store) ≡ n
 
-single-in : (node : ℤ) (class : Class) (t : ℕ) (s : List ℕ) → Bounded s (gives node (singleOf class t))
+single-in : (node : ℤ) (class : Class) (t : ℕ) (s : List ℕ) → Bounded s (completes node (singleOf class t))
 unfolding singleOf utf8 charsFrom
 single-in node NoEvent t s = record { token = tt; within = tt }
 single-in node Integer t s = record { token = tt; within = tt }
@@ -122,42 +123,42 @@ length-cleared n s =
     let d : length (take n s ++ drop n s) ≡ length s = rw (take-append-drop n s) in
     omega arith
 
-string-in : (node : ℤ) (want left u : ℕ) (s : List ℕ) → want ≤ 256 → BoundedOut (length s) (stringUnit node want left s u)
+string-in : (node : ℤ) (want left u : ℕ) (s : List ℕ) → want ≤ 256 → BoundedUnitEffect (length s) (stringUnit node want left s u)
 unfolding stringUnit stringDone
 string-in node want left u s h =
     let l : List ℕ = set s (want - left) u in
-    branch (BoundedOut (length s)) (leb left 1) _ _
-    (λ _. branch (BoundedOut (length s)) (utf8 (take want l)) _ _
+    branch (BoundedUnitEffect (length s)) (leb left 1) _ _
+    (λ _. branch (BoundedUnitEffect (length s)) (utf8 (take want l)) _ _
     (λ e. record { taken = record { token = tt; within = (h, e) }; size = length-set s (want - left) u })
     (λ _. record { taken = record { token = tt; within = tt }; size = length-cleared want l ∙ length-set s (want - left) u }))
     (λ _. record { taken = record { token = h; within = tt }; size = length-set s (want - left) u })
 
-body-next-in : (node : ℤ) (want left stored : ℕ) (s : List ℕ) → stored ≤ 4096 → Bounded s (bodyNext node want left stored)
+body-next-in : (node : ℤ) (want left stored : ℕ) (s : List ℕ) → stored ≤ bodyLimit → Bounded s (bodyNext node want left stored)
 unfolding bodyNext bodyDone
 body-next-in node want left stored s h =
     branch (Bounded s) (leb left 1) _ _
-    (λ _. branch (Bounded s) (leb want 4096) _ _ (λ _. record { token = tt; within = h }) (λ _. record { token = tt; within = tt }))
+    (λ _. branch (Bounded s) (leb want bodyLimit) _ _ (λ _. record { token = tt; within = h }) (λ _. record { token = tt; within = tt }))
     (λ _. record { token = h; within = tt })
 
 -- 01: of a count over 4,096 nothing is kept; of any other no more than 4,096
-room-left : (want stored : ℕ) (a : Bool) → keeps want stored a ≡ true → stored + 1 ≤ 4096
+room-left : (want stored : ℕ) (a : Bool) → keeps want stored a ≡ true → stored + 1 ≤ bodyLimit
 unfolding keeps
-room-left want stored a = go a (leb want 4096) (ltb stored 4096) refl
+room-left want stored a = go a (leb want bodyLimit) (ltb stored bodyLimit) refl
   where
-    go : (p q r : Bool) → ltb stored 4096 ≡ r → if p (if q r false) false ≡ true → stored + 1 ≤ 4096
-    go true true r e h = let l = ltb-true stored 4096 (e ∙ h) in omega arith
+    go : (p q r : Bool) → ltb stored bodyLimit ≡ r → if p (if q r false) false ≡ true → stored + 1 ≤ bodyLimit
+    go true true r e h = let l = ltb-true stored bodyLimit (e ∙ h) in omega arith
     go true false r e h = absurd (false≢true h)
     go false q r e h = absurd (false≢true h)
 
-body-in : (node : ℤ) (want left stored u : ℕ) (s : List ℕ) (a : Bool) → stored ≤ 4096 → BoundedOut (length s) (bodyUnit node want left stored s u a)
+body-in : (node : ℤ) (want left stored u : ℕ) (s : List ℕ) (a : Bool) → stored ≤ bodyLimit → BoundedUnitEffect (length s) (bodyUnit node want left stored s u a)
 unfolding bodyUnit
 body-in node want left stored u s a h =
-    branch (BoundedOut (length s)) (keeps want stored a) _ _
+    branch (BoundedUnitEffect (length s)) (keeps want stored a) _ _
     (λ e. record { taken = body-next-in node want left (stored + 1) (set s stored u) (room-left want stored a e); size = length-set s stored u })
     (λ _. record { taken = body-next-in node want left stored s h; size = refl })
 
 -- one unit
-pub unit-bounded : (node : ℤ) (t : Token) (s : List ℕ) (u : ℕ) (a : Bool) → TokenWithin t → BoundedOut (length s) (unitOf node t s u a)
+pub unit-bounded : (node : ℤ) (t : Token) (s : List ℕ) (u : ℕ) (a : Bool) → TokenWithin t → BoundedUnitEffect (length s) (unitOf node t s u a)
 unfolding unitOf
 unit-bounded node Between s u a h = record { taken = begin-in node u s; size = refl }
 unit-bounded node (Number class left v) s u a h = record { taken = number-unit-in node class left v u s; size = refl }
@@ -166,41 +167,41 @@ unit-bounded node (InBody want left stored) s u a h = body-in node want left sto
 
 -- ---- through the bytes
 
-settle-bounded : (c : Control) (s : List ℕ) → TokenWithin (c .token) → HeardWithin (length s) (settleOf c s)
+settle-bounded : (c : Control) (s : List ℕ) → TokenWithin (c .token) → StepEffectWithin (length s) (settleOf c s)
 unfolding settleOf
 settle-bounded c s h = go (c .escape .pending)
   where
-    go : (p : Pending) → HeardWithin (length s) (pendingOf p c s)
+    go : (p : Pending) → StepEffectWithin (length s) (pendingOf p c s)
     go None = record { token = h; within = tt; size = refl }
     go (Byte u) = let o = unit-bounded (c .node) (c .token) s u true h in record { token = o .taken .token; within = o .taken .within; size = o .size }
 
-first-bounded : (c : Control) (s : List ℕ) (b : ℕ) → TokenWithin (c .token) → HeardWithin (length s) (firstOf c s b)
+first-bounded : (c : Control) (s : List ℕ) (b : ℕ) → TokenWithin (c .token) → StepEffectWithin (length s) (firstOf c s b)
 unfolding firstOf
 first-bounded c s b h = go (decodeOf (c .escape) b .unit) (decodeOf (c .escape) b .escape)
   where
-    go : (u : Unitʷ) (e : Escape) → HeardWithin (length s) (givenOf u e c s)
+    go : (u : Unitʷ) (e : Escape) → StepEffectWithin (length s) (givenOf u e c s)
     go Nothing e = record { token = h; within = tt; size = refl }
     go (Bare u) e = let o = unit-bounded (c .node) (c .token) s u false h in record { token = o .taken .token; within = o .taken .within; size = o .size }
     go (Appended u) e = let o = unit-bounded (c .node) (c .token) s u true h in record { token = o .taken .token; within = o .taken .within; size = o .size }
 
-step-bounded : (c : Control) (s : List ℕ) (b : ℕ) → TokenWithin (c .token) → HeardWithin (length s) (stepOf c s b)
+step-bounded : (c : Control) (s : List ℕ) (b : ℕ) → TokenWithin (c .token) → StepEffectWithin (length s) (stepOf c s b)
 unfolding followOf
 step-bounded c s b h =
-    let o : Heard = firstOf c s b in
+    let o : StepEffect = firstOf c s b in
     let k = first-bounded c s b h in
-    branch (HeardWithin (length s)) (isMore (o .told .answer)) _ _ (λ _. rw (k .size) at (settle-bounded (o .told .control) (o .store) (k .token))) (λ _. k)
+    branch (StepEffectWithin (length s)) (isMore (o .answered .answer)) _ _ (λ _. rw (k .size) at (settle-bounded (o .answered .control) (o .store) (k .token))) (λ _. k)
 
-run-bounded : (n : ℕ) (o : Heard) (k : ℕ) (bs : List ℕ) → HeardWithin n o → HeardWithin n (runOf (at o k) bs .heard)
+run-bounded : (n : ℕ) (o : StepEffect) (k : ℕ) (bs : List ℕ) → StepEffectWithin n o → StepEffectWithin n (runOf (at o k) bs .effect)
 unfolding runOf
 run-bounded n o k [] h = h
-run-bounded n o k (b ∷ bs) h = go (isMore (o .told .answer)) refl (λ g. run-bounded n (stepOf (o .told .control) (o .store) b) (k + 1) bs g)
+run-bounded n o k (b ∷ bs) h = go (isMore (o .answered .answer)) refl (λ g. run-bounded n (stepOf (o .answered .control) (o .store) b) (k + 1) bs g)
   where
-    go : (t : Bool) → isMore (o .told .answer) ≡ t →
-        (HeardWithin n (stepOf (o .told .control) (o .store) b) → HeardWithin n (runOf (at (stepOf (o .told .control) (o .store) b) (k + 1)) bs .heard)) → HeardWithin n (runOf (at o k) (b ∷ bs) .heard)
-    go true e ih = rw (run-on o k b bs e) (ih (rw (h .size) at (step-bounded (o .told .control) (o .store) b (h .token))))
+    go : (t : Bool) → isMore (o .answered .answer) ≡ t →
+        (StepEffectWithin n (stepOf (o .answered .control) (o .store) b) → StepEffectWithin n (runOf (at (stepOf (o .answered .control) (o .store) b) (k + 1)) bs .effect)) → StepEffectWithin n (runOf (at o k) (b ∷ bs) .effect)
+    go true e ih = rw (run-on o k b bs e) (ih (rw (h .size) at (step-bounded (o .answered .control) (o .store) b (h .token))))
     go false e ih = rw (stays (at o k) (b ∷ bs) e) h
 
 -- a next call from a token within bounds: its string or body is within bounds, and so is the token that it leaves
-pub advance-bounded : (c : Control) (s bytes : List ℕ) → TokenWithin (c .token) → HeardWithin (length s) (advanceOf c s bytes .heard)
+pub advance-bounded : (c : Control) (s bytes : List ℕ) → TokenWithin (c .token) → StepEffectWithin (length s) (advanceOf c s bytes .effect)
 unfolding advanceOf
 advance-bounded c s bytes h = run-bounded (length s) (settleOf c s) 0 bytes (settle-bounded c s h)

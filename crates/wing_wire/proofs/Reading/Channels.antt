@@ -9,11 +9,11 @@ use lib.Dec.{ltb, eqb}
 use lib.IntN.{ℤ, pos}
 use Rattle.wing_wire.specs.Escape.{decodeOf, plainOf, escapedOf}
 use Rattle.wing_wire.specs.Stream.{settleOf, firstOf, fedFrom, feedOf}
-use Rattle.wing_wire.specs.RoundTrip.{fedCalm}
+use Rattle.wing_wire.specs.RoundTrip.{fedRest}
 use Rattle.wing_wire.specs.DecoderLaws.{Handler}
 
 pub channel-set : {M : Type 0} (h : Handler M) (ch node : ℤ) (s : List ℕ) (m : M) (n : ℕ) → n ≤ 13 →
-    feedOf h (fedCalm ch node s m) (0xdf ∷ (0xd0 + n) ∷ []) ≡ fedCalm (pos n) node s m
+    feedOf h (fedRest ch node s m) (0xdf ∷ (0xd0 + n) ∷ []) ≡ fedRest (pos n) node s m
 unfolding feedOf fedFrom settleOf firstOf decodeOf plainOf escapedOf
 channel-set h ch node s m n l =
     let p : eqb (0xd0 + n) 0xdf ≡ false = ne-eqb (0xd0 + n) 0xdf (λ e. omega arith) in

@@ -11,8 +11,8 @@ use lib.ListN.{length, length-append}
 use Rattle.wing_node.specs.Bool.{if}
 use Rattle.wing_wire.specs.State.{escape, soundPending, soundEscape}
 use Rattle.wing_wire.specs.Escape.{decodeOf, escapedOf, plainOf, otherOf}
-use Rattle.wing_wire.specs.Units.{pendingUnits, byteUnits, settled, unitsOf, waiting, weight}
-use Rattle.wing_wire.specs.Stream.{Heard, isMore, pendingOf, settleOf, givenOf, firstOf, Fed, heed, calm, fedByte, fedFrom, feedOf}
+use Rattle.wing_wire.specs.Units.{pendingUnits, byteUnits, settled, unitsOf, pendingCount, weight}
+use Rattle.wing_wire.specs.Stream.{StepEffect, isMore, pendingOf, settleOf, givenOf, firstOf, Fed, handle, fedPending, fedByte, fedFrom, feedOf}
 use Rattle.wing_wire.specs.DecoderLaws.{count}
 use Rattle.wing_wire.specs.declared.state.Pending.{Pending}
 use Rattle.wing_wire.specs.declared.state.Pending.the-variants.{None, Byte}
@@ -21,62 +21,62 @@ use Rattle.wing_wire.specs.declared.state.Control.{Control}
 use Rattle.wing_wire.specs.declared.escape.Unit.{Unit}
 use Rattle.wing_wire.specs.declared.escape.Unit.the-variants.{Nothing, Bare, Appended}
 use Rattle.wing_wire.specs.declared.escape.Decoded.{Decoded}
-use Rattle.wing_wire.proofs.Reading.Pieces.{clash, settle-calm}
+use Rattle.wing_wire.proofs.Reading.Pieces.{clash, settle-not-pending}
 use Rattle.wing_wire.proofs.Reading.Branches.{branch}
 use Rattle.wing_wire.proofs.Reading.Sound.{escape-parts}
 
 -- what a byte gives and leaves weighs at most one more than what stood before it
-abbrev Light : ℕ → Decoded → Type 0
-Light n d = length (byteUnits (d .unit)) + weight (d .escape) ≤ n
+abbrev WeighsAtMost : ℕ → Decoded → Type 0
+WeighsAtMost n d = length (byteUnits (d .unit)) + weight (d .escape) ≤ n
 
 module _ (channel : ℤ) (b : ℕ) where
   abbrev waits : Escape
   waits = escape true channel None
 
-  other-light : Light 2 (otherOf waits b)
+  other-weight : WeighsAtMost 2 (otherOf waits b)
   unfolding otherOf
-  other-light = branch (Light 2) (ltZ channel (pos 0)) _ _ (λ _. omega arith) (λ _. omega arith)
+  other-weight = branch (WeighsAtMost 2) (ltZ channel (pos 0)) _ _ (λ _. omega arith) (λ _. omega arith)
 
-  escaped-light : Light 2 (escapedOf waits b)
+  escaped-weight : WeighsAtMost 2 (escapedOf waits b)
   unfolding escapedOf
-  escaped-light =
-      branch (Light 2) (eqb b 0xdf) _ _ (λ _. omega arith)
-      (λ _. branch (Light 2) (eqb b 0xde) _ _ (λ _. omega arith)
-      (λ _. branch (Light 2) (ltb b 0xd0) _ _ (λ _. other-light)
-      (λ _. branch (Light 2) (ltb b 0xde) _ _ (λ _. omega arith) (λ _. other-light))))
+  escaped-weight =
+      branch (WeighsAtMost 2) (eqb b 0xdf) _ _ (λ _. omega arith)
+      (λ _. branch (WeighsAtMost 2) (eqb b 0xde) _ _ (λ _. omega arith)
+      (λ _. branch (WeighsAtMost 2) (ltb b 0xd0) _ _ (λ _. other-weight)
+      (λ _. branch (WeighsAtMost 2) (ltb b 0xde) _ _ (λ _. omega arith) (λ _. other-weight))))
 
-  plain-light : Light 1 (plainOf (escape false channel None) b)
+  plain-weight : WeighsAtMost 1 (plainOf (escape false channel None) b)
   unfolding plainOf
-  plain-light = branch (Light 1) (eqb b 0xdf) _ _ (λ _. omega arith) (λ _. omega arith)
+  plain-weight = branch (WeighsAtMost 1) (eqb b 0xdf) _ _ (λ _. omega arith) (λ _. omega arith)
 
 -- one byte
-decode-light : (e : Escape) (b : ℕ) → Light (suc (weight (settled e))) (decodeOf (settled e) b)
+decode-weight : (e : Escape) (b : ℕ) → WeighsAtMost (suc (weight (settled e))) (decodeOf (settled e) b)
 unfolding decodeOf
-decode-light e b = go (e .escaped)
+decode-weight e b = go (e .escaped)
   where
-    go : (t : Bool) → Light (suc (weight (escape t (e .channel) None))) (decodeOf (escape t (e .channel) None) b)
-    go true = escaped-light (e .channel) b
-    go false = plain-light (e .channel) b
+    go : (t : Bool) → WeighsAtMost (suc (weight (escape t (e .channel) None))) (decodeOf (escape t (e .channel) None) b)
+    go true = escaped-weight (e .channel) b
+    go false = plain-weight (e .channel) b
 
-pending-light : (p : Pending) → length (pendingUnits p) ≡ waiting p
-pending-light None = refl
-pending-light (Byte u) = refl
+pending-weight : (p : Pending) → length (pendingUnits p) ≡ pendingCount p
+pending-weight None = refl
+pending-weight (Byte u) = refl
 
--- bytes give at most as many units as there are bytes, and what stood waiting
+-- bytes give at most as many units as there are bytes, and what the escapes still held
 pub units-few : (e : Escape) (bytes : List ℕ) → length (unitsOf e bytes .units) + weight (unitsOf e bytes .escape) ≤ length bytes + weight e
 unfolding unitsOf
-units-few e [] = omega (arith, pending-light (e .pending))
+units-few e [] = omega (arith, pending-weight (e .pending))
 units-few e (b ∷ bs) =
     let d = decodeOf (settled e) b in
     let rest = unitsOf (d .escape) bs in
-    omega (arith, units-few (d .escape) bs, decode-light e b, pending-light (e .pending), length-append (pendingUnits (e .pending)) (byteUnits (d .unit) ++ rest .units), length-append (byteUnits (d .unit)) (rest .units))
+    omega (arith, units-few (d .escape) bs, decode-weight e b, pending-weight (e .pending), length-append (pendingUnits (e .pending)) (byteUnits (d .unit) ++ rest .units), length-append (byteUnits (d .unit)) (rest .units))
 
 -- sound escapes weigh at most 1: a byte is pending only when unescaped
-pub sound-light : (e : Escape) → soundEscape e ≡ true → weight e ≤ 1
+pub sound-weight : (e : Escape) → soundEscape e ≡ true → weight e ≤ 1
 unfolding soundPending
-sound-light e s = go (e .pending) (e .escaped) refl (escape-parts e s .pending)
+sound-weight e s = go (e .pending) (e .escaped) refl (escape-parts e s .pending)
   where
-    go : (p : Pending) (t : Bool) → e .escaped ≡ t → soundPending p e ≡ true → (if t 1 0) + waiting p ≤ 1
+    go : (p : Pending) (t : Bool) → e .escaped ≡ t → soundPending p e ≡ true → (if t 1 0) + pendingCount p ≤ 1
     go None true q g = omega arith
     go None false q g = omega arith
     go (Byte u) true q g = absurd (clash (rw q at g) refl)
@@ -84,53 +84,53 @@ sound-light e s = go (e .pending) (e .escaped) refl (escape-parts e s .pending)
 
 -- for sound escapes at most one unit more than there are bytes
 pub units-sound : (e : Escape) (bytes : List ℕ) → soundEscape e ≡ true → length (unitsOf e bytes .units) ≤ length bytes + 1
-units-sound e bytes s = omega (arith, units-few e bytes, sound-light e s)
+units-sound e bytes s = omega (arith, units-few e bytes, sound-weight e s)
 
 -- ---- answers
 
-heed-one : (o : Heard) (m : ℕ) → heed count o m .memo ≤ suc m
-heed-one o m = go (isMore (o .told .answer))
+handle-one : (o : StepEffect) (m : ℕ) → handle count o m .memo ≤ suc m
+handle-one o m = go (isMore (o .answered .answer))
   where
     go : (t : Bool) → (if t m (suc m)) ≤ suc m
     go true = omega arith
     go false = omega arith
 
-calm-few : (x : Fed ℕ) → calm count x .memo + weight (calm count x .control .escape) ≤ x .memo + weight (x .control .escape)
+pending-few : (x : Fed ℕ) → fedPending count x .memo + weight (fedPending count x .control .escape) ≤ x .memo + weight (x .control .escape)
 unfolding settleOf
-calm-few x = go (x .control .escape .pending) refl
+pending-few x = go (x .control .escape .pending) refl
   where
     go : (p : Pending) → x .control .escape .pending ≡ p →
-        heed count (pendingOf p (x .control) (x .store)) (x .memo) .memo + weight (pendingOf p (x .control) (x .store) .told .control .escape) ≤ x .memo + ((if (x .control .escape .escaped) 1 0) + waiting p)
+        handle count (pendingOf p (x .control) (x .store)) (x .memo) .memo + weight (pendingOf p (x .control) (x .store) .answered .control .escape) ≤ x .memo + ((if (x .control .escape .escaped) 1 0) + pendingCount p)
     go None e = rw e (omega arith)
-    go (Byte u) e = omega (arith, heed-one (pendingOf (Byte u) (x .control) (x .store)) (x .memo))
+    go (Byte u) e = omega (arith, handle-one (pendingOf (Byte u) (x .control) (x .store)) (x .memo))
 
 first-few : (c : Control) (s : List ℕ) (b m : ℕ) → c .escape .pending ≡ None →
-    heed count (firstOf c s b) m .memo + weight (firstOf c s b .told .control .escape) ≤ suc m + weight (c .escape)
+    handle count (firstOf c s b) m .memo + weight (firstOf c s b .answered .control .escape) ≤ suc m + weight (c .escape)
 unfolding firstOf
-first-few c s b m q = go (decodeOf (c .escape) b .unit) (decodeOf (c .escape) b .escape) light
+first-few c s b m q = go (decodeOf (c .escape) b .unit) (decodeOf (c .escape) b .escape) weighed
   where
-    light : Light (suc (weight (c .escape))) (decodeOf (c .escape) b)
-    light = let z : settled (c .escape) ≡ c .escape = rw q in subst (λ (x : Escape). Light (suc (weight x)) (decodeOf x b)) z (decode-light (c .escape) b)
+    weighed : WeighsAtMost (suc (weight (c .escape))) (decodeOf (c .escape) b)
+    weighed = let z : settled (c .escape) ≡ c .escape = rw q in subst (λ (x : Escape). WeighsAtMost (suc (weight x)) (decodeOf x b)) z (decode-weight (c .escape) b)
 
-    go : (u : Unit) (e : Escape) → length (byteUnits u) + weight e ≤ suc (weight (c .escape)) → heed count (givenOf u e c s) m .memo + weight (givenOf u e c s .told .control .escape) ≤ suc m + weight (c .escape)
+    go : (u : Unit) (e : Escape) → length (byteUnits u) + weight e ≤ suc (weight (c .escape)) → handle count (givenOf u e c s) m .memo + weight (givenOf u e c s .answered .control .escape) ≤ suc m + weight (c .escape)
     go Nothing e l = omega arith
-    go (Bare u) e l = omega (arith, heed-one (givenOf (Bare u) e c s) m)
-    go (Appended u) e l = omega (arith, heed-one (givenOf (Appended u) e c s) m)
+    go (Bare u) e l = omega (arith, handle-one (givenOf (Bare u) e c s) m)
+    go (Appended u) e l = omega (arith, handle-one (givenOf (Appended u) e c s) m)
 
 fed-few : (x : Fed ℕ) (bytes : List ℕ) → x .control .escape .pending ≡ None →
     fedFrom count x bytes .memo + weight (fedFrom count x bytes .control .escape) ≤ x .memo + (length bytes + weight (x .control .escape))
 unfolding fedFrom
 fed-few x [] q = omega arith
 fed-few x (b ∷ bs) q =
-    let o = heed count (firstOf (x .control) (x .store) b) (x .memo) in
-    omega (arith, fed-few (fedByte count x b) bs (settle-calm _ _), calm-few o, first-few (x .control) (x .store) b (x .memo) q)
+    let o = handle count (firstOf (x .control) (x .store) b) (x .memo) in
+    omega (arith, fed-few (fedByte count x b) bs (settle-not-pending _ _), pending-few o, first-few (x .control) (x .store) b (x .memo) q)
 
--- a feed gives at most as many answers as there are bytes, and what stood waiting
+-- a feed gives at most as many answers as there are bytes, and what the escapes still held
 pub answers : (x : Fed ℕ) (bytes : List ℕ) →
     feedOf count x bytes .memo + weight (feedOf count x bytes .control .escape) ≤ x .memo + length bytes + weight (x .control .escape)
 unfolding feedOf
-answers x bytes = omega (arith, fed-few (calm count x) bytes (settle-calm _ _), calm-few x)
+answers x bytes = omega (arith, fed-few (fedPending count x) bytes (settle-not-pending _ _), pending-few x)
 
 -- for sound escapes at most one answer more than there are bytes
 pub answers-sound : (x : Fed ℕ) (bytes : List ℕ) → soundEscape (x .control .escape) ≡ true → feedOf count x bytes .memo ≤ x .memo + length bytes + 1
-answers-sound x bytes s = omega (arith, answers x bytes, sound-light (x .control .escape) s)
+answers-sound x bytes s = omega (arith, answers x bytes, sound-weight (x .control .escape) s)

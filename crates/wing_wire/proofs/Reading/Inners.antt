@@ -1,8 +1,8 @@
 -- Laws of the inner units of a number or a string: what one turn takes, and where they end.
-use Prim.Native.Nat.{ℕ, suc, _+_, _-_, _<_, _≤_}
+use Prim.Native.Nat.{ℕ, _+_, _-_, _<_, _≤_}
 use mathlib.Core.Bool.{Bool, true, false, not}
 use mathlib.Core.Path.{_≡_, refl}
-use mathlib.Core.List.{List, [], _∷_}
+use mathlib.Core.List.{List}
 use native.Mathlib.Numerals.{add-one}
 use borrow.Author.Tests.{leb-false}
 use lib.Dec.{leb, eqb}
@@ -10,7 +10,7 @@ use lib.ListN.{length, drop, getD, set, drop-of-length-le}
 use lib.Seq.{drop-cons}
 use Rattle.wing_node.specs.Bool.{if}
 use Rattle.wing_wire.specs.Unit.{shiftIn}
-use Rattle.wing_wire.specs.Plain.{isInner, ahead, numberAhead, gone, stringAhead}
+use Rattle.wing_wire.specs.Plain.{isInner, tokenAt, numberAhead, aheadEffect, stringAhead}
 use Rattle.wing_wire.specs.declared.token.Class.{Class}
 use Rattle.wing_wire.specs.declared.state.Token.the-variants.{Number, String}
 use Rattle.wing_wire.proofs.Reading.Pieces.{clash}
@@ -44,11 +44,11 @@ module _ (bytes : List ℕ) (n : ℕ) where
     unfolding numberAhead
     number-turn h e = rw (drop-cons bytes n 0 h, e, add-one n)
 
-    pub number-stops : n < length bytes → isInner left (getD bytes n 0) ≡ false → numberAhead class left v n (drop n bytes) ≡ ahead (Number class left v) n
+    pub number-stops : n < length bytes → isInner left (getD bytes n 0) ≡ false → numberAhead class left v n (drop n bytes) ≡ tokenAt (Number class left v) n
     unfolding numberAhead
     number-stops h e = rw (drop-cons bytes n 0 h, e)
 
-    pub number-ends : length bytes ≤ n → numberAhead class left v n (drop n bytes) ≡ ahead (Number class left v) n
+    pub number-ends : length bytes ≤ n → numberAhead class left v n (drop n bytes) ≡ tokenAt (Number class left v) n
     unfolding numberAhead
     number-ends h = rw (drop-of-length-le bytes h)
 
@@ -58,10 +58,10 @@ module _ (bytes : List ℕ) (n : ℕ) where
     unfolding stringAhead
     string-turn h e = rw (drop-cons bytes n 0 h, e, add-one n)
 
-    pub string-stops : n < length bytes → isInner left (getD bytes n 0) ≡ false → stringAhead want left s n (drop n bytes) ≡ gone (ahead (String want left) n) s
+    pub string-stops : n < length bytes → isInner left (getD bytes n 0) ≡ false → stringAhead want left s n (drop n bytes) ≡ aheadEffect (tokenAt (String want left) n) s
     unfolding stringAhead
     string-stops h e = rw (drop-cons bytes n 0 h, e)
 
-    pub string-ends : length bytes ≤ n → stringAhead want left s n (drop n bytes) ≡ gone (ahead (String want left) n) s
+    pub string-ends : length bytes ≤ n → stringAhead want left s n (drop n bytes) ≡ aheadEffect (tokenAt (String want left) n) s
     unfolding stringAhead
     string-ends h = rw (drop-of-length-le bytes h)

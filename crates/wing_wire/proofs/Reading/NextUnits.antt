@@ -7,13 +7,13 @@ use borrow.Author.Tests.{ltb-true}
 use lib.Dec.{ltb}
 use lib.ListN.{length, drop, getD}
 use lib.Seq.{drop-cons}
-use Rattle.wing_wire.specs.Escape.{decodeOf, nextUnit, byteNext, pendingNext, decodeNextOf}
-use Rattle.wing_wire.specs.Units.{Units, units, pendingUnits, byteUnits, settled, unitsOf, UnitsByStep}
+use Rattle.wing_wire.specs.Escape.{decodeOf, byteNext, pendingNext, decodeNextOf}
+use Rattle.wing_wire.specs.Units.{Units, units, byteUnits, settled, unitsOf, UnitsByStep}
 use Rattle.wing_wire.specs.declared.state.Pending.{Pending}
 use Rattle.wing_wire.specs.declared.state.Pending.the-variants.{None, Byte}
 use Rattle.wing_wire.specs.declared.state.Escape.{Escape}
 use Rattle.wing_wire.specs.declared.escape.Unit.{Unit}
-use Rattle.wing_wire.specs.declared.escape.Unit.the-variants.{Nothing, Appended}
+use Rattle.wing_wire.specs.declared.escape.Unit.the-variants.{Appended}
 use Rattle.wing_wire.specs.declared.escape.NextUnit.{NextUnit}
 use Rattle.wing_wire.proofs.Reading.Branches.{branch}
 

@@ -13,11 +13,11 @@ use Rattle.wing_node.specs.Signed.{signed, InBits}
 use Rattle.wing_node.specs.Utf8.{utf8}
 use Rattle.wing_node.proofs.Numerals.Signs.{signed-in}
 use Rattle.wing_wire.specs.Token.{ruleOf}
-use Rattle.wing_wire.specs.State.{escape, freshState}
+use Rattle.wing_wire.specs.State.{bodyLimit, escape, freshState}
 use Rattle.wing_wire.specs.Escape.{decodeOf, escapedOf, plainOf, otherOf}
-use Rattle.wing_wire.specs.Unit.{gives, singleOf, isString, tokenOf, beginOf, countOf, numberOf, shiftIn, numberUnit, Out, cleared, stringDone, stringUnit, keeps, bodyDone, bodyNext, bodyUnit, unitOf}
-use Rattle.wing_wire.specs.Stream.{Heard, isMore, pendingOf, settleOf, givenOf, firstOf, followOf, stepOf, runOf, advanceOf, released, Fed, heed, calm, fedByte, fedFrom, feedOf}
-use Rattle.wing_wire.specs.Range.{AreBytes, noBytes, byteThen, PendingByte, noPending, pendingByte, NumberIn, Stored, InRange, AnswerIn}
+use Rattle.wing_wire.specs.Unit.{completes, singleOf, isString, tokenOf, beginOf, countOf, numberOf, shiftIn, numberUnit, UnitEffect, cleared, stringDone, stringUnit, keeps, bodyDone, bodyNext, bodyUnit, unitOf}
+use Rattle.wing_wire.specs.Stream.{StepEffect, pendingOf, settleOf, givenOf, firstOf, released, Fed, handle, fedPending, fedByte, fedFrom, feedOf}
+use Rattle.wing_wire.specs.Range.{AreBytes, noBytes, byteThen, PendingByte, noPending, pendingByte, NumberIn, StoreIn, InRange, AnswerIn}
 use Rattle.wing_wire.specs.declared.token.Class.{Class}
 use Rattle.wing_wire.specs.declared.token.Class.the-variants.{NoEvent, Integer, String, Length, Int16, Int32, Float, Node, End, Count, ZeroCount}
 use Rattle.wing_wire.specs.declared.state.Token.{Token}
@@ -32,7 +32,6 @@ use Rattle.wing_wire.specs.declared.escape.Decoded.{Decoded}
 use Rattle.wing_wire.specs.declared.unit.Answer.{Answer}
 use Rattle.wing_wire.specs.declared.unit.Answer.the-variants.{More, Integer as anInteger, Float as aFloat, String as aString, Body as aBody, End as anEnd, Refused}
 use Rattle.wing_wire.specs.declared.unit.Taken.{Taken}
-use Rattle.wing_wire.proofs.Reading.Pieces.{at, stays, run-on}
 use Rattle.wing_wire.proofs.Reading.Branches.{branch}
 use Rattle.wing_wire.proofs.Reading.Sound.{UnitByte, noUnit, bare, appended}
 
@@ -43,7 +42,7 @@ bytes-set [] k u h noBytes = noBytes
 bytes-set (b ∷ s) zero u h (byteThen l ls) = byteThen h ls
 bytes-set (b ∷ s) (suc k) u h (byteThen l ls) = byteThen l (bytes-set s k u h ls)
 
-bytes-drop : (n : ℕ) (s : List ℕ) → AreBytes s → AreBytes (drop n s)
+pub bytes-drop : (n : ℕ) (s : List ℕ) → AreBytes s → AreBytes (drop n s)
 bytes-drop zero s h = h
 bytes-drop (suc n) [] h = h
 bytes-drop (suc n) (b ∷ s) (byteThen l ls) = bytes-drop n s ls
@@ -52,17 +51,17 @@ bytes-cleared : (k : ℕ) (s : List ℕ) → AreBytes s → AreBytes (replicate 
 bytes-cleared zero s h = h
 bytes-cleared (suc k) s h = let z : 0 < 256 = omega arith in byteThen z (bytes-cleared k s h)
 
-stored-set : (s : List ℕ) (k u : ℕ) → u < 256 → Stored s → Stored (set s k u)
+stored-set : (s : List ℕ) (k u : ℕ) → u < 256 → StoreIn s → StoreIn (set s k u)
 stored-set s k u h g = record { size = length-set s k u ∙ g .size; bytes = bytes-set s k u h (g .bytes) }
 
-stored-cleared : (n : ℕ) (s : List ℕ) → Stored s → Stored (cleared n s)
+stored-cleared : (n : ℕ) (s : List ℕ) → StoreIn s → StoreIn (cleared n s)
 stored-cleared n s g =
     record {
       size = length-front s (replicate (length (take n s)) 0) n (length-replicate (length (take n s)) 0) ∙ g .size;
       bytes = bytes-cleared (length (take n s)) (drop n s) (bytes-drop n s (g .bytes));
     }
 
-stored-released : (a : Answer) (s : List ℕ) → Stored s → Stored (released a s)
+stored-released : (a : Answer) (s : List ℕ) → StoreIn s → StoreIn (released a s)
 stored-released More s g = g
 stored-released (anInteger x) s g = g
 stored-released (aFloat x) s g = g
@@ -80,8 +79,8 @@ pub record TakenIn (t : Taken) : Type 0 where
   pub answer : AnswerIn (t .answer)
 
 -- the numbers and the store after a unit
-abbrev pub OutIn : Out → Type 0
-OutIn o = TakenIn (o .taken) × Stored (o .store)
+abbrev pub UnitEffectIn : UnitEffect → Type 0
+UnitEffectIn o = TakenIn (o .taken) × StoreIn (o .store)
 
 signed-short : (v : ℕ) → v < 0x10000 → InBits 31 (signed 15 v)
 signed-short v h = branch (InBits 31) (ltb v (2 ^ 15)) _ _ (λ e. omega arith) (λ e. omega arith)
@@ -90,7 +89,7 @@ module _ (node : ℤ) (nodeIn : InBits 31 node) where
   plainly : (t : Token) (a : Answer) → NumberIn t → AnswerIn a → TakenIn (record { answer = a; node = node; token = t })
   plainly t a k l = record { node = nodeIn; number = k; answer = l }
 
-  single-in : (class : Class) (t : ℕ) → t < 256 → TakenIn (gives node (singleOf class t))
+  single-in : (class : Class) (t : ℕ) → t < 256 → TakenIn (completes node (singleOf class t))
   unfolding singleOf
   single-in NoEvent t h = plainly Between More tt tt
   single-in Integer t h = plainly Between (anInteger (pos t)) tt (omega arith)
@@ -136,31 +135,31 @@ module _ (node : ℤ) (nodeIn : InBits 31 node) where
       let l : shiftIn v u < 2 ^ 32 = omega arith in
       branch TakenIn (leb left 1) _ _ (λ _. number-in class (shiftIn v u) l) (λ _. plainly (Number class (left - 1) (shiftIn v u)) More l tt)
 
-  done-in : (want : ℕ) (s : List ℕ) → Stored s → OutIn (stringDone node want s)
+  done-in : (want : ℕ) (s : List ℕ) → StoreIn s → UnitEffectIn (stringDone node want s)
   unfolding stringDone
   done-in want s g =
-      branch OutIn (utf8 (take want s)) _ _ (λ _. (plainly Between (aString want) tt tt, g)) (λ _. (plainly Between (Refused 1) tt tt, stored-cleared want s g))
+      branch UnitEffectIn (utf8 (take want s)) _ _ (λ _. (plainly Between (aString want) tt tt, g)) (λ _. (plainly Between (Refused 1) tt tt, stored-cleared want s g))
 
-  string-in : (want left u : ℕ) (s : List ℕ) → u < 256 → Stored s → OutIn (stringUnit node want left s u)
+  string-in : (want left u : ℕ) (s : List ℕ) → u < 256 → StoreIn s → UnitEffectIn (stringUnit node want left s u)
   unfolding stringUnit
   string-in want left u s h g =
       let k = stored-set s (want - left) u h g in
-      branch OutIn (leb left 1) _ _ (λ _. done-in want (set s (want - left) u) k) (λ _. (plainly (InString want (left - 1)) More tt tt, k))
+      branch UnitEffectIn (leb left 1) _ _ (λ _. done-in want (set s (want - left) u) k) (λ _. (plainly (InString want (left - 1)) More tt tt, k))
 
   body-next-in : (want left stored : ℕ) → TakenIn (bodyNext node want left stored)
   unfolding bodyNext bodyDone
   body-next-in want left stored =
       branch TakenIn (leb left 1) _ _
-      (λ _. branch TakenIn (leb want 4096) _ _ (λ _. plainly Between (aBody stored) tt tt) (λ _. plainly Between (Refused 2) tt tt))
+      (λ _. branch TakenIn (leb want bodyLimit) _ _ (λ _. plainly Between (aBody stored) tt tt) (λ _. plainly Between (Refused 2) tt tt))
       (λ _. plainly (InBody want (left - 1) stored) More tt tt)
 
-  body-in : (want left stored u : ℕ) (s : List ℕ) (a : Bool) → u < 256 → Stored s → OutIn (bodyUnit node want left stored s u a)
+  body-in : (want left stored u : ℕ) (s : List ℕ) (a : Bool) → u < 256 → StoreIn s → UnitEffectIn (bodyUnit node want left stored s u a)
   unfolding bodyUnit
   body-in want left stored u s a h g =
-      branch OutIn (keeps want stored a) _ _ (λ _. (body-next-in want left (stored + 1), stored-set s stored u h g)) (λ _. (body-next-in want left stored, g))
+      branch UnitEffectIn (keeps want stored a) _ _ (λ _. (body-next-in want left (stored + 1), stored-set s stored u h g)) (λ _. (body-next-in want left stored, g))
 
   -- a unit that is a byte keeps the numbers and the store in range
-  pub unit-in : (t : Token) (s : List ℕ) (u : ℕ) (a : Bool) → u < 256 → Stored s → OutIn (unitOf node t s u a)
+  pub unit-in : (t : Token) (s : List ℕ) (u : ℕ) (a : Bool) → u < 256 → StoreIn s → UnitEffectIn (unitOf node t s u a)
   unfolding unitOf
   unit-in Between s u a h g = (begin-in u h, g)
   unit-in (Number class left v) s u a h g = (number-unit-in class left v u h, g)
@@ -196,36 +195,36 @@ module _ (e : Escape) (b : ℕ) (h : b < 256) (g : PendingByte (e .pending)) whe
 -- ---- runs and feeds
 
 -- an answer, the control after it, and the store that holds its bytes
-pub record HeardIn (o : Heard) : Type 0 where
-  pub pending : PendingByte (o .told .control .escape .pending)
-  pub node : InBits 31 (o .told .control .node)
-  pub number : NumberIn (o .told .control .token)
-  pub answer : AnswerIn (o .told .answer)
-  pub store : Stored (o .store)
+pub record StepEffectIn (o : StepEffect) : Type 0 where
+  pub pending : PendingByte (o .answered .control .escape .pending)
+  pub node : InBits 31 (o .answered .control .node)
+  pub number : NumberIn (o .answered .control .token)
+  pub answer : AnswerIn (o .answered .answer)
+  pub store : StoreIn (o .store)
 
 -- the state once the answer's bytes are given out
-pub after-in : (o : Heard) → HeardIn o → InRange (o .told .control) (released (o .told .answer) (o .store))
-after-in o g = record { pending = g .pending; node = g .node; number = g .number; store = stored-released (o .told .answer) (o .store) (g .store) }
+pub after-in : (o : StepEffect) → StepEffectIn o → InRange (o .answered .control) (released (o .answered .answer) (o .store))
+after-in o g = record { pending = g .pending; node = g .node; number = g .number; store = stored-released (o .answered .answer) (o .store) (g .store) }
 
 -- the pending byte as a unit
-pub settle-in : (c : Control) (s : List ℕ) → InRange c s → HeardIn (settleOf c s)
+pub settle-in : (c : Control) (s : List ℕ) → InRange c s → StepEffectIn (settleOf c s)
 unfolding settleOf
 settle-in c s g = go (c .escape .pending) refl (g .pending)
   where
-    go : (p : Pending) → c .escape .pending ≡ p → PendingByte p → HeardIn (pendingOf p c s)
+    go : (p : Pending) → c .escape .pending ≡ p → PendingByte p → StepEffectIn (pendingOf p c s)
     go None e k = record { pending = g .pending; node = g .node; number = g .number; answer = tt; store = g .store }
     go (Byte u) e (pendingByte l) =
         let o = unit-in (c .node) (g .node) (c .token) s u true l (g .store) in
         record { pending = noPending; node = o .0 .node; number = o .0 .number; answer = o .0 .answer; store = o .1 }
 
 -- the unit that a byte gives
-pub first-in : (c : Control) (s : List ℕ) (b : ℕ) → b < 256 → InRange c s → HeardIn (firstOf c s b)
+pub first-in : (c : Control) (s : List ℕ) (b : ℕ) → b < 256 → InRange c s → StepEffectIn (firstOf c s b)
 unfolding firstOf
 first-in c s b h g =
     let d = decode-in (c .escape) b h (g .pending) in
     go (decodeOf (c .escape) b .unit) (d .unit) (decodeOf (c .escape) b .escape) (d .pending)
   where
-    go : (u : Unitʷ) → UnitByte u → (e : Escape) → PendingByte (e .pending) → HeardIn (givenOf u e c s)
+    go : (u : Unitʷ) → UnitByte u → (e : Escape) → PendingByte (e .pending) → StepEffectIn (givenOf u e c s)
     go Nothing noUnit e k = record { pending = k; node = g .node; number = g .number; answer = tt; store = g .store }
     go (Bare u) (bare l) e k =
         let o = unit-in (c .node) (g .node) (c .token) s u false l (g .store) in
@@ -234,31 +233,6 @@ first-in c s b h g =
         let o = unit-in (c .node) (g .node) (c .token) s u true l (g .store) in
         record { pending = k; node = o .0 .node; number = o .0 .number; answer = o .0 .answer; store = o .1 }
 
-same-in : (o : Heard) → HeardIn o → InRange (o .told .control) (o .store)
-same-in o g = record { pending = g .pending; node = g .node; number = g .number; store = g .store }
-
-step-in : (c : Control) (s : List ℕ) (b : ℕ) → b < 256 → InRange c s → HeardIn (stepOf c s b)
-unfolding followOf
-step-in c s b h g =
-    let o = firstOf c s b in
-    let k = first-in c s b h g in
-    branch HeardIn (isMore (o .told .answer)) _ _ (λ _. settle-in (o .told .control) (o .store) (same-in o k)) (λ _. k)
-
-run-in : (o : Heard) (n : ℕ) (bs : List ℕ) → AreBytes bs → HeardIn o → HeardIn (runOf (at o n) bs .heard)
-unfolding runOf
-run-in o n [] noBytes k = k
-run-in o n (b ∷ bs) (byteThen h hs) k = go (isMore (o .told .answer)) refl (λ g. run-in (stepOf (o .told .control) (o .store) b) (n + 1) bs hs g)
-  where
-    go : (t : Bool) → isMore (o .told .answer) ≡ t →
-        (HeardIn (stepOf (o .told .control) (o .store) b) → HeardIn (runOf (at (stepOf (o .told .control) (o .store) b) (n + 1)) bs .heard)) → HeardIn (runOf (at o n) (b ∷ bs) .heard)
-    go true e ih = rw (run-on o n b bs e) (ih (step-in (o .told .control) (o .store) b h (same-in o k)))
-    go false e ih = rw (stays (at o n) (b ∷ bs) e) k
-
--- the answer of a next call on bytes is in range, and so are the control and the store after it
-pub advance-in : (c : Control) (s bytes : List ℕ) → AreBytes bytes → InRange c s → HeardIn (advanceOf c s bytes .heard)
-unfolding advanceOf
-advance-in c s bytes h g = run-in (settleOf c s) 0 bytes h (settle-in c s g)
-
 zero-bytes : (k : ℕ) → AreBytes (replicate k 0)
 zero-bytes zero = noBytes
 zero-bytes (suc k) = let z : 0 < 256 = omega arith in byteThen z (zero-bytes k)
@@ -266,20 +240,20 @@ zero-bytes (suc k) = let z : 0 < 256 = omega arith in byteThen z (zero-bytes k)
 -- the fresh state is in range
 pub fresh-in : InRange (freshState .control) (freshState .store)
 unfolding freshState
-fresh-in = record { pending = noPending; node = omega arith; number = tt; store = record { size = length-replicate {A = ℕ} 4096 0; bytes = zero-bytes 4096 } }
+fresh-in = record { pending = noPending; node = omega arith; number = tt; store = record { size = length-replicate {A = ℕ} bodyLimit 0; bytes = zero-bytes bodyLimit } }
 
 module _ {M : Type 0} (h : ℤ → Answer → List ℕ → M → M) where
-  calm-in : (x : Fed M) → InRange (x .control) (x .store) → InRange (calm h x .control) (calm h x .store)
-  calm-in x g = after-in (settleOf (x .control) (x .store)) (settle-in (x .control) (x .store) g)
+  pending-in : (x : Fed M) → InRange (x .control) (x .store) → InRange (fedPending h x .control) (fedPending h x .store)
+  pending-in x g = after-in (settleOf (x .control) (x .store)) (settle-in (x .control) (x .store) g)
 
   fed-in : (x : Fed M) (bytes : List ℕ) → AreBytes bytes → InRange (x .control) (x .store) → InRange (fedFrom h x bytes .control) (fedFrom h x bytes .store)
   unfolding fedFrom
   fed-in x [] noBytes g = g
   fed-in x (b ∷ bs) (byteThen l ls) g =
       let o = firstOf (x .control) (x .store) b in
-      fed-in (fedByte h x b) bs ls (calm-in (heed h o (x .memo)) (after-in o (first-in (x .control) (x .store) b l g)))
+      fed-in (fedByte h x b) bs ls (pending-in (handle h o (x .memo)) (after-in o (first-in (x .control) (x .store) b l g)))
 
   -- the control and the store after a feed of bytes are in range
   pub range-feed : (x : Fed M) (bytes : List ℕ) → AreBytes bytes → InRange (x .control) (x .store) → InRange (feedOf h x bytes .control) (feedOf h x bytes .store)
   unfolding feedOf
-  range-feed x bytes l g = fed-in (calm h x) bytes l (calm-in x g)
+  range-feed x bytes l g = fed-in (fedPending h x) bytes l (pending-in x g)

@@ -14,10 +14,10 @@ use lib.Seq.{drop-drop, drop-set-lt}
 use Rattle.wing_node.specs.Bool.{if}
 use Rattle.wing_node.specs.Utf8.{utf8}
 use Rattle.wing_wire.specs.Token.{ruleOf, widthOf}
-use Rattle.wing_wire.specs.State.{and, zeros, escape, soundPending, soundEscape, underway, soundNumber, soundString, soundBody, soundCounts, storedBy, soundToken, soundState, freshState}
+use Rattle.wing_wire.specs.State.{bodyLimit, and, zeros, escape, soundPending, soundEscape, underway, soundNumber, soundString, soundBody, soundCounts, storedBy, soundToken, soundState, freshState}
 use Rattle.wing_wire.specs.Escape.{decoded, ended, decodeOf, escapedOf, plainOf, otherOf, byteNext, pendingNext, decodeNextOf, DecodeNextSound}
-use Rattle.wing_wire.specs.Unit.{gives, singleOf, isString, tokenOf, beginOf, countOf, numberOf, shiftIn, numberUnit, Out, cleared, stringDone, stringUnit, keeps, bodyDone, bodyNext, bodyUnit, unitOf}
-use Rattle.wing_wire.specs.Stream.{Heard, isMore, pendingOf, settleOf, givenOf, firstOf, followOf, stepOf, runOf, advanceOf, released, Fed, calm, fedByte, fedFrom, feedOf}
+use Rattle.wing_wire.specs.Unit.{completes, singleOf, isString, tokenOf, beginOf, countOf, numberOf, shiftIn, numberUnit, UnitEffect, cleared, stringDone, stringUnit, keeps, bodyDone, bodyNext, bodyUnit, unitOf}
+use Rattle.wing_wire.specs.Stream.{StepEffect, isMore, pendingOf, settleOf, givenOf, firstOf, followOf, stepOf, runOf, advanceOf, released, Fed, fedPending, fedByte, fedFrom, feedOf}
 use Rattle.wing_wire.specs.Reader.{nextFrom, nextOf}
 use Rattle.wing_wire.specs.Range.{AreBytes, noBytes, byteThen, PendingByte, noPending, pendingByte, Within, TokenWithin}
 use Rattle.wing_wire.specs.declared.token.Class.{Class}
@@ -39,8 +39,8 @@ use Rattle.wing_wire.specs.declared.unit.Taken.{Taken}
 use Rattle.wing_wire.specs.declared.reader.Reply.{Reply}
 use Rattle.wing_wire.proofs.Reading.Branches.{branch, and-left, and-right}
 use Rattle.wing_wire.proofs.Reading.Bounds.{Fits, rule-fits, unit-bounded}
-use Rattle.wing_wire.proofs.Reading.Pieces.{at, clash, settle-calm, stays, run-on, released-more}
-use Rattle.wing_wire.proofs.Reading.Steps.{step-calm}
+use Rattle.wing_wire.proofs.Reading.Pieces.{at, clash, settle-not-pending, stays, run-on, released-more}
+use Rattle.wing_wire.proofs.Reading.Steps.{step-not-pending}
 
 -- ---- zeros
 
@@ -90,7 +90,7 @@ pub record InText (want left : ℕ) (s : List ℕ) : Type 0 where
 pub record InBytes (want left stored : ℕ) (s : List ℕ) : Type 0 where
   pub some : 1 ≤ left
   pub fits : left ≤ want
-  pub room : stored ≤ (if (leb want 4096) (want - left) 0)
+  pub room : stored ≤ (if (leb want bodyLimit) (want - left) 0)
   pub unused : Zero (drop stored s)
 
 -- the token and the store are sound
@@ -132,13 +132,13 @@ parts (InString want left) s e =
       unused = and-right (soundCounts (InString want left)) (zeros (drop (want - left) s)) e;
     }
 parts (InBody want left stored) s e =
-    let held : Bool = if (leb want 4096) (leb stored (want - left)) (eqb stored 0) in
+    let in-count : Bool = if (leb want bodyLimit) (leb stored (want - left)) (eqb stored 0) in
     let c = and-left (soundCounts (InBody want left stored)) (zeros (drop stored s)) e in
-    let u = underway-parts left want (and-left (underway left want) held c) in
+    let u = underway-parts left want (and-left (underway left want) in-count c) in
     record {
       some = u .0;
       fits = u .1;
-      room = room-parts (leb want 4096) stored (want - left) (and-right (underway left want) held c);
+      room = room-parts (leb want bodyLimit) stored (want - left) (and-right (underway left want) in-count c);
       unused = and-right (soundCounts (InBody want left stored)) (zeros (drop stored s)) e;
     }
 
@@ -153,7 +153,7 @@ tested Between s g = g
 tested (Number class left v) s g = rw (le-leb _ _ (g .some), le-leb _ _ (g .fits), lt-ltb _ _ (g .small)) (g .unused)
 tested (InString want left) s g = rw (le-leb _ _ (g .some), le-leb _ _ (g .fits), le-leb _ _ (g .most)) (g .unused)
 tested (InBody want left stored) s g =
-    rw (le-leb _ _ (g .some), le-leb _ _ (g .fits), room-tested (leb want 4096) stored (want - left) (g .room)) (g .unused)
+    rw (le-leb _ _ (g .some), le-leb _ _ (g .fits), room-tested (leb want bodyLimit) stored (want - left) (g .room)) (g .unused)
 
 -- ---- a unit
 
@@ -162,10 +162,10 @@ abbrev pub After : List ℕ → Taken → Type 0
 After s t = Sound (t .token) (released (t .answer) s)
 
 -- the same of a unit's outcome
-abbrev pub AfterOut : Out → Type 0
-AfterOut o = After (o .store) (o .taken)
+abbrev pub AfterUnitEffect : UnitEffect → Type 0
+AfterUnitEffect o = After (o .store) (o .taken)
 
-single-sound : (node : ℤ) (class : Class) (t : ℕ) (s : List ℕ) → Zero s → After s (gives node (singleOf class t))
+single-sound : (node : ℤ) (class : Class) (t : ℕ) (s : List ℕ) → Zero s → After s (completes node (singleOf class t))
 unfolding singleOf
 single-sound node NoEvent t s z = z
 single-sound node Integer t s z = z
@@ -233,72 +233,72 @@ number-unit-sound node class left v u s h g =
     let z : widthOf class - (left - 1) ≡ suc k = omega arith in
     record { some = omega arith; fits = omega arith; small = rw (z, pow-suc 256 k) (omega (arith, mod-le v 0x1000000)); unused = g .unused })
 
-done-sound : (node : ℤ) (want : ℕ) (s : List ℕ) → Zero (drop want s) → AfterOut (stringDone node want s)
+done-sound : (node : ℤ) (want : ℕ) (s : List ℕ) → Zero (drop want s) → AfterUnitEffect (stringDone node want s)
 unfolding stringDone
 done-sound node want s z =
     let c : Zero (cleared want s) = zero-cleared (length (take want s)) (drop want s) z in
-    branch AfterOut (utf8 (take want s)) _ _ (λ _. c) (λ _. c)
+    branch AfterUnitEffect (utf8 (take want s)) _ _ (λ _. c) (λ _. c)
 
-string-unit-sound : (node : ℤ) (want left u : ℕ) (s : List ℕ) → InText want left s → AfterOut (stringUnit node want left s u)
+string-unit-sound : (node : ℤ) (want left u : ℕ) (s : List ℕ) → InText want left s → AfterUnitEffect (stringUnit node want left s u)
 unfolding stringUnit
 string-unit-sound node want left u s g =
     let some = g .some in
     let fits = g .fits in
-    branch AfterOut (leb left 1) _ _
+    branch AfterUnitEffect (leb left 1) _ _
     (λ e. done-sound node want (set s (want - left) u) (zero-set (want - left) want u s (omega arith) (g .unused)))
     (λ e.
     let more : 1 < left = leb-false _ _ e in
     record { some = omega arith; fits = omega arith; most = g .most; unused = zero-set (want - left) (want - (left - 1)) u s (omega arith) (g .unused) })
 
 -- a body after a unit, by what is stored of it
-body-next-sound : (node : ℤ) (want left stored : ℕ) (s : List ℕ) → 1 ≤ left → left ≤ want → stored ≤ (if (leb want 4096) (want - (left - 1)) 0) → Zero (drop stored s) →
+body-next-sound : (node : ℤ) (want left stored : ℕ) (s : List ℕ) → 1 ≤ left → left ≤ want → stored ≤ (if (leb want bodyLimit) (want - (left - 1)) 0) → Zero (drop stored s) →
     After s (bodyNext node want left stored)
 unfolding bodyNext bodyDone
 body-next-sound node want left stored s a b r z =
     branch (After s) (leb left 1) _ _
     (λ e.
-    branch (After s) (leb want 4096) _ _ (λ _. zero-cleared (length (take stored s)) (drop stored s) z) (λ q.
+    branch (After s) (leb want bodyLimit) _ _ (λ _. zero-cleared (length (take stored s)) (drop stored s) z) (λ q.
     let none : stored ≤ 0 = rw q at r in
     zero-after stored 0 s none z))
     (λ e.
     let more : 1 < left = leb-false _ _ e in
     record { some = omega arith; fits = omega arith; room = r; unused = z })
 
-keeps-small : (want stored : ℕ) (a : Bool) → keeps want stored a ≡ true → leb want 4096 ≡ true
+keeps-small : (want stored : ℕ) (a : Bool) → keeps want stored a ≡ true → leb want bodyLimit ≡ true
 unfolding keeps
 keeps-small want stored false e = absurd (clash e refl)
-keeps-small want stored true e = go (leb want 4096) refl
+keeps-small want stored true e = go (leb want bodyLimit) refl
   where
-    go : (q : Bool) → leb want 4096 ≡ q → leb want 4096 ≡ true
+    go : (q : Bool) → leb want bodyLimit ≡ q → leb want bodyLimit ≡ true
     go true p = p
     go false p = absurd (clash (rw p at e) refl)
 
 -- what is stored of a body after a unit that is kept, and after one that is not
-one-more : (want left stored : ℕ) {s : List ℕ} (a : Bool) → keeps want stored a ≡ true → InBytes want left stored s → stored + 1 ≤ (if (leb want 4096) (want - (left - 1)) 0)
+one-more : (want left stored : ℕ) {s : List ℕ} (a : Bool) → keeps want stored a ≡ true → InBytes want left stored s → stored + 1 ≤ (if (leb want bodyLimit) (want - (left - 1)) 0)
 one-more want left stored a e g =
-    let q : leb want 4096 ≡ true = keeps-small want stored a e in
+    let q : leb want bodyLimit ≡ true = keeps-small want stored a e in
     let r : stored ≤ want - left = rw q at (g .room) in
     let some = g .some in
     let fits = g .fits in
     let r′ : stored + 1 ≤ want - (left - 1) = omega arith in
     rw q r′
 
-no-more : (want left stored : ℕ) → stored ≤ (if (leb want 4096) (want - left) 0) → stored ≤ (if (leb want 4096) (want - (left - 1)) 0)
-no-more want left stored = go (leb want 4096)
+no-more : (want left stored : ℕ) → stored ≤ (if (leb want bodyLimit) (want - left) 0) → stored ≤ (if (leb want bodyLimit) (want - (left - 1)) 0)
+no-more want left stored = go (leb want bodyLimit)
   where
     go : (q : Bool) → stored ≤ (if q (want - left) 0) → stored ≤ (if q (want - (left - 1)) 0)
     go true r = omega arith
     go false r = r
 
-body-unit-sound : (node : ℤ) (want left stored u : ℕ) (s : List ℕ) (a : Bool) → InBytes want left stored s → AfterOut (bodyUnit node want left stored s u a)
+body-unit-sound : (node : ℤ) (want left stored u : ℕ) (s : List ℕ) (a : Bool) → InBytes want left stored s → AfterUnitEffect (bodyUnit node want left stored s u a)
 unfolding bodyUnit
 body-unit-sound node want left stored u s a g =
-    branch AfterOut (keeps want stored a) _ _
+    branch AfterUnitEffect (keeps want stored a) _ _
     (λ e. body-next-sound node want left (stored + 1) (set s stored u) (g .some) (g .fits) (one-more want left stored a e g) (zero-set stored (stored + 1) u s (omega arith) (g .unused)))
     (λ e. body-next-sound node want left stored s (g .some) (g .fits) (no-more want left stored (g .room)) (g .unused))
 
 -- a unit keeps the token and the store sound
-pub unit-sound : (node : ℤ) (t : Token) (s : List ℕ) (u : ℕ) (a : Bool) → u < 256 → Sound t s → AfterOut (unitOf node t s u a)
+pub unit-sound : (node : ℤ) (t : Token) (s : List ℕ) (u : ℕ) (a : Bool) → u < 256 → Sound t s → AfterUnitEffect (unitOf node t s u a)
 unfolding unitOf
 unit-sound node Between s u a h g = begin-sound node u s g
 unit-sound node (Number class left v) s u a h g = number-unit-sound node class left v u s h g
@@ -307,23 +307,23 @@ unit-sound node (InBody want left stored) s u a h g = body-unit-sound node want 
 
 -- ---- what is given out is within bounds
 
-tame : (t : Token) (s : List ℕ) → Sound t s → TokenWithin t
-tame Between s g = tt
-tame (Number class left v) s g = tt
-tame (InString want left) s g = g .most
-tame (InBody want left stored) s g = go (leb want 4096) refl (g .room)
+token-within : (t : Token) (s : List ℕ) → Sound t s → TokenWithin t
+token-within Between s g = tt
+token-within (Number class left v) s g = tt
+token-within (InString want left) s g = g .most
+token-within (InBody want left stored) s g = go (leb want bodyLimit) refl (g .room)
   where
-    go : (t : Bool) → leb want 4096 ≡ t → stored ≤ (if t (want - left) 0) → stored ≤ 4096
-    go true e h = let l = leb-true want 4096 e in omega arith
+    go : (t : Bool) → leb want bodyLimit ≡ t → stored ≤ (if t (want - left) 0) → stored ≤ bodyLimit
+    go true e h = let l = leb-true want bodyLimit e in omega arith
     go false e h = omega arith
 
 -- a sound state's token is within bounds
-pub sound-tame : (s : State) → soundState s ≡ true → TokenWithin (s .control .token)
+pub sound-within : (s : State) → soundState s ≡ true → TokenWithin (s .control .token)
 unfolding soundState
-sound-tame s e = tame (s .control .token) (s .store) (parts (s .control .token) (s .store) (and-right (soundEscape (s .control .escape)) (soundToken (s .control .token) (s .store)) e))
+sound-within s e = token-within (s .control .token) (s .store) (parts (s .control .token) (s .store) (and-right (soundEscape (s .control .escape)) (soundToken (s .control .token) (s .store)) e))
 
 unit-within : (node : ℤ) (t : Token) (s : List ℕ) (u : ℕ) (a : Bool) → Sound t s → Within (unitOf node t s u a .taken .answer) (unitOf node t s u a .store)
-unit-within node t s u a g = unit-bounded node t s u a (tame t s g) .taken .within
+unit-within node t s u a g = unit-bounded node t s u a (token-within t s g) .taken .within
 
 -- ---- the escapes
 
@@ -360,13 +360,13 @@ not-below : (z : ℤ) → ltZ z (pos 0) ≡ false → leZ (pos 0) z ≡ true
 not-below (pos a) e = le-leb 0 a (omega arith)
 not-below (negsuc a) e = absurd (clash refl e)
 
-module _ (e : Escape) (b : ℕ) (g : SoundEscape e) (calm : e .pending ≡ None) where
+module _ (e : Escape) (b : ℕ) (g : SoundEscape e) (fedPending : e .pending ≡ None) where
   ended-sound : SoundEscape (ended e)
   unfolding soundPending
-  ended-sound = record { low = g .low; high = g .high; pending = rw calm refl }
+  ended-sound = record { low = g .low; high = g .high; pending = rw fedPending refl }
 
   ended-good : (u : Unitʷ) → (b < 256 → UnitByte u) → GoodDecoded b (decoded (ended e) u)
-  ended-good u k = record { escape = ended-sound; byte = λ _. rw calm noPending; unit = k }
+  ended-good u k = record { escape = ended-sound; byte = λ _. rw fedPending noPending; unit = k }
 
   other-good : GoodDecoded b (otherOf e b)
   unfolding otherOf soundPending
@@ -376,12 +376,12 @@ module _ (e : Escape) (b : ℕ) (g : SoundEscape e) (calm : e .pending ≡ None)
 
   channel-good : b < 0xde → GoodDecoded b (decoded (escape false (pos (b - 0xd0)) (e .pending)) Nothing)
   unfolding soundPending
-  channel-good l = record { escape = record { low = refl; high = le-leb (b - 0xd0) 13 (omega arith); pending = rw calm refl }; byte = λ _. rw calm noPending; unit = λ _. noUnit }
+  channel-good l = record { escape = record { low = refl; high = le-leb (b - 0xd0) 13 (omega arith); pending = rw fedPending refl }; byte = λ _. rw fedPending noPending; unit = λ _. noUnit }
 
   escaped-good : GoodDecoded b (escapedOf e b)
   unfolding escapedOf
   escaped-good =
-      branch (GoodDecoded b) (eqb b 0xdf) _ _ (λ _. record { escape = g; byte = λ _. rw calm noPending; unit = λ _. bare (omega arith) })
+      branch (GoodDecoded b) (eqb b 0xdf) _ _ (λ _. record { escape = g; byte = λ _. rw fedPending noPending; unit = λ _. bare (omega arith) })
       (λ _. branch (GoodDecoded b) (eqb b 0xde) _ _ (λ _. ended-good (Appended 0xdf) (λ _. appended (omega arith)))
       (λ _. branch (GoodDecoded b) (ltb b 0xd0) _ _ (λ _. other-good)
       (λ _. branch (GoodDecoded b) (ltb b 0xde) _ _ (λ l. channel-good (ltb-true _ _ l)) (λ _. other-good))))
@@ -390,8 +390,8 @@ module _ (e : Escape) (b : ℕ) (g : SoundEscape e) (calm : e .pending ≡ None)
   unfolding plainOf soundPending
   plain-good =
       branch (GoodDecoded b) (eqb b 0xdf) _ _
-      (λ _. record { escape = record { low = g .low; high = g .high; pending = rw calm refl }; byte = λ _. rw calm noPending; unit = λ _. noUnit })
-      (λ _. record { escape = g; byte = λ _. rw calm noPending; unit = λ h. appended h })
+      (λ _. record { escape = record { low = g .low; high = g .high; pending = rw fedPending refl }; byte = λ _. rw fedPending noPending; unit = λ _. noUnit })
+      (λ _. record { escape = g; byte = λ _. rw fedPending noPending; unit = λ h. appended h })
 
   -- a byte keeps the escapes sound
   decode-good : GoodDecoded b (decodeOf e b)
@@ -407,9 +407,9 @@ decode-next-sound e bytes n sound = go (e .pending) refl
     g = escape-parts e sound
 
     go : (p : Pending) → e .pending ≡ p → soundEscape (pendingNext p e bytes n .escape) ≡ true
-    go None calm =
+    go None fedPending =
         let P : NextUnit → Type 0 = λ u. soundEscape (u .escape) ≡ true in
-        branch P (ltb n (length bytes)) _ _ (λ _. escape-tested _ (decode-good e (getD bytes n 0) g calm .escape)) (λ _. sound)
+        branch P (ltb n (length bytes)) _ _ (λ _. escape-tested _ (decode-good e (getD bytes n 0) g fedPending .escape)) (λ _. sound)
     go (Byte u) waits = escape-tested _ (record { low = g .low; high = g .high; pending = refl })
 
 -- ---- runs and feeds
@@ -421,8 +421,8 @@ pub record Good (c : Control) (s : List ℕ) : Type 0 where
   pub token : Sound (c .token) s
 
 -- what holds after an answer: the control is sound with the store once the answer's bytes are given out, and these bytes are within bounds
-abbrev pub Kept : Heard → Type 0
-Kept o = Good (o .told .control) (released (o .told .answer) (o .store)) × Within (o .told .answer) (o .store)
+abbrev pub Kept : StepEffect → Type 0
+Kept o = Good (o .answered .control) (released (o .answered .answer) (o .store)) × Within (o .answered .answer) (o .store)
 
 -- the pending byte as a unit
 pub settle-good : (c : Control) (s : List ℕ) → Good c s → Kept (settleOf c s)
@@ -447,31 +447,31 @@ first-good c s b h q g =
     go (Appended u) (appended v) e k l = (record { escape = k; byte = l; token = unit-sound (c .node) (c .token) s u true v (g .token) }, unit-within (c .node) (c .token) s u true (g .token))
 
 -- without an answer the store itself is sound
-kept-more : (o : Heard) → isMore (o .told .answer) ≡ true → Kept o → Good (o .told .control) (o .store)
-kept-more o e k = rw (released-more (o .told .answer) (o .store) e) at (k .0)
+kept-more : (o : StepEffect) → isMore (o .answered .answer) ≡ true → Kept o → Good (o .answered .control) (o .store)
+kept-more o e k = rw (released-more (o .answered .answer) (o .store) e) at (k .0)
 
 step-good : (c : Control) (s : List ℕ) (b : ℕ) → b < 256 → c .escape .pending ≡ None → Good c s → Kept (stepOf c s b)
 unfolding followOf
 step-good c s b h q g =
     let o = firstOf c s b in
     let k = first-good c s b h q g in
-    branch Kept (isMore (o .told .answer)) _ _ (λ e. settle-good (o .told .control) (o .store) (kept-more o e k)) (λ _. k)
+    branch Kept (isMore (o .answered .answer)) _ _ (λ e. settle-good (o .answered .control) (o .store) (kept-more o e k)) (λ _. k)
 
-run-good : (o : Heard) (n : ℕ) (bs : List ℕ) → AreBytes bs → Kept o → (isMore (o .told .answer) ≡ true → o .told .control .escape .pending ≡ None) → Kept (runOf (at o n) bs .heard)
+run-good : (o : StepEffect) (n : ℕ) (bs : List ℕ) → AreBytes bs → Kept o → (isMore (o .answered .answer) ≡ true → o .answered .control .escape .pending ≡ None) → Kept (runOf (at o n) bs .effect)
 unfolding runOf
 run-good o n [] noBytes k q = k
 run-good o n (b ∷ bs) (byteThen h hs) k q =
-    go (isMore (o .told .answer)) refl (λ g. run-good (stepOf (o .told .control) (o .store) b) (n + 1) bs hs g (step-calm (o .told .control) (o .store) b))
+    go (isMore (o .answered .answer)) refl (λ g. run-good (stepOf (o .answered .control) (o .store) b) (n + 1) bs hs g (step-not-pending (o .answered .control) (o .store) b))
   where
-    go : (t : Bool) → isMore (o .told .answer) ≡ t →
-        (Kept (stepOf (o .told .control) (o .store) b) → Kept (runOf (at (stepOf (o .told .control) (o .store) b) (n + 1)) bs .heard)) → Kept (runOf (at o n) (b ∷ bs) .heard)
-    go true e ih = rw (run-on o n b bs e) (ih (step-good (o .told .control) (o .store) b h (q e) (kept-more o e k)))
+    go : (t : Bool) → isMore (o .answered .answer) ≡ t →
+        (Kept (stepOf (o .answered .control) (o .store) b) → Kept (runOf (at (stepOf (o .answered .control) (o .store) b) (n + 1)) bs .effect)) → Kept (runOf (at o n) (b ∷ bs) .effect)
+    go true e ih = rw (run-on o n b bs e) (ih (step-good (o .answered .control) (o .store) b h (q e) (kept-more o e k)))
     go false e ih = rw (stays (at o n) (b ∷ bs) e) k
 
 -- a next call keeps the control and the store sound
-pub advance-good : (c : Control) (s bytes : List ℕ) → AreBytes bytes → Good c s → Kept (advanceOf c s bytes .heard)
+pub advance-good : (c : Control) (s bytes : List ℕ) → AreBytes bytes → Good c s → Kept (advanceOf c s bytes .effect)
 unfolding advanceOf
-advance-good c s bytes h g = run-good (settleOf c s) 0 bytes h (settle-good c s g) (λ _. settle-calm c s)
+advance-good c s bytes h g = run-good (settleOf c s) 0 bytes h (settle-good c s g) (λ _. settle-not-pending c s)
 
 -- the test of a state gives the parts, and the parts give the test
 pub state-parts : (s : State) → PendingByte (s .control .escape .pending) → soundState s ≡ true → Good (s .control) (s .store)
@@ -509,12 +509,12 @@ module _ {M : Type 0} (h : ℤ → Answer → List ℕ → M → M) where
   fed-good x [] noBytes q g = g
   fed-good x (b ∷ bs) (byteThen l ls) q g =
       let o = firstOf (x .control) (x .store) b in
-      fed-good (fedByte h x b) bs ls (settle-calm _ _) (settle-good (o .told .control) (released (o .told .answer) (o .store)) (first-good (x .control) (x .store) b l q g .0) .0)
+      fed-good (fedByte h x b) bs ls (settle-not-pending _ _) (settle-good (o .answered .control) (released (o .answered .answer) (o .store)) (first-good (x .control) (x .store) b l q g .0) .0)
 
   -- a feed keeps the control and the store sound, through every answer
   pub feed-good : (x : Fed M) (bytes : List ℕ) → AreBytes bytes → Good (x .control) (x .store) → Good (feedOf h x bytes .control) (feedOf h x bytes .store)
   unfolding feedOf
-  feed-good x bytes l g = fed-good (calm h x) bytes l (settle-calm _ _) (settle-good (x .control) (x .store) g .0)
+  feed-good x bytes l g = fed-good (fedPending h x) bytes l (settle-not-pending _ _) (settle-good (x .control) (x .store) g .0)
 
   -- the same, as the test
   pub sound-feed : (x : Fed M) (bytes : List ℕ) → AreBytes bytes → PendingByte (x .control .escape .pending) → soundState (record { control = x .control; store = x .store }) ≡ true →

@@ -8,8 +8,8 @@ use native.Mathlib.Omega.{arith}
 use native.Mathlib.Nat.{pow-suc, pow-le-pow-right}
 use lib.Dec.{leb, eqb}
 use lib.IntN.{ℤ, pos}
-use lib.ListN.{length, take, drop, set, replicate}
-use lib.Seq.{drop-append-seam, sets, sets-eq, take-at}
+use lib.ListN.{length, take, set}
+use lib.Seq.{sets}
 use borrow.Author.Tests.{eqb-true, eqb-false, leb-true, leb-false, lt-ltb, lt-leb, le-leb, ne-eqb, eq-eqb}
 use Rattle.wing_node.specs.Bool.{if}
 use Rattle.wing_node.specs.Digits.{numberFrom, numberIn}
@@ -18,13 +18,13 @@ use Rattle.wing_node.specs.Signed.{signed}
 use Rattle.wing_node.specs.Utf8.{utf8}
 use Rattle.wing_node.specs.Value.{integer, float, string}
 use Rattle.wing_wire.specs.Token.{Row, rule, table, ruleIn, ruleOf}
-use Rattle.wing_wire.specs.State.{control, zeros}
-use Rattle.wing_wire.specs.Unit.{gives, awaits, singleOf, isString, tokenOf, beginOf, countOf, numberOf, shiftIn, numberUnit, Out, out, cleared, stringDone, stringUnit, keeps, bodyDone, bodyNext, bodyUnit, unitOf}
-use Rattle.wing_wire.specs.Stream.{joined, Fed, heed}
+use Rattle.wing_wire.specs.State.{bodyLimit, control, zeros}
+use Rattle.wing_wire.specs.Unit.{completes, awaits, singleOf, isString, tokenOf, beginOf, countOf, numberOf, shiftIn, numberUnit, UnitEffect, unitEffect, cleared, stringDone, stringUnit, keeps, bodyDone, bodyNext, bodyUnit, unitOf}
+use Rattle.wing_wire.specs.Stream.{afterUnit, Fed, handle}
 use Rattle.wing_wire.specs.Reader.{Event, value, body, end, refused, eventOf}
 use Rattle.wing_wire.specs.Range.{AreBytes, noBytes, byteThen}
-use Rattle.wing_wire.specs.Units.{Given, given, unitTaken, unitsTaken}
-use Rattle.wing_wire.specs.Tokens.{emptyStore, values, appended, Further, From, Rest, Gives, event, nothing, newNode, stringOf, between, after, Holds, Token, TakesUnits, InTable, integer-t, string-80, string-c0, string-d0, string-d1, integer-16, integer-32, float-bits, new-node, skips-two, skips-one, end-unit, bodies, count-over, count-zero, no-event}
+use Rattle.wing_wire.specs.Units.{StreamUnit, streamUnit, unitTaken, unitsTaken}
+use Rattle.wing_wire.specs.Tokens.{emptyStore, values, appended, Further, From, Rest, TokenResult, event, nothing, newNode, stringOf, between, after, Holds, Token, InTable, integer-t, string-80, string-c0, string-d0, string-d1, integer-16, integer-32, float-bits, new-node, skips-two, skips-one, end-unit, bodies, count-over, count-zero, no-event}
 use Rattle.wing_wire.specs.declared.token.Class.{Class}
 use Rattle.wing_wire.specs.declared.token.Class.the-variants.{NoEvent, Integer, String, Length, Int16, Int32, Float, Node, End, Count, ZeroCount}
 use Rattle.wing_wire.specs.declared.state.Escape.{Escape}
@@ -32,47 +32,31 @@ use Rattle.wing_wire.specs.declared.state.Token.{Token as Progress}
 use Rattle.wing_wire.specs.declared.state.Token.the-variants.{Between, Number, String as InString, Body as InBody}
 use Rattle.wing_wire.specs.declared.unit.Answer.{Answer}
 use Rattle.wing_wire.specs.declared.unit.Answer.the-variants.{String as aString, Refused}
-use Rattle.wing_wire.proofs.Reading.Branches.{branch, and-left, and-right}
-use Rattle.wing_wire.proofs.Reading.ByUnits.{feed-units}
+use Rattle.wing_wire.proofs.Reading.Branches.{branch}
+use Rattle.wing_wire.proofs.Reading.Clears.{front-read, front-cleared}
+use Rattle.wing_wire.proofs.Reading.ByUnits.{taken-append}
 
 -- ---- the store
-
--- a store that is all 0 is zeros and the rest of it
-zeros-front : (n : ℕ) (s : List ℕ) → n ≤ length s → zeros s ≡ true → s ≡ replicate n 0 ++ drop n s
-unfolding zeros
-zeros-front zero s h z = refl
-zeros-front (suc n) [] h z = absurd (omega arith)
-zeros-front (suc n) (b ∷ s) h z =
-    let first : b ≡ 0 = eqb-true b 0 (and-left (eqb b 0) (zeros s) z) in
-    rw first (ap (λ (l : List ℕ). 0 ∷ l) (zeros-front n s (omega arith) (and-right (eqb b 0) (zeros s) z)))
 
 empty-zeros : zeros emptyStore ≡ true
 unfolding emptyStore zeros
 empty-zeros = refl
 
-empty-size : length emptyStore ≡ 4096
+empty-size : length emptyStore ≡ bodyLimit
 unfolding emptyStore
 empty-size = refl
 
--- bytes at the front of the empty store
-held-front : (t : List ℕ) → length t ≤ 4096 → sets emptyStore 0 t ≡ t ++ drop (length t) emptyStore
-held-front t h = let z : 0 + length t ≡ length t = omega arith in rw z at (sets-eq t emptyStore 0 (omega (arith, empty-size)))
-
-held-whole : (t : List ℕ) → length t ≤ 4096 → take (length t) (sets emptyStore 0 t) ≡ t
-held-whole t h = ap (take (length t)) (held-front t h) ∙ take-at t (drop (length t) emptyStore) (length t) refl
-
--- once they are given out it is empty again
-held-out : (t : List ℕ) → length t ≤ 4096 → cleared (length t) (sets emptyStore 0 t) ≡ emptyStore
-held-out t h =
-    rw (held-whole t h, held-front t h, drop-append-seam t (drop (length t) emptyStore)) (sym (zeros-front (length t) emptyStore (omega (arith, empty-size)) empty-zeros))
+-- bytes that fit a body fit the empty store
+fits-empty : (t : List ℕ) → length t ≤ bodyLimit → length t ≤ length emptyStore
+fits-empty t h = omega (arith, empty-size)
 
 -- ---- units
 
-values-length : (us : List Given) → length (values us) ≡ length us
+values-length : (us : List StreamUnit) → length (values us) ≡ length us
 values-length [] = refl
 values-length (g ∷ us) = ap suc (values-length us)
 
-appended-few : (us : List Given) → length (appended us) ≤ length us
+appended-few : (us : List StreamUnit) → length (appended us) ≤ length us
 appended-few [] = omega arith
 appended-few (g ∷ us) = branch (λ (l : List ℕ). length l ≤ suc (length us)) (g .appended) _ _ (λ _. omega (arith, appended-few us)) (λ _. omega (arith, appended-few us))
 
@@ -84,20 +68,20 @@ leftOf (InString want left) = left
 leftOf (InBody want left stored) = left
 
 -- nothing yet, and n units are still wanted
-record Held (node : ℤ) (n : ℕ) (o : Out) : Type 0 where
+record StillWants (node : ℤ) (n : ℕ) (o : UnitEffect) : Type 0 where
   pub token : Progress
   pub store : List ℕ
-  pub same : o ≡ out (awaits node token) store
+  pub same : o ≡ unitEffect (awaits node token) store
   pub left : leftOf token ≡ n
 
 -- a unit that is not the last
-held : (node : ℤ) (t : Progress) (s : List ℕ) (u : ℕ) (a : Bool) → 2 ≤ leftOf t → Held node (leftOf t - 1) (unitOf node t s u a)
+still-wants : (node : ℤ) (t : Progress) (s : List ℕ) (u : ℕ) (a : Bool) → 2 ≤ leftOf t → StillWants node (leftOf t - 1) (unitOf node t s u a)
 unfolding unitOf numberUnit stringUnit bodyUnit bodyNext
-held node Between s u a h = absurd (omega arith)
-held node (Number class left v) s u a h = record { token = Number class (left - 1) (shiftIn v u); store = s; same = rw (lt-leb left 1 h); left = refl }
-held node (InString want left) s u a h = record { token = InString want (left - 1); store = set s (want - left) u; same = rw (lt-leb left 1 h); left = refl }
-held node (InBody want left stored) s u a h =
-    branch (Held node (left - 1)) (keeps want stored a) _ _
+still-wants node Between s u a h = absurd (omega arith)
+still-wants node (Number class left v) s u a h = record { token = Number class (left - 1) (shiftIn v u); store = s; same = rw (lt-leb left 1 h); left = refl }
+still-wants node (InString want left) s u a h = record { token = InString want (left - 1); store = set s (want - left) u; same = rw (lt-leb left 1 h); left = refl }
+still-wants node (InBody want left stored) s u a h =
+    branch (StillWants node (left - 1)) (keeps want stored a) _ _
     (λ _. record { token = InBody want (left - 1) (stored + 1); store = set s stored u; same = rw (lt-leb left 1 h); left = refl })
     (λ _. record { token = InBody want (left - 1) stored; store = s; same = rw (lt-leb left 1 h); left = refl })
 
@@ -108,25 +92,20 @@ module _ {M : Type 0} (h : ℤ → Event → M → M) where
   handed node a s m = h node (eventOf a s s) m
 
   -- before each of the units
-  abbrev Each : (Fed M → Type 0) → Fed M → List Given → Type 0
+  abbrev Each : (Fed M → Type 0) → Fed M → List StreamUnit → Type 0
   Each P x [] = Unit {0}
   Each P x (g ∷ gs) = P x × Each P (unitTaken handed x g) gs
 
-  each-front : (P : Fed M → Type 0) (x : Fed M) (us : List Given) → Each P x us → (n : ℕ) → n < length us → P (unitsTaken handed x (take n us))
+  each-front : (P : Fed M → Type 0) (x : Fed M) (us : List StreamUnit) → Each P x us → (n : ℕ) → n < length us → P (unitsTaken handed x (take n us))
   unfolding unitsTaken
   each-front P x [] t n l = absurd (omega arith)
   each-front P x (g ∷ us) (p, t) zero l = p
   each-front P x (g ∷ us) (p, t) (suc n) l = each-front P (unitTaken handed x g) us t n (omega arith)
 
-  each-append : (P : Fed M → Type 0) (x : Fed M) (a b : List Given) → Each P x a → Each P (unitsTaken handed x a) b → Each P x (a ++ b)
+  each-append : (P : Fed M → Type 0) (x : Fed M) (a b : List StreamUnit) → Each P x a → Each P (unitsTaken handed x a) b → Each P x (a ++ b)
   unfolding unitsTaken
   each-append P x [] b p q = q
   each-append P x (g ∷ a) b (p, t) q = (p, each-append P (unitTaken handed x g) a b t q)
-
-  pub taken-append : (x : Fed M) (a b : List Given) → unitsTaken handed x (a ++ b) ≡ unitsTaken handed (unitsTaken handed x a) b
-  unfolding unitsTaken
-  taken-append x [] b = refl
-  taken-append x (g ∷ a) b = taken-append (unitTaken handed x g) a b
 
   module _ (e : Escape) (node : ℤ) (m : M) where
     -- in a token or between tokens, with nothing handed on
@@ -134,44 +113,44 @@ module _ {M : Type 0} (h : ℤ → Event → M → M) where
     stands t s = record { control = control e node t; store = s; memo = m }
 
     -- after a unit
-    abbrev done : Out → Fed M
-    done o = heed handed (joined e o) m
+    abbrev done : UnitEffect → Fed M
+    done o = handle handed (afterUnit e o) m
 
     -- units that lead from x to y, and nothing is handed on before the last
-    record Leads (x : Fed M) (us : List Given) (y : Fed M) : Type 0 where
+    record Leads (x : Fed M) (us : List StreamUnit) (y : Fed M) : Type 0 where
       pub each : Each (Holds h e node m) x us
       pub ends : unitsTaken handed x us ≡ y
 
-    leads-on : {x y z : Fed M} {a b : List Given} → Leads x a y → Leads y b z → Leads x (a ++ b) z
+    leads-on : {x y z : Fed M} {a b : List StreamUnit} → Leads x a y → Leads y b z → Leads x (a ++ b) z
     leads-on {x} {y} {z} {a} {b} p q =
         record {
           each = each-append (Holds h e node m) x a b (p .each) (subst (λ (w : Fed M). Each (Holds h e node m) w b) (sym (p .ends)) (q .each));
-          ends = taken-append x a b ∙ ap (λ (w : Fed M). unitsTaken handed w b) (p .ends) ∙ q .ends;
+          ends = taken-append handed x a b ∙ ap (λ (w : Fed M). unitsTaken handed w b) (p .ends) ∙ q .ends;
         }
 
-    waiting : (t : Progress) (s : List ℕ) → Holds h e node m (stands t s)
-    waiting t s = record { memo = refl; node = refl; escape = refl }
+    holds-still : (t : Progress) (s : List ℕ) → Holds h e node m (stands t s)
+    holds-still t s = record { memo = refl; node = refl; escape = refl }
 
     -- a token that wants no fewer units hands nothing on before the last of them
-    each-waits : (t : Progress) (s : List ℕ) (us : List Given) → length us ≤ leftOf t → Each (Holds h e node m) (stands t s) us
+    each-waits : (t : Progress) (s : List ℕ) (us : List StreamUnit) → length us ≤ leftOf t → Each (Holds h e node m) (stands t s) us
     each-waits t s [] l = tt
-    each-waits t s (g ∷ []) l = (waiting t s, tt)
+    each-waits t s (g ∷ []) l = (holds-still t s, tt)
     each-waits t s (g ∷ k ∷ us) l =
-        let q = held node t s (g .unit) (g .appended) (omega arith) in
+        let q = still-wants node t s (g .unit) (g .appended) (omega arith) in
         let rest : Each (Holds h e node m) (stands (q .token) (q .store)) (k ∷ us) = each-waits (q .token) (q .store) (k ∷ us) (omega (arith, q .left)) in
-        (waiting t s, subst (λ (o : Out). Each (Holds h e node m) (done o) (k ∷ us)) (sym (q .same)) rest)
+        (holds-still t s, subst (λ (o : UnitEffect). Each (Holds h e node m) (done o) (k ∷ us)) (sym (q .same)) rest)
 
     -- ---- the first unit
 
     begins : (s : List ℕ) (t : ℕ) (a : Bool) (w : ℕ) (class : Class) → ruleOf t ≡ rule class (suc w) →
-        Leads (stands Between s) (given t a ∷ []) (stands (tokenOf class (suc w)) s)
+        Leads (stands Between s) (streamUnit t a ∷ []) (stands (tokenOf class (suc w)) s)
     unfolding unitsTaken unitOf beginOf
-    begins s t a w class q = record { each = (waiting Between s, tt); ends = rw (q, ne-eqb (suc w) 0 (λ z. omega arith)) }
+    begins s t a w class q = record { each = (holds-still Between s, tt); ends = rw (q, ne-eqb (suc w) 0 (λ z. omega arith)) }
 
     single : (s : List ℕ) (t : ℕ) (a : Bool) (class : Class) → ruleOf t ≡ rule class 0 →
-        Leads (stands Between s) (given t a ∷ []) (done (out (gives node (singleOf class t)) s))
+        Leads (stands Between s) (streamUnit t a ∷ []) (done (unitEffect (completes node (singleOf class t)) s))
     unfolding unitsTaken unitOf beginOf
-    single s t a class q = record { each = (waiting Between s, tt); ends = rw q }
+    single s t a class q = record { each = (holds-still Between s, tt); ends = rw q }
 
     -- ---- numbers
 
@@ -182,8 +161,8 @@ module _ {M : Type 0} (h : ℤ → Event → M → M) where
         let in24 : v % 0x1000000 ≡ v = omega arith in
         ap (λ (x : ℕ). x * 256 + u) in24
 
-    number-units : (class : Class) (s : List ℕ) (us : List Given) (v j : ℕ) → 1 ≤ length us → AreBytes (values us) → v < 256 ^ j → j + length us ≤ 4 →
-        unitsTaken handed (stands (Number class (length us) v) s) us ≡ done (out (numberOf node class (numberFrom 256 v (values us))) s)
+    number-units : (class : Class) (s : List ℕ) (us : List StreamUnit) (v j : ℕ) → 1 ≤ length us → AreBytes (values us) → v < 256 ^ j → j + length us ≤ 4 →
+        unitsTaken handed (stands (Number class (length us) v) s) us ≡ done (unitEffect (numberOf node class (numberFrom 256 v (values us))) s)
     unfolding unitsTaken unitOf numberUnit numberFrom
     number-units class s [] v j some bytes b k = absurd (omega arith)
     number-units class s (g ∷ []) v j some bytes b k = rw (shifted v (g .unit) j b (omega arith))
@@ -196,20 +175,20 @@ module _ {M : Type 0} (h : ℤ → Event → M → M) where
         (number-units class s (g₂ ∷ us) (v * 256 + u) (suc j) (omega arith) bytes next (omega arith))
 
     -- all units of a number
-    number-leads : (class : Class) (s : List ℕ) (w : ℕ) (us : List Given) → Further (suc w) us → w ≤ 3 →
-        Leads (stands (Number class (suc w) 0) s) us (done (out (numberOf node class (big (values us))) s))
+    number-leads : (class : Class) (s : List ℕ) (w : ℕ) (us : List StreamUnit) → Further (suc w) us → w ≤ 3 →
+        Leads (stands (Number class (suc w) 0) s) us (done (unitEffect (numberOf node class (big (values us))) s))
     unfolding numberIn
     number-leads class s w us f k =
         record {
           each = each-waits (Number class (suc w) 0) s us (omega (arith, f .number));
           ends =
-              subst (λ (n : ℕ). unitsTaken handed (stands (Number class n 0) s) us ≡ done (out (numberOf node class (numberFrom 256 0 (values us))) s)) (f .number)
+              subst (λ (n : ℕ). unitsTaken handed (stands (Number class n 0) s) us ≡ done (unitEffect (numberOf node class (numberFrom 256 0 (values us))) s)) (f .number)
               (number-units class s us 0 0 (omega (arith, f .number)) (f .bytes) (omega arith) (omega (arith, f .number)));
         }
 
     -- ---- strings
 
-    string-units : (s : List ℕ) (want : ℕ) (us : List Given) → 1 ≤ length us → length us ≤ want →
+    string-units : (s : List ℕ) (want : ℕ) (us : List StreamUnit) → 1 ≤ length us → length us ≤ want →
         unitsTaken handed (stands (InString want (length us)) s) us ≡ done (stringDone node want (sets s (want - length us) (values us)))
     unfolding unitsTaken unitOf stringUnit
     string-units s want [] some l = absurd (omega arith)
@@ -221,22 +200,22 @@ module _ {M : Type 0} (h : ℤ → Event → M → M) where
         rw (lt-leb left 1 (omega arith), fewer)
         (string-units (set s (want - left) (g .unit)) want (k ∷ us) (omega arith) (omega arith) ∙ rw place)
 
-    string-done : (t : List ℕ) → length t ≤ 4096 → done (stringDone node (length t) (sets emptyStore 0 t)) ≡ after h e node m (stringOf t)
+    string-done : (t : List ℕ) → length t ≤ bodyLimit → done (stringDone node (length t) (sets emptyStore 0 t)) ≡ after h e node m (stringOf t)
     unfolding stringDone eventOf
-    string-done t l = ap (λ (x : List ℕ). done (if (utf8 x) whole bad)) (held-whole t l) ∙ go (utf8 t)
+    string-done t l = ap (λ (x : List ℕ). done (if (utf8 x) whole bad)) (front-read t emptyStore (fits-empty t l)) ∙ go (utf8 t)
       where
-        whole : Out
-        whole = out (gives node (aString (length t))) (sets emptyStore 0 t)
+        whole : UnitEffect
+        whole = unitEffect (completes node (aString (length t))) (sets emptyStore 0 t)
 
-        bad : Out
-        bad = out (gives node (Refused 1)) (cleared (length t) (sets emptyStore 0 t))
+        bad : UnitEffect
+        bad = unitEffect (completes node (Refused 1)) (cleared (length t) (sets emptyStore 0 t))
 
         go : (q : Bool) → done (if q whole bad) ≡ after h e node m (if q (event (value (string t))) (event (refused 1)))
-        go true = rw (held-out t l) (rw (held-whole t l))
-        go false = rw (held-out t l)
+        go true = rw (front-cleared t emptyStore (fits-empty t l) empty-zeros) (rw (front-read t emptyStore (fits-empty t l)))
+        go false = rw (front-cleared t emptyStore (fits-empty t l) empty-zeros)
 
     -- all units of a string
-    string-leads : (k : ℕ) (us : List Given) → Further (suc k) us → suc k ≤ 256 →
+    string-leads : (k : ℕ) (us : List StreamUnit) → Further (suc k) us → suc k ≤ 256 →
         Leads (stands (InString (suc k) (suc k)) emptyStore) us (after h e node m (stringOf (values us)))
     string-leads k us f l =
         record {
@@ -257,15 +236,15 @@ module _ {M : Type 0} (h : ℤ → Event → M → M) where
     -- ---- bodies
 
     -- of a count up to 4,096 what the units append is kept
-    body-units : (s : List ℕ) (want : ℕ) (us : List Given) (stored : ℕ) → 1 ≤ length us → want ≤ 4096 → stored + length us ≤ 4096 →
-        unitsTaken handed (stands (InBody want (length us) stored) s) us ≡ done (out (bodyDone node want (stored + length (appended us))) (sets s stored (appended us)))
+    body-units : (s : List ℕ) (want : ℕ) (us : List StreamUnit) (stored : ℕ) → 1 ≤ length us → want ≤ bodyLimit → stored + length us ≤ bodyLimit →
+        unitsTaken handed (stands (InBody want (length us) stored) s) us ≡ done (unitEffect (bodyDone node want (stored + length (appended us))) (sets s stored (appended us)))
     unfolding unitsTaken unitOf bodyUnit bodyNext keeps
     body-units s want [] stored some l room = absurd (omega arith)
     body-units s want (g ∷ []) stored some l room = go (g .appended)
       where
         go : (q : Bool) →
-            done (bodyUnit node want 1 stored s (g .unit) q) ≡ done (out (bodyDone node want (stored + length (if q (g .unit ∷ []) []))) (sets s stored (if q (g .unit ∷ []) [])))
-        go true = rw (le-leb want 4096 l, lt-ltb stored 4096 (omega arith))
+            done (bodyUnit node want 1 stored s (g .unit) q) ≡ done (unitEffect (bodyDone node want (stored + length (if q (g .unit ∷ []) []))) (sets s stored (if q (g .unit ∷ []) [])))
+        go true = rw (le-leb want bodyLimit l, lt-ltb stored bodyLimit (omega arith))
         go false = let z : stored + 0 ≡ stored = omega arith in rw z
     body-units s want (g ∷ k ∷ us) stored some l room = go (g .appended) (λ s′ n r. body-units s′ want (k ∷ us) n (omega arith) l r)
       where
@@ -276,65 +255,65 @@ module _ {M : Type 0} (h : ℤ → Event → M → M) where
         rest = appended (k ∷ us)
 
         go : (q : Bool) →
-            ((s′ : List ℕ) (n : ℕ) → n + suc (length us) ≤ 4096 → unitsTaken handed (stands (InBody want (suc (length us)) n) s′) (k ∷ us) ≡ done (out (bodyDone node want (n + length rest)) (sets s′ n rest))) →
+            ((s′ : List ℕ) (n : ℕ) → n + suc (length us) ≤ bodyLimit → unitsTaken handed (stands (InBody want (suc (length us)) n) s′) (k ∷ us) ≡ done (unitEffect (bodyDone node want (n + length rest)) (sets s′ n rest))) →
             unitsTaken handed (done (bodyUnit node want left stored s (g .unit) q)) (k ∷ us) ≡
-            done (out (bodyDone node want (stored + length (if q (g .unit ∷ rest) rest))) (sets s stored (if q (g .unit ∷ rest) rest)))
+            done (unitEffect (bodyDone node want (stored + length (if q (g .unit ∷ rest) rest))) (sets s stored (if q (g .unit ∷ rest) rest)))
         go true ih =
             let fewer : left - 1 ≡ suc (length us) = omega arith in
             let more : stored + 1 + length rest ≡ stored + suc (length rest) = omega arith in
             let next : stored + 1 ≡ suc stored = omega arith in
-            rw (le-leb want 4096 l, lt-ltb stored 4096 (omega arith), lt-leb left 1 (omega arith), fewer)
+            rw (le-leb want bodyLimit l, lt-ltb stored bodyLimit (omega arith), lt-leb left 1 (omega arith), fewer)
             (ih (set s stored (g .unit)) (stored + 1) (omega arith) ∙ rw (more, next))
         go false ih =
             let fewer : left - 1 ≡ suc (length us) = omega arith in
             rw (lt-leb left 1 (omega arith), fewer) (ih s stored (omega arith))
 
     -- of a count over 4,096 nothing is
-    over-units : (s : List ℕ) (want : ℕ) (us : List Given) (stored : ℕ) → 1 ≤ length us → 4096 < want →
-        unitsTaken handed (stands (InBody want (length us) stored) s) us ≡ done (out (bodyDone node want stored) s)
+    over-units : (s : List ℕ) (want : ℕ) (us : List StreamUnit) (stored : ℕ) → 1 ≤ length us → bodyLimit < want →
+        unitsTaken handed (stands (InBody want (length us) stored) s) us ≡ done (unitEffect (bodyDone node want stored) s)
     unfolding unitsTaken unitOf bodyUnit bodyNext keeps
     over-units s want [] stored some l = absurd (omega arith)
     over-units s want (g ∷ []) stored some l = go (g .appended)
       where
-        go : (q : Bool) → done (bodyUnit node want 1 stored s (g .unit) q) ≡ done (out (bodyDone node want stored) s)
-        go true = rw (lt-leb want 4096 l)
+        go : (q : Bool) → done (bodyUnit node want 1 stored s (g .unit) q) ≡ done (unitEffect (bodyDone node want stored) s)
+        go true = rw (lt-leb want bodyLimit l)
         go false = refl
     over-units s want (g ∷ k ∷ us) stored some l = go (g .appended) (over-units s want (k ∷ us) stored (omega arith) l)
       where
         left : ℕ
         left = suc (suc (length us))
 
-        go : (q : Bool) → unitsTaken handed (stands (InBody want (suc (length us)) stored) s) (k ∷ us) ≡ done (out (bodyDone node want stored) s) →
-            unitsTaken handed (done (bodyUnit node want left stored s (g .unit) q)) (k ∷ us) ≡ done (out (bodyDone node want stored) s)
+        go : (q : Bool) → unitsTaken handed (stands (InBody want (suc (length us)) stored) s) (k ∷ us) ≡ done (unitEffect (bodyDone node want stored) s) →
+            unitsTaken handed (done (bodyUnit node want left stored s (g .unit) q)) (k ∷ us) ≡ done (unitEffect (bodyDone node want stored) s)
         go true ih =
             let fewer : left - 1 ≡ suc (length us) = omega arith in
-            rw (lt-leb want 4096 l, lt-leb left 1 (omega arith), fewer) ih
+            rw (lt-leb want bodyLimit l, lt-leb left 1 (omega arith), fewer) ih
         go false ih =
             let fewer : left - 1 ≡ suc (length us) = omega arith in
             rw (lt-leb left 1 (omega arith), fewer) ih
 
     -- the body, or 2
-    abbrev bodyOf : ℕ → List Given → Gives
-    bodyOf c us = if (leb c 4096) (event (body (appended us))) (event (refused 2))
+    abbrev bodyOf : ℕ → List StreamUnit → TokenResult
+    bodyOf c us = if (leb c bodyLimit) (event (body (appended us))) (event (refused 2))
 
-    body-ends : (us : List Given) → 1 ≤ length us → unitsTaken handed (stands (InBody (length us) (length us) 0) emptyStore) us ≡ after h e node m (bodyOf (length us) us)
+    body-ends : (us : List StreamUnit) → 1 ≤ length us → unitsTaken handed (stands (InBody (length us) (length us) 0) emptyStore) us ≡ after h e node m (bodyOf (length us) us)
     unfolding bodyDone eventOf
-    body-ends us some = go (leb (length us) 4096) refl
+    body-ends us some = go (leb (length us) bodyLimit) refl
       where
         t : List ℕ
         t = appended us
 
-        go : (q : Bool) → leb (length us) 4096 ≡ q →
+        go : (q : Bool) → leb (length us) bodyLimit ≡ q →
             unitsTaken handed (stands (InBody (length us) (length us) 0) emptyStore) us ≡ after h e node m (if q (event (body t)) (event (refused 2)))
         go true q =
-            let l : length us ≤ 4096 = leb-true (length us) 4096 q in
-            let few : length t ≤ 4096 = omega (arith, appended-few us) in
+            let l : length us ≤ bodyLimit = leb-true (length us) bodyLimit q in
+            let few : length t ≤ bodyLimit = omega (arith, appended-few us) in
             let z : 0 + length t ≡ length t = omega arith in
-            body-units emptyStore (length us) us 0 some l (omega arith) ∙ rw (q, z) (rw (held-out t few) (rw (held-whole t few)))
-        go false q = over-units emptyStore (length us) us 0 some (leb-false (length us) 4096 q) ∙ rw q
+            body-units emptyStore (length us) us 0 some l (omega arith) ∙ rw (q, z) (rw (front-cleared t emptyStore (fits-empty t few) empty-zeros) (rw (front-read t emptyStore (fits-empty t few))))
+        go false q = over-units emptyStore (length us) us 0 some (leb-false (length us) bodyLimit q) ∙ rw q
 
     -- all units of a body
-    body-leads : (c : ℕ) (us : List Given) → Further c us → 1 ≤ c → Leads (stands (InBody c c 0) emptyStore) us (after h e node m (bodyOf c us))
+    body-leads : (c : ℕ) (us : List StreamUnit) → Further c us → 1 ≤ c → Leads (stands (InBody c c 0) emptyStore) us (after h e node m (bodyOf c us))
     body-leads c us f some =
         record {
           each = each-waits (InBody c c 0) emptyStore us (omega (arith, f .number));
@@ -386,14 +365,14 @@ rule-rest t (inr (inr (inl (l, k)))) = rule-outside table t (inr (omega arith), 
 rule-rest t (inr (inr (inr (l, k)))) = rule-outside table t (inr (omega arith), (inr (omega arith), (inr (omega arith), (inr (omega arith), (inr (omega arith), (inr (omega arith), (inr (omega arith), (inr (omega arith), (inr (omega arith), (inr (omega arith), (inr (omega arith), (inr (omega arith), (inr (omega arith), tt)))))))))))))
 
 -- a number of n units is below 256 to n
-number-small : (us : List Given) (v j : ℕ) → AreBytes (values us) → v < 256 ^ j → numberFrom 256 v (values us) < 256 ^ (j + length us)
+number-small : (us : List StreamUnit) (v j : ℕ) → AreBytes (values us) → v < 256 ^ j → numberFrom 256 v (values us) < 256 ^ (j + length us)
 unfolding numberFrom
 number-small [] v j b l = let z : j + 0 ≡ j = omega arith in rw z l
 number-small (g ∷ us) v j (byteThen low b) l =
     let z : j + suc (length us) ≡ suc j + length us = omega arith in
     rw z (number-small us (v * 256 + g .unit) (suc j) b (rw (pow-suc 256 j) (omega arith)))
 
-big-small : (n : ℕ) (us : List Given) → Further n us → big (values us) < 256 ^ n
+big-small : (n : ℕ) (us : List StreamUnit) → Further n us → big (values us) < 256 ^ n
 unfolding numberIn
 big-small n us f =
     let z : 0 + length us ≡ n = omega (arith, f .number) in
@@ -403,7 +382,7 @@ big-small n us f =
 
 module _ {M : Type 0} (h : ℤ → Event → M → M) where
   -- from what the units lead to, at any node and with any escapes
-  whole : (us : List Given) (g : Gives) → ((e : Escape) (node : ℤ) (m : M) → Leads h e node m (between h e node m) us (after h e node m g)) → Token h us g
+  whole : (us : List StreamUnit) (g : TokenResult) → ((e : Escape) (node : ℤ) (m : M) → Leads h e node m (between h e node m) us (after h e node m g)) → Token h us g
   whole us g l =
       record {
         before = λ e node m n k. each-front h (Holds h e node m) (between h e node m) us (l e node m .each) n k;
@@ -411,79 +390,79 @@ module _ {M : Type 0} (h : ℤ → Event → M → M) where
       }
 
   -- a first unit that is its whole token
-  alone : (t : ℕ) (a : Bool) (class : Class) (g : Gives) → ruleOf t ≡ rule class 0 →
-      ((e : Escape) (node : ℤ) (m : M) → done h e node m (out (gives node (singleOf class t)) emptyStore) ≡ after h e node m g) → Token h (given t a ∷ []) g
-  alone t a class g q k = whole (given t a ∷ []) g (λ e node m. subst (Leads h e node m (between h e node m) (given t a ∷ [])) (k e node m) (single h e node m emptyStore t a class q))
+  alone : (t : ℕ) (a : Bool) (class : Class) (g : TokenResult) → ruleOf t ≡ rule class 0 →
+      ((e : Escape) (node : ℤ) (m : M) → done h e node m (unitEffect (completes node (singleOf class t)) emptyStore) ≡ after h e node m g) → Token h (streamUnit t a ∷ []) g
+  alone t a class g q k = whole (streamUnit t a ∷ []) g (λ e node m. subst (Leads h e node m (between h e node m) (streamUnit t a ∷ [])) (k e node m) (single h e node m emptyStore t a class q))
 
   -- a number after its first unit
-  number-token : (t : ℕ) (a : Bool) (class : Class) (w : ℕ) (us : List Given) (g : Gives) → ruleOf t ≡ rule class (suc w) → isString class ≡ false → w ≤ 3 → Further (suc w) us →
-      ((e : Escape) (node : ℤ) (m : M) → done h e node m (out (numberOf node class (big (values us))) emptyStore) ≡ after h e node m g) → Token h (given t a ∷ us) g
+  number-token : (t : ℕ) (a : Bool) (class : Class) (w : ℕ) (us : List StreamUnit) (g : TokenResult) → ruleOf t ≡ rule class (suc w) → isString class ≡ false → w ≤ 3 → Further (suc w) us →
+      ((e : Escape) (node : ℤ) (m : M) → done h e node m (unitEffect (numberOf node class (big (values us))) emptyStore) ≡ after h e node m g) → Token h (streamUnit t a ∷ us) g
   unfolding tokenOf
   number-token t a class w us g q n l f k =
-      whole (given t a ∷ us) g
+      whole (streamUnit t a ∷ us) g
       (λ e node m.
-      let first : Leads h e node m (between h e node m) (given t a ∷ []) (stands h e node m (Number class (suc w) 0) emptyStore) = rw n at (begins h e node m emptyStore t a w class q) in
+      let first : Leads h e node m (between h e node m) (streamUnit t a ∷ []) (stands h e node m (Number class (suc w) 0) emptyStore) = rw n at (begins h e node m emptyStore t a w class q) in
       leads-on h e node m first (subst (Leads h e node m (stands h e node m (Number class (suc w) 0) emptyStore) us) (k e node m) (number-leads h e node m class emptyStore w us f l)))
 
   -- a string whose first unit tells its length
-  string-token : (t k : ℕ) (a : Bool) (us : List Given) → ruleOf t ≡ rule String (suc k) → suc k ≤ 256 → Further (suc k) us → Token h (given t a ∷ us) (stringOf (values us))
+  string-token : (t k : ℕ) (a : Bool) (us : List StreamUnit) → ruleOf t ≡ rule String (suc k) → suc k ≤ 256 → Further (suc k) us → Token h (streamUnit t a ∷ us) (stringOf (values us))
   unfolding tokenOf isString
   string-token t k a us q l f =
-      whole (given t a ∷ us) (stringOf (values us)) (λ e node m. leads-on h e node m (begins h e node m emptyStore t a k String q) (string-leads h e node m k us f l))
+      whole (streamUnit t a ∷ us) (stringOf (values us)) (λ e node m. leads-on h e node m (begins h e node m emptyStore t a k String q) (string-leads h e node m k us f l))
 
   -- one whose length stands in a unit after d1
-  length-token : (n : ℕ) (a b : Bool) (us : List Given) → n < 256 → Further (n + 1) us → Token h (given 0xd1 a ∷ given n b ∷ us) (stringOf (values us))
+  length-token : (n : ℕ) (a b : Bool) (us : List StreamUnit) → n < 256 → Further (n + 1) us → Token h (streamUnit 0xd1 a ∷ streamUnit n b ∷ us) (stringOf (values us))
   unfolding tokenOf isString ruleOf ruleIn numberOf numberIn numberFrom
   length-token n a b us l f =
-      let one : Further 1 (given n b ∷ []) = record { number = refl; bytes = byteThen l noBytes } in
+      let one : Further 1 (streamUnit n b ∷ []) = record { number = refl; bytes = byteThen l noBytes } in
       let long : (0 * 256 + n) % 0x100 + 1 ≡ suc n = omega arith in
       let next : n + 1 ≡ suc n = omega arith in
       let f′ : Further (suc n) us = rw next at f in
-      whole (given 0xd1 a ∷ given n b ∷ us) (stringOf (values us))
+      whole (streamUnit 0xd1 a ∷ streamUnit n b ∷ us) (stringOf (values us))
       (λ e node m.
       let Of : ℕ → Fed M = λ k. stands h e node m (InString k k) emptyStore in
-      let length-read : Leads h e node m (stands h e node m (Number Length 1 0) emptyStore) (given n b ∷ []) (Of (suc n)) =
-      subst (λ (k : ℕ). Leads h e node m (stands h e node m (Number Length 1 0) emptyStore) (given n b ∷ []) (Of k)) long (number-leads h e node m Length emptyStore 0 (given n b ∷ []) one (omega arith)) in
+      let length-read : Leads h e node m (stands h e node m (Number Length 1 0) emptyStore) (streamUnit n b ∷ []) (Of (suc n)) =
+      subst (λ (k : ℕ). Leads h e node m (stands h e node m (Number Length 1 0) emptyStore) (streamUnit n b ∷ []) (Of k)) long (number-leads h e node m Length emptyStore 0 (streamUnit n b ∷ []) one (omega arith)) in
       leads-on h e node m (begins h e node m emptyStore 0xd1 a 0 Length refl) (leads-on h e node m length-read (string-leads h e node m n us f′ (omega arith))))
 
   -- df and its count
-  count-leads : (e : Escape) (node : ℤ) (m : M) (a : Bool) (c : List Given) → Further 2 c →
-      Leads h e node m (between h e node m) (given 0xdf a ∷ c) (done h e node m (out (countOf node (big (values c))) emptyStore))
+  count-leads : (e : Escape) (node : ℤ) (m : M) (a : Bool) (c : List StreamUnit) → Further 2 c →
+      Leads h e node m (between h e node m) (streamUnit 0xdf a ∷ c) (done h e node m (unitEffect (countOf node (big (values c))) emptyStore))
   unfolding tokenOf isString ruleOf ruleIn numberOf
   count-leads e node m a c f =
       let low : big (values c) % 0x10000 ≡ big (values c) = omega (arith, big-small 2 c f) in
       leads-on h e node m (begins h e node m emptyStore 0xdf a 1 Count refl)
-      (subst (λ (k : ℕ). Leads h e node m (stands h e node m (Number Count 2 0) emptyStore) c (done h e node m (out (countOf node k) emptyStore))) low
+      (subst (λ (k : ℕ). Leads h e node m (stands h e node m (Number Count 2 0) emptyStore) c (done h e node m (unitEffect (countOf node k) emptyStore))) low
       (number-leads h e node m Count emptyStore 1 c f (omega arith)))
 
-  body-token : (a : Bool) (c us : List Given) → Further 2 c → 1 ≤ big (values c) → Further (big (values c)) us →
-      Token h (given 0xdf a ∷ (c ++ us)) (if (leb (big (values c)) 4096) (event (body (appended us))) (event (refused 2)))
+  body-token : (a : Bool) (c us : List StreamUnit) → Further 2 c → 1 ≤ big (values c) → Further (big (values c)) us →
+      Token h (streamUnit 0xdf a ∷ (c ++ us)) (if (leb (big (values c)) bodyLimit) (event (body (appended us))) (event (refused 2)))
   unfolding countOf
   body-token a c us f some k =
       let n : ℕ = big (values c) in
-      whole (given 0xdf a ∷ (c ++ us)) (if (leb n 4096) (event (body (appended us))) (event (refused 2)))
+      whole (streamUnit 0xdf a ∷ (c ++ us)) (if (leb n bodyLimit) (event (body (appended us))) (event (refused 2)))
       (λ e node m.
-      let counted : Leads h e node m (between h e node m) (given 0xdf a ∷ c) (stands h e node m (InBody n n 0) emptyStore) =
+      let counted : Leads h e node m (between h e node m) (streamUnit 0xdf a ∷ c) (stands h e node m (InBody n n 0) emptyStore) =
       rw (ne-eqb n 0 (λ z. omega arith)) at (count-leads e node m a c f) in
       leads-on h e node m counted (body-leads h e node m n us k some))
 
-  zero-token : (a : Bool) (c us : List Given) → Further 2 c → big (values c) ≡ 0 → Further 4 us → Token h (given 0xdf a ∷ (c ++ us)) (event (refused 3))
+  zero-token : (a : Bool) (c us : List StreamUnit) → Further 2 c → big (values c) ≡ 0 → Further 4 us → Token h (streamUnit 0xdf a ∷ (c ++ us)) (event (refused 3))
   unfolding countOf numberOf eventOf
   zero-token a c us f z k =
-      whole (given 0xdf a ∷ (c ++ us)) (event (refused 3))
+      whole (streamUnit 0xdf a ∷ (c ++ us)) (event (refused 3))
       (λ e node m.
-      let counted : Leads h e node m (between h e node m) (given 0xdf a ∷ c) (stands h e node m (Number ZeroCount 4 0) emptyStore) =
+      let counted : Leads h e node m (between h e node m) (streamUnit 0xdf a ∷ c) (stands h e node m (Number ZeroCount 4 0) emptyStore) =
       rw (eq-eqb (big (values c)) 0 z) at (count-leads e node m a c f) in
       leads-on h e node m counted (number-leads h e node m ZeroCount emptyStore 3 us k (omega arith)))
 
   -- a string from a row of first units
-  row-token : (t low : ℕ) (a : Bool) (us : List Given) → ruleOf t ≡ rule String (t - low + 1) → t - low + 1 ≤ 256 → Further (t - low + 1) us → Token h (given t a ∷ us) (stringOf (values us))
+  row-token : (t low : ℕ) (a : Bool) (us : List StreamUnit) → ruleOf t ≡ rule String (t - low + 1) → t - low + 1 ≤ 256 → Further (t - low + 1) us → Token h (streamUnit t a ∷ us) (stringOf (values us))
   row-token t low a us q l f =
       let next : t - low + 1 ≡ suc (t - low) = omega arith in
       string-token t (t - low) a us (rw next at q) (rw next at l) (rw next at f)
 
   -- 01's table, row by row
-  pub row : (us : List Given) (g : Gives) → InTable us g → Token h us g
+  pub row : (us : List StreamUnit) (g : TokenResult) → InTable us g → Token h us g
   unfolding ruleOf ruleIn singleOf isString numberOf eventOf
   row us g (integer-t t a r) = alone t a Integer (event (value (integer (pos t)))) (rule-small t r) (λ e node m. refl)
   row us g (string-80 t a vs r f) = row-token t 0x80 a vs (rule-80 t r) (omega (arith, r .1)) f
@@ -499,11 +478,7 @@ module _ {M : Type 0} (h : ℤ → Event → M → M) where
   row us g (skips-two a vs f) = number-token 0xd2 a NoEvent 1 vs nothing refl refl (omega arith) f (λ e node m. refl)
   row us g (skips-one a vs f) = number-token 0xd9 a NoEvent 0 vs nothing refl refl (omega arith) f (λ e node m. refl)
   row us g (end-unit a) = alone 0xde a End (event end) refl (λ e node m. refl)
-  row us g (bodies a c vs f some most k) = rw (le-leb (big (values c)) 4096 most) at (body-token a c vs f some k)
-  row us g (count-over a c vs f over k) = rw (lt-leb (big (values c)) 4096 over) at (body-token a c vs f (omega arith) k)
+  row us g (bodies a c vs f some most k) = rw (le-leb (big (values c)) bodyLimit most) at (body-token a c vs f some k)
+  row us g (count-over a c vs f over k) = rw (lt-leb (big (values c)) bodyLimit over) at (body-token a c vs f (omega arith) k)
   row us g (count-zero a c vs f z k) = zero-token a c vs f z k
   row us g (no-event t a r) = alone t a NoEvent nothing (rule-rest t r) (λ e node m. refl)
-
--- a feed takes exactly the units of its bytes
-pub takes-units : {M : Type 0} (f : ℤ → Answer → List ℕ → M → M) → TakesUnits f
-takes-units f = feed-units f

@@ -25,16 +25,16 @@ and-assoc : (p q r : Bool) → and p (and q r) ≡ and (and p q) r
 and-assoc true q r = refl
 and-assoc false q r = refl
 
-pub one-more : (s : List ℕ) (i joined : ℕ) → i < length s →
-    and (eqb joined 0) (zeros (drop i s)) ≡ and (eqb (bitOr joined (getD s i 0)) 0) (zeros (drop (i + 1) s))
+pub one-more : (s : List ℕ) (i bits : ℕ) → i < length s →
+    and (eqb bits 0) (zeros (drop i s)) ≡ and (eqb (bitOr bits (getD s i 0)) 0) (zeros (drop (i + 1) s))
 unfolding zeros
-one-more s i joined h =
-    rw (or-eqb joined (getD s i 0), add-one i, drop-cons s i 0 h) (and-assoc (eqb joined 0) (eqb (getD s i 0) 0) (zeros (drop (suc i) s)))
+one-more s i bits h =
+    rw (or-eqb bits (getD s i 0), add-one i, drop-cons s i 0 h) (and-assoc (eqb bits 0) (eqb (getD s i 0) 0) (zeros (drop (suc i) s)))
 
 and-true : (p : Bool) → and p true ≡ p
 and-true true = refl
 and-true false = refl
 
-pub no-more : (s : List ℕ) (i joined : ℕ) → length s ≤ i → and (eqb joined 0) (zeros (drop i s)) ≡ eqb joined 0
+pub no-more : (s : List ℕ) (i bits : ℕ) → length s ≤ i → and (eqb bits 0) (zeros (drop i s)) ≡ eqb bits 0
 unfolding zeros
-no-more s i joined h = rw (drop-of-length-le s h) (and-true (eqb joined 0))
+no-more s i bits h = rw (drop-of-length-le s h) (and-true (eqb bits 0))

@@ -13,7 +13,7 @@ use lib.Seq.{sets, sets-eq, set-out, drop-set-add, take-set-le, take-suc, take-a
 use borrow.Author.Tests.{le-ltb, lt-ltb, ne-eqb}
 use Rattle.wing_node.specs.Bool.{if}
 use Rattle.wing_wire.specs.declared.write.Written.the-variants.{Bytes, Refused}
-use Rattle.wing_wire.specs.Write.{escaped, Laid, wrote, writeOf}
+use Rattle.wing_wire.specs.Write.{escaped, Laid, writeEffect, writeOf}
 
 -- one byte, stored where there is room
 pub stored : (d : List ℕ) (at b : ℕ) → Laid (b ∷ []) at d (set d at b) (at + 1)
@@ -58,29 +58,29 @@ unfolding escaped
 escaped-other s i h n = rw (add-one i, take-suc s i 0 h, escaped-append (take i s) (getD s i 0 ∷ [])) (simp (ne-eqb (getD s i 0) 0xdf n))
 
 -- a command where there is room for it
-pub whole : (s d : List ℕ) {n : ℕ} → n ≡ length s → length s ≤ length d → wrote (Bytes n) (s ++ drop (length s) d) ≡ writeOf s d
+pub whole : (s d : List ℕ) {n : ℕ} → n ≡ length s → length s ≤ length d → writeEffect (Bytes n) (s ++ drop (length s) d) ≡ writeOf s d
 unfolding writeOf
 whole s d m h = rw (m, le-ltb (length d) (length s) h)
 
 -- and where there is none
-pub short : (s d : List ℕ) → length d < length s → wrote (Refused 9) d ≡ writeOf s d
+pub short : (s d : List ℕ) → length d < length s → writeEffect (Refused 9) d ≡ writeOf s d
 unfolding writeOf
 short s d h = rw (lt-ltb (length d) (length s) h)
 
 module _ {s d e : List ℕ} {n : ℕ} (a : Laid s 0 d e n) (h : length s ≤ length d) where
-  told : n ≡ length s
-  told = omega (arith, a .next)
+  length-is : n ≡ length s
+  length-is = omega (arith, a .next)
 
   in-front : e ≡ s ++ drop (length s) d
   in-front = let z : 0 + length s ≡ length s = omega arith in a .bytes ∙ sets-eq s d 0 (omega arith) ∙ rw z
 
   -- a command laid straight into the output
-  pub written : wrote (Bytes n) e ≡ writeOf s d
-  written = rw in-front (whole s d told h)
+  pub written : writeEffect (Bytes n) e ≡ writeOf s d
+  written = rw in-front (whole s d length-is h)
 
   -- and one laid into a scratch buffer: its first n bytes are handed over
-  pub handed : (out : List ℕ) → writeOf (take n e) out ≡ writeOf s out
-  handed out = let f : take n e ≡ s = rw (in-front, told) (take-append-seam s (drop (length s) d)) in rw f
+  pub handed-over : (out : List ℕ) → writeOf (take n e) out ≡ writeOf s out
+  handed-over out = let f : take n e ≡ s = rw (in-front, length-is) (take-append-seam s (drop (length s) d)) in rw f
 
 -- bytes laid after others go on where these end
 pub goes-on : {s d e : List ℕ} {at n : ℕ} → Laid s at d e n → (t : List ℕ) → sets e n t ≡ sets d at (s ++ t)

@@ -12,7 +12,7 @@ use Rattle.wing_node.specs.Field.{big, fieldAt}
 use Rattle.wing_node.specs.Signed.{signed}
 use Rattle.wing_node.proofs.Numerals.Placed.{field-whole}
 use Rattle.wing_wire.specs.declared.meter.MetersRead.the-variants.{Readings, Refused}
-use Rattle.wing_wire.specs.Meter.{readings, heard, packetOf}
+use Rattle.wing_wire.specs.Meter.{readings, packetEffect, packetOf}
 
 pub readings-length : (s : List ℕ) → length (readings s) ≡ length s / 2
 unfolding readings
@@ -45,22 +45,22 @@ module _ (p : List ℕ) (out : List ℤ) where
   rest : length (readings (drop 4 p)) ≡ (length p - 4) / 2
   rest = readings-length (drop 4 p) ∙ ap (λ (n : ℕ). n / 2) (length-drop 4 p)
 
-  pub too-short : length p < 4 → heard (Refused 13) out ≡ packetOf p out
+  pub too-short : length p < 4 → packetEffect (Refused 13) out ≡ packetOf p out
   unfolding packetOf
   too-short h = simp (lt-ltb (length p) 4 h)
 
-  pub too-long : 4 ≤ length p → 8192 < length p → heard (Refused 13) out ≡ packetOf p out
+  pub too-long : 4 ≤ length p → 8192 < length p → packetEffect (Refused 13) out ≡ packetOf p out
   unfolding packetOf
   too-long h g = simp (le-ltb (length p) 4 h, lt-ltb 8192 (length p) g)
 
-  pub no-room : 4 ≤ length p → length p ≤ 8192 → length out < (length p - 4) / 2 → heard (Refused 9) out ≡ packetOf p out
+  pub no-room : 4 ≤ length p → length p ≤ 8192 → length out < (length p - 4) / 2 → packetEffect (Refused 9) out ≡ packetOf p out
   unfolding packetOf
   no-room h g k = simp (le-ltb (length p) 4 h, le-ltb 8192 (length p) g, rest, lt-ltb (length out) ((length p - 4) / 2) k)
 
-  pub heard-whole : (id : ℕ) → id ≡ fieldAt 2 p 0 → 4 ≤ length p → length p ≤ 8192 → (length p - 4) / 2 ≤ length out →
-      heard (Readings id ((length p - 4) / 2)) (take ((length p - 4) / 2) (readings (drop 4 p)) ++ drop ((length p - 4) / 2) out) ≡ packetOf p out
+  pub packet-whole : (id : ℕ) → id ≡ fieldAt 2 p 0 → 4 ≤ length p → length p ≤ 8192 → (length p - 4) / 2 ≤ length out →
+      packetEffect (Readings id ((length p - 4) / 2)) (take ((length p - 4) / 2) (readings (drop 4 p)) ++ drop ((length p - 4) / 2) out) ≡ packetOf p out
   unfolding packetOf
-  heard-whole id e h g k =
+  packet-whole id e h g k =
       simp (
         le-ltb (length p) 4 h,
         le-ltb 8192 (length p) g,

@@ -3,7 +3,7 @@
 use mathlib.Core.Path.{sym, subst}
 use denote.Ref.{now}
 use borrow.Author.Needs.{needs}
-use Rattle.wing_wire.specs.Write.{Wrote}
+use Rattle.wing_wire.specs.Write.{WriteEffect}
 use Rattle.wing_mirror.specs.Table.{table}
 use Rattle.promises.specs.Mirror.{RecallCall}
 use Rattle.promises.proofs.Typed.{are-bytes}
@@ -22,7 +22,7 @@ returns c =
     let k = c .before .before .before .before .before .before in
     let t = table (now (k .args .table)) (k .args .count) in
     let out = now (k .args .out) in
-    subst (λ (x : Wrote). RecallCall t out (x .answer) (x .out)) (sym (c .before .before .recall .ensures))
+    subst (λ (x : WriteEffect). RecallCall t out (x .answer) (x .out)) (sym (c .before .before .recall .ensures))
     (recall-call t out (are-bytes (now (k .args .table)) (λ i. c .before .before .before .before .before .shared-slice-known .given i .fits)))
 
 pub recall-spec : {M : Type 1} → statement M

@@ -6,7 +6,7 @@ use mir.Facts.{toZ-ofZ}
 use borrow.Author.Needs.{needs}
 use Rattle.wing_node.specs.Value.{float}
 use Rattle.wing_mirror.specs.Table.{table}
-use Rattle.wing_mirror.specs.Mirror.{Setting}
+use Rattle.wing_mirror.specs.Mirror.{SetEffect}
 use Rattle.promises.specs.Mirror.{SetCall}
 use Rattle.promises.proofs.Calls.{set-call}
 use Rattle.promises.proofs.mirror.set_float.Statement.{statement}
@@ -26,7 +26,7 @@ returns c =
     let k = c .before .before .before .before .before .before .before .before .before in
     let t = table (now (k .args .table)) (k .args .count) in
     let out = now (k .args .out) in
-    subst (λ (x : Setting). SetCall (k .args .id) (float (k .args .bits)) t out (x .answer) (x .table) (x .out))
+    subst (λ (x : SetEffect). SetCall (k .args .id) (float (k .args .bits)) t out (x .answer) (x .table) (x .out))
     (sym (rw (toZ-ofZ (k .fits .id)) at (c .before .before .before .before .set-float .ensures)))
     (set-call (k .args .id) (float (k .args .bits)) t out (k .fits .id .sfits) (k .fits .bits .fits))
 

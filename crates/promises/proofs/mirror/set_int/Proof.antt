@@ -5,7 +5,7 @@ use mir.Facts.{toZ-ofZ}
 use borrow.Author.Needs.{needs}
 use Rattle.wing_node.specs.Value.{integer}
 use Rattle.wing_mirror.specs.Table.{table}
-use Rattle.wing_mirror.specs.Mirror.{Setting}
+use Rattle.wing_mirror.specs.Mirror.{SetEffect}
 use Rattle.promises.specs.Mirror.{SetCall}
 use Rattle.promises.proofs.Calls.{set-call}
 use Rattle.promises.proofs.mirror.set_int.Statement.{statement}
@@ -25,7 +25,7 @@ returns c =
     let k = c .before .before .before .before .before .before .before .before .before in
     let t = table (now (k .args .table)) (k .args .count) in
     let out = now (k .args .out) in
-    subst (λ (x : Setting). SetCall (k .args .id) (integer (k .args .value)) t out (x .answer) (x .table) (x .out))
+    subst (λ (x : SetEffect). SetCall (k .args .id) (integer (k .args .value)) t out (x .answer) (x .table) (x .out))
     (sym (rw (toZ-ofZ (k .fits .id), toZ-ofZ (k .fits .value)) at (c .before .before .before .before .set-int .ensures)))
     (set-call (k .args .id) (integer (k .args .value)) t out (k .fits .id .sfits) (k .fits .value .sfits))
 

@@ -6,7 +6,7 @@ use mir.Facts.{toZ-ofZ}
 use borrow.Author.Needs.{needs}
 use Rattle.wing_node.specs.Value.{string}
 use Rattle.wing_mirror.specs.Table.{table}
-use Rattle.wing_mirror.specs.Mirror.{Setting}
+use Rattle.wing_mirror.specs.Mirror.{SetEffect}
 use Rattle.promises.specs.Mirror.{SetCall}
 use Rattle.promises.proofs.Calls.{set-call}
 use Rattle.promises.proofs.mirror.set_string.Statement.{statement}
@@ -27,7 +27,7 @@ returns c =
     let entry = at-set-string .before .before .before .before .before .before in
     let t = table (now (entry .args .table)) (entry .args .count) in
     let out = now (entry .args .out) in
-    subst (λ (x : Setting). SetCall (entry .args .id) (string (now (entry .args .value))) t out (x .answer) (x .table) (x .out))
+    subst (λ (x : SetEffect). SetCall (entry .args .id) (string (now (entry .args .value))) t out (x .answer) (x .table) (x .out))
     (sym (rw (toZ-ofZ (entry .fits .id)) at (at-set-string .set-string .ensures)))
     (set-call (entry .args .id) (string (now (entry .args .value))) t out (entry .fits .id .sfits) tt)
 

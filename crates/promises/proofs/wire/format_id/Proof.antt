@@ -4,7 +4,7 @@ use denote.Ref.{now}
 use mir.Facts.{toZ-ofZ}
 use borrow.Author.Needs.{needs}
 use Rattle.wing_wire.specs.Command.{idBytes, suffixBytes}
-use Rattle.wing_wire.specs.Write.{Wrote}
+use Rattle.wing_wire.specs.Write.{WriteEffect}
 use Rattle.promises.specs.Wire.{CommandCall}
 use Rattle.promises.proofs.Writers.{command-writes}
 use Rattle.promises.proofs.wire.format_id.Statement.{statement}
@@ -21,7 +21,7 @@ returns c =
     let k = c .before .before .before .before .before in
     let bytes = idBytes (k .args .prefix) (k .args .id) (suffixBytes (k .args .suffix)) in
     let out = now (k .args .out) in
-    subst (λ (x : Wrote). CommandCall bytes out (x .answer) (x .out)) (sym (rw (toZ-ofZ (k .fits .id)) at (c .before .before .format-id .ensures))) (command-writes bytes out)
+    subst (λ (x : WriteEffect). CommandCall bytes out (x .answer) (x .out)) (sym (rw (toZ-ofZ (k .fits .id)) at (c .before .before .format-id .ensures))) (command-writes bytes out)
 
 pub format-id-spec : {M : Type 1} → statement M
 format-id-spec = tie.close (tie.spec format-id-requires same-length returns)

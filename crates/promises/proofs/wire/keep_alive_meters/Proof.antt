@@ -4,7 +4,7 @@ use mathlib.Core.Path.{sym, subst}
 use denote.Ref.{now}
 use borrow.Author.Needs.{needs}
 use Rattle.wing_wire.specs.Meter.{keepAlives}
-use Rattle.wing_wire.specs.Write.{Wrote}
+use Rattle.wing_wire.specs.Write.{WriteEffect}
 use Rattle.promises.specs.Wire.{CommandCall}
 use Rattle.promises.proofs.Writers.{command-writes}
 use Rattle.promises.proofs.wire.keep_alive_meters.Statement.{statement}
@@ -21,7 +21,7 @@ returns c =
     let k = c .before .before .before .before .before in
     let bytes = keepAlives (k .args .port) (k .args .last-id) in
     let out = now (k .args .out) in
-    subst (λ (x : Wrote). CommandCall bytes out (x .answer) (x .out)) (sym (c .before .before .keep-alive-meters .ensures)) (command-writes bytes out)
+    subst (λ (x : WriteEffect). CommandCall bytes out (x .answer) (x .out)) (sym (c .before .before .keep-alive-meters .ensures)) (command-writes bytes out)
 
 pub keep-alive-meters-spec : {M : Type 1} → statement M
 keep-alive-meters-spec = tie.close (tie.spec keep-alive-meters-requires same-length returns)

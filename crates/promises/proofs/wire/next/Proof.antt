@@ -1,7 +1,7 @@
 -- By the contract of the wire's `next` the reply is `nextOf`, of which `next-call` says what is promised.
 use denote.Ref.{now}
 use borrow.Author.Needs.{needs}
-use Rattle.promises.proofs.Nexts.{next-call}
+use Rattle.promises.proofs.NextCalls.{next-call}
 use Rattle.promises.proofs.wire.next.Statement.{statement}
 use Rattle.promises.proofs.wire.next.Tie as tie
 

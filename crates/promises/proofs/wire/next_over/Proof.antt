@@ -1,7 +1,7 @@
 -- By the contract of the wire's `next_over` the reply and the state together are `nextOf`, of which `next-call` says what is promised.
 use denote.Ref.{now}
 use borrow.Author.Needs.{needs}
-use Rattle.promises.proofs.Nexts.{next-call}
+use Rattle.promises.proofs.NextCalls.{next-call}
 use Rattle.promises.proofs.wire.next_over.Statement.{statement}
 use Rattle.promises.proofs.wire.next_over.Tie as tie
 

@@ -3,7 +3,7 @@
 use mathlib.Core.Path.{sym, subst}
 use denote.Ref.{now}
 use borrow.Author.Needs.{needs}
-use Rattle.wing_wire.specs.Meter.{Asked}
+use Rattle.wing_wire.specs.Meter.{RequestEffect}
 use Rattle.promises.specs.Wire.{MeterCall}
 use Rattle.promises.proofs.Writers.{meters-write}
 use Rattle.promises.proofs.wire.request_meter.Statement.{statement}
@@ -19,7 +19,7 @@ returns : tie.Need-returns
 returns c =
     let k = c .before .before .before .before .before in
     let out = now (k .args .out) in
-    subst (λ (x : Asked). MeterCall (k .args .port) (k .args .last-id) (k .args .meters) (k .args .count) out (x .answer) (x .out))
+    subst (λ (x : RequestEffect). MeterCall (k .args .port) (k .args .last-id) (k .args .meters) (k .args .count) out (x .answer) (x .out))
     (sym (c .before .before .request-meter .ensures)) (meters-write (k .args .port) (k .args .last-id) (k .args .meters) (k .args .count) out)
 
 pub request-meter-spec : {M : Type 1} → statement M

@@ -5,7 +5,7 @@ use denote.Ref.{now}
 use mir.Facts.{toZ-ofZ}
 use borrow.Author.Needs.{needs}
 use Rattle.wing_wire.specs.Command.{requestBytes}
-use Rattle.wing_wire.specs.Write.{Wrote}
+use Rattle.wing_wire.specs.Write.{WriteEffect}
 use Rattle.promises.specs.Wire.{CommandCall}
 use Rattle.promises.proofs.Writers.{command-writes}
 use Rattle.promises.proofs.wire.request_node_definition.Statement.{statement}
@@ -22,7 +22,7 @@ returns c =
     let k = c .before .before .before .before .before in
     let bytes = requestBytes 0xdd (k .args .id) in
     let out = now (k .args .out) in
-    subst (λ (x : Wrote). CommandCall bytes out (x .answer) (x .out)) (sym (rw (toZ-ofZ (k .fits .id)) at (c .before .before .request-node-definition .ensures))) (command-writes bytes out)
+    subst (λ (x : WriteEffect). CommandCall bytes out (x .answer) (x .out)) (sym (rw (toZ-ofZ (k .fits .id)) at (c .before .before .request-node-definition .ensures))) (command-writes bytes out)
 
 pub request-node-definition-spec : {M : Type 1} → statement M
 request-node-definition-spec =

@@ -4,7 +4,7 @@ use denote.Ref.{now}
 use mir.Facts.{toZ-ofZ}
 use borrow.Author.Needs.{needs}
 use Rattle.wing_node.specs.Value.{integer}
-use Rattle.wing_wire.specs.Write.{Wrote}
+use Rattle.wing_wire.specs.Write.{WriteEffect}
 use Rattle.wing_wire.specs.Command.{setBytes}
 use Rattle.promises.specs.Wire.{commandLines, SetOrder}
 use Rattle.promises.proofs.Writers.{order-call}
@@ -22,7 +22,7 @@ returns c =
     let k = c .before .before .before .before .before in
     let v = integer (k .args .value) in
     let out = now (k .args .out) in
-    subst (λ (x : Wrote). SetOrder (commandLines (setBytes (k .args .id) v) out) (k .args .id) v out (x .answer) (x .out))
+    subst (λ (x : WriteEffect). SetOrder (commandLines (setBytes (k .args .id) v) out) (k .args .id) v out (x .answer) (x .out))
     (sym (rw (toZ-ofZ (k .fits .id), toZ-ofZ (k .fits .value)) at (c .before .before .set-int .ensures))) (order-call (k .args .id) v out (k .fits .id .sfits) (k .fits .value .sfits))
 
 pub set-int-spec : {M : Type 1} → statement M

@@ -4,7 +4,7 @@ use denote.Ref.{now}
 use mir.Facts.{toZ-ofZ}
 use borrow.Author.Needs.{needs}
 use Rattle.wing_node.specs.Value.{string}
-use Rattle.wing_wire.specs.Write.{Wrote}
+use Rattle.wing_wire.specs.Write.{WriteEffect}
 use Rattle.promises.specs.Wire.{stringLines, SetOrder}
 use Rattle.promises.proofs.Writers.{string-call}
 use Rattle.promises.proofs.wire.set_string.Statement.{statement}
@@ -21,7 +21,7 @@ returns c =
     let k = c .before .before .before .before .before .before in
     let s = now (k .args .value) in
     let out = now (k .args .out) in
-    subst (λ (x : Wrote). SetOrder (stringLines (k .args .id) s out) (k .args .id) (string s) out (x .answer) (x .out))
+    subst (λ (x : WriteEffect). SetOrder (stringLines (k .args .id) s out) (k .args .id) (string s) out (x .answer) (x .out))
     (sym (rw (toZ-ofZ (k .fits .id)) at (c .before .before .set-string .ensures))) (string-call (k .args .id) s out (k .fits .id .sfits))
 
 pub set-string-spec : {M : Type 1} → statement M

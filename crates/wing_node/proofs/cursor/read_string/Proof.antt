@@ -1,19 +1,18 @@
--- Each return is a case of `readAt`: refused before (`read-refused`), too short (`string-short`), there (`string-there`) or not UTF-8
--- (`string-wrong`), as `is_utf8` tells of the bytes after the length byte.
+-- Each return is a case of `readAt`: refused before (`read-refused`), no length byte (`string-short`), refused for what `string_fault` says of the
+-- bytes that are there (`string-refused`), or good (`string-good`).
 use mathlib.Core.Path.{_≡_, sym, _∙_}
-use mathlib.Core.Bool.{true, false}
 use Prim.Native.Nat.{_-_, _+_}
 use native.Mathlib.Omega.{arith}
-use lib.ListN.{getD, take, drop}
-use Rattle.wing_node.specs.Utf8.{utf8}
 use Rattle.wing_node.specs.Cursor.{string}
-use Rattle.wing_node.proofs.Bodies.Cases.{read-refused, string-short, string-there, string-wrong}
+use Rattle.wing_node.proofs.Bodies.Cases.{read-refused, string-short, string-refused, string-good}
 use borrow.Author.Needs.{needs}
 use Rattle.wing_node.proofs.cursor.read_string.Statement.{statement}
 use Rattle.wing_node.proofs.cursor.read_string.Tie as tie
 use Rattle.wing_node.proofs.cursor.read_string.Reads as reads
 use Rattle.wing_node.proofs.cursor.read_string.Lts as lts
+use Rattle.wing_node.proofs.cursor.least.Reads as least-reads
 use Rattle.wing_node.proofs.cursor.refuse.Reads as refuse-reads
+use Rattle.wing_node.proofs.cursor.string_fault.Reads as string-fault-reads
 use Rattle.wing_node.proofs.field.left.Reads as left-reads
 use Rattle.wing_node.proofs.utf8.is_utf8.Reads as is-utf8-reads
 
@@ -38,17 +37,11 @@ shared-slice-read-len c = search needs
 cast-len : tie.Need-cast-len
 cast-len c = omega (arith, c .shared-slice-known2 .given (c .before .before .before .before .before .args .c .at))
 
-add-if3 : tie.Need-add-if3
-add-if3 c = omega (arith, c .shared-slice-known2 .given (c .before .before .before .before .before .args .c .at))
-
-refuse-requires-3 : tie.Need-refuse-requires-3
-refuse-requires-3 c κs = search needs
-
-returns-3 : tie.Need-returns-3
-returns-3 c = c .refuse3 .ensures ∙ sym (string-short _ _ (c .before .before .before .before .before .if1 .left) (omega arith))
-
 add-first : tie.Need-add-first
 add-first c = search needs
+
+least-requires : tie.Need-least-requires
+least-requires c κs = search needs
 
 add-end : tie.Need-add-end
 add-end c = search needs
@@ -65,29 +58,35 @@ part-is-utf8-end c = search needs
 is-utf8-requires : tie.Need-is-utf8-requires
 is-utf8-requires c κs = search needs
 
-cast-t18 : tie.Need-cast-t18
-cast-t18 c = omega (arith, c .before .before .before .before .shared-slice-known2 .given (c .before .before .before .before .before .before .before .before .before .args .c .at))
+string-fault-requires : tie.Need-string-fault-requires
+string-fault-requires c κs = search needs
 
-refuse-requires-4 : tie.Need-refuse-requires-4
-refuse-requires-4 c κs = search needs
+refuse-requires-3 : tie.Need-refuse-requires-3
+refuse-requires-3 c κs = search needs
+
+returns-3 : tie.Need-returns-3
+returns-3 c =
+    let s = c .before .before .before .before .before .before .before .before .before .before .before in
+    let k = s .args .c in
+    let e = c .before .before .before .before .before .least .result in
+    let there = c .before .before .before .before .before .before .before .before .left .ensures in
+    let n : k .at + 1 + e - (k .at + 1) ≡ e = omega arith in
+    let u = rw n at (c .before .before .before .is-utf8 .ensures .0) in
+    c .refuse3 .ensures ∙
+    sym (string-refused (s .args .body .now) k (c .before .before .before .before .before .before .before .before .before .if1 .left) (omega arith) e (rw there at (c .before .before .before .before .before .least .ensures)) (c .before .before .before .is-utf8 .result) u (c .before .before .string-fault .result) (rw there at (c .before .before .string-fault .ensures)) (c .before .if3 .taken))
+
+cast-t19 : tie.Need-cast-t19
+cast-t19 c = omega (arith, c .before .before .before .before .before .shared-slice-known2 .given (c .before .before .before .before .before .before .before .before .before .before .args .c .at))
 
 returns-4 : tie.Need-returns-4
 returns-4 c =
-    let body = c .before .before .before .before .before .before .before .before .before .args .body .now in
-    let k = c .before .before .before .before .before .before .before .before .before .args .c in
-    let len = getD body (k .at) 0 in
-    let e : k .at + 1 + len - (k .at + 1) ≡ len = omega arith in
-    let u : utf8 (take len (drop (k .at + 1) body)) ≡ true = sym (rw e at (c .before .is-utf8 .ensures .0)) ∙ c .if4 .taken in
-    simp (string-there body k (c .before .before .before .before .before .before .before .if1 .left) (omega arith) u)
-
-returns-5 : tie.Need-returns-5
-returns-5 c =
-    let body = c .before .before .before .before .before .before .before .before .before .before .args .body .now in
-    let k = c .before .before .before .before .before .before .before .before .before .before .args .c in
-    let len = getD body (k .at) 0 in
-    let e : k .at + 1 + len - (k .at + 1) ≡ len = omega arith in
-    let u : utf8 (take len (drop (k .at + 1) body)) ≡ false = sym (rw e at (c .before .before .is-utf8 .ensures .0)) ∙ c .before .if4 .left in
-    c .refuse4 .ensures ∙ sym (string-wrong body k (c .before .before .before .before .before .before .before .before .if1 .left) (omega arith) u)
+    let s = c .before .before .before .before .before .before .before .before .before .before in
+    let k = s .args .c in
+    let e = c .before .before .before .before .least .result in
+    let there = c .before .before .before .before .before .before .before .left .ensures in
+    let n : k .at + 1 + e - (k .at + 1) ≡ e = omega arith in
+    let u = rw n at (c .before .before .is-utf8 .ensures .0) in
+    sym (string-good (s .args .body .now) k (c .before .before .before .before .before .before .before .before .if1 .left) (omega arith) e (rw there at (c .before .before .before .before .least .ensures)) (c .before .before .is-utf8 .result) u (rw there at (sym (c .before .string-fault .ensures) ∙ c .if3 .left)))
 
 pub read-string-spec : {M : Type 1} → statement M
 read-string-spec =
@@ -100,16 +99,15 @@ read-string-spec =
     returns-2
     shared-slice-read-len
     cast-len
-    add-if3
-    refuse-requires-3
-    returns-3
     add-first
+    least-requires
     add-end
     sub-is-utf8
     part-is-utf8-start
     part-is-utf8-end
     is-utf8-requires
-    cast-t18
-    refuse-requires-4
-    returns-4
-    returns-5)
+    string-fault-requires
+    refuse-requires-3
+    returns-3
+    cast-t19
+    returns-4)

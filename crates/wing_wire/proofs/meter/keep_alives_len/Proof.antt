@@ -6,7 +6,7 @@ use mathlib.Core.Path.{_≡_, ap, _∙_}
 use native.Mathlib.Omega.{arith}
 use lib.ListN.{length, length-append}
 use Rattle.wing_wire.specs.Meter.{keepAlive, keepAlives}
-use Rattle.wing_wire.proofs.Writing.Asks.{one-alive}
+use Rattle.wing_wire.proofs.Writing.Requests.{one-alive}
 use Rattle.wing_wire.proofs.meter.keep_alives_len.Statement.{statement}
 use Rattle.wing_wire.proofs.meter.keep_alives_len.Tie as tie
 

@@ -8,7 +8,7 @@ use lib.ListN.{length, length-append}
 use lib.Seq.{sets, length-sets}
 use Rattle.wing_wire.specs.Meter.{keepAlive, keepAlives}
 use Rattle.wing_wire.proofs.Writing.Lays.{goes-on, in-part}
-use Rattle.wing_wire.proofs.Writing.Asks.{one-alive}
+use Rattle.wing_wire.proofs.Writing.Requests.{one-alive}
 use Rattle.wing_wire.proofs.meter.lay_keep_alives.Statement.{statement}
 use Rattle.wing_wire.proofs.meter.lay_keep_alives.Tie as tie
 

@@ -7,7 +7,7 @@ use lib.ListN.{length, take}
 use Rattle.wing_wire.specs.Write.{Laid}
 use Rattle.wing_wire.specs.Meter.{metersBytes}
 use Rattle.wing_wire.proofs.Writing.Lays.{then, nothing}
-use Rattle.wing_wire.proofs.Writing.Asks.{meters-more}
+use Rattle.wing_wire.proofs.Writing.Requests.{meters-more}
 use Rattle.wing_wire.proofs.meter.lay_meters.Statement.{statement}
 use Rattle.wing_wire.proofs.meter.lay_meters.Tie as tie
 

@@ -1,7 +1,7 @@
--- Each return is a case of `packetOf` (`too-short`, `too-long`, `no-room`, `heard-whole`), and the contracts of `fill_readings` and `u16_at` give
+-- Each return is a case of `packetOf` (`too-short`, `too-long`, `no-room`, `packet-whole`), and the contracts of `fill_readings` and `u16_at` give
 -- the readings and the id.
 use native.Mathlib.Omega.{arith}
-use Rattle.wing_wire.proofs.Writing.Packets.{too-short, too-long, no-room, heard-whole}
+use Rattle.wing_wire.proofs.Writing.Packets.{too-short, too-long, no-room, packet-whole}
 use borrow.Author.Needs.{needs}
 use Rattle.wing_wire.proofs.meter.read_meters.Statement.{statement}
 use Rattle.wing_wire.proofs.meter.read_meters.Tie as tie
@@ -40,7 +40,7 @@ returns-4 : tie.Need-returns-4
 returns-4 c =
     let k1 = c .before .before in
     let entry = k1 .before .before .before .before .before .before in
-    rw (k1 .fill-readings .ensures) (heard-whole (entry .args .packet .now) (entry .args .out .now) (c .u16-at .result) (c .u16-at .ensures) (omega arith) (omega arith) (omega arith))
+    rw (k1 .fill-readings .ensures) (packet-whole (entry .args .packet .now) (entry .args .out .now) (c .u16-at .result) (c .u16-at .ensures) (omega arith) (omega arith) (omega arith))
 
 pub read-meters-spec : {M : Type 1} → statement M
 read-meters-spec =

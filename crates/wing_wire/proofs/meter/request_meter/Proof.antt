@@ -1,11 +1,11 @@
--- Each return is a case of `requestMeter` (`too-many`, `spent`, `asks-whole`, `asks-handed`); no request is over 212 bytes (`meter-request-le`), so
+-- Each return is a case of `requestMeter` (`too-many`, `spent`, `request-whole`, `request-handed`); no request is over 212 bytes (`meter-request-le`), so
 -- an output or scratch buffer of that size has room for it.
 use Prim.Native.Nat.{_+_}
 use mathlib.Core.Path.{sym, ap, _∙_}
 use native.Mathlib.Omega.{arith}
 use Rattle.wing_wire.specs.declared.write.Written.{Written}
-use Rattle.wing_wire.specs.Write.{wrote}
-use Rattle.wing_wire.proofs.Writing.Asks.{too-many, spent, asks-whole, asks-handed}
+use Rattle.wing_wire.specs.Write.{writeEffect}
+use Rattle.wing_wire.proofs.Writing.Requests.{too-many, spent, request-whole, request-handed}
 use Rattle.wing_wire.proofs.Writing.Sizes.{meter-request-le}
 use borrow.Author.Needs.{needs}
 use Rattle.wing_wire.proofs.meter.request_meter.Statement.{statement}
@@ -36,7 +36,7 @@ returns-3 : tie.Need-returns-3
 returns-3 c =
     let k = c .before .before .before .before .before in
     let a = k .before .before .before .args in
-    asks-whole (a .port) (a .last-id) (a .meters) (a .count) (a .out .now) (omega arith) (k .if2 .left) (omega arith) (c .before .before .lay-meter-request .ensures)
+    request-whole (a .port) (a .last-id) (a .meters) (a .count) (a .out .now) (omega arith) (k .if2 .left) (omega arith) (c .before .before .lay-meter-request .ensures)
 
 slice-aggregate-lay-meter-request : tie.Need-slice-aggregate-lay-meter-request
 slice-aggregate-lay-meter-request c = search needs
@@ -68,8 +68,8 @@ returns-4 c =
     let k2 = k1 .before .before .before .before in
     let k3 = k2 .before .before .before in
     let a = k3 .before .before .before .args in
-    asks-handed (a .port) (a .last-id) (a .meters) (a .count) (a .out .now) (omega arith) (k3 .if2 .left) (omega arith) (k2 .lay-meter-request2 .ensures)
-    (ap (λ (r : Written). wrote r (k1 .hand-over .last .0)) (sym (c .before .w .given .1)) ∙ k1 .hand-over .ensures)
+    request-handed (a .port) (a .last-id) (a .meters) (a .count) (a .out .now) (omega arith) (k3 .if2 .left) (omega arith) (k2 .lay-meter-request2 .ensures)
+    (ap (λ (r : Written). writeEffect r (k1 .hand-over .last .0)) (sym (c .before .w .given .1)) ∙ k1 .hand-over .ensures)
 
 same-length-3 : tie.Need-same-length-3
 same-length-3 c = search needs
@@ -80,8 +80,8 @@ returns-5 c =
     let k2 = k1 .before .before .before .before in
     let k3 = k2 .before .before .before in
     let a = k3 .before .before .before .args in
-    asks-handed (a .port) (a .last-id) (a .meters) (a .count) (a .out .now) (omega arith) (k3 .if2 .left) (omega arith) (k2 .lay-meter-request2 .ensures)
-    (ap (λ (r : Written). wrote r (k1 .hand-over .last .0)) (sym (c .before .w2 .given .1)) ∙ k1 .hand-over .ensures)
+    request-handed (a .port) (a .last-id) (a .meters) (a .count) (a .out .now) (omega arith) (k3 .if2 .left) (omega arith) (k2 .lay-meter-request2 .ensures)
+    (ap (λ (r : Written). writeEffect r (k1 .hand-over .last .0)) (sym (c .before .w2 .given .1)) ∙ k1 .hand-over .ensures)
 
 pub request-meter-spec : {M : Type 1} → statement M
 request-meter-spec =

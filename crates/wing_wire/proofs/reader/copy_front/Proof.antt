@@ -1,6 +1,6 @@
 -- The invariant: the first i bytes of s stand over the front of out; a turn copies one more (`over-turn`), and past the shorter of the two nothing
 -- would change (`over-least`).
-use mathlib.Core.Path.{_≡_, refl, _∙_, ap, sym}
+use mathlib.Core.Path.{_≡_, refl, _∙_, ap}
 use mathlib.Core.List.{List}
 use Prim.Native.Nat.{ℕ, _≤_, _<_, _-_, min}
 use native.Mathlib.Omega.{arith}

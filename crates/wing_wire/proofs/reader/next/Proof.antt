@@ -1,8 +1,9 @@
 -- Each return is the branch of `nextOf` and `nextEvent` with that test, by the contracts of `read_on` and `refuse`; the law `next-event` reads the
 -- event from what stands beside the answer.
-use borrow.Author.Tests.{le-leb, le-ltb, lt-leb, lt-ltb}
+use borrow.Author.Tests.{le-leb, lt-leb}
 use mathlib.Core.Path.{_≡_, refl}
 use lib.ListN.{length}
+use Rattle.wing_wire.specs.State.{bodyLimit}
 use Rattle.wing_wire.specs.Reader.{eventOf, nextOf, nextEvent}
 use Rattle.wing_wire.proofs.Reading.Beside.{next-event}
 use borrow.Author.Needs.{needs}
@@ -23,7 +24,7 @@ read-on-requires c κs = search needs
 returns : tie.Need-returns
 unfolding nextOf
 returns c =
-    let l : length (c .before .before .before .before .before .args .s .store) ≡ 4096 = search needs in
+    let l : length (c .before .before .before .before .before .args .s .store) ≡ bodyLimit = search needs in
     let e = next-event (c .before .before .before .before .before .args .s) (c .before .before .before .before .before .args .bytes .now) l in
     simp (← c .before .before .before .is-sound .ensures, c .before .before .if1 .taken, le-leb _ _ (c .before .if2 .taken), c .read-on .ensures)
     (refl, simp (← c .before .before .before .is-sound .ensures, c .before .before .if1 .taken, le-leb _ _ (c .before .if2 .taken)) at e)

@@ -1,9 +1,9 @@
 -- No formatted id is over 10 bytes (`format-le`): with room it is laid straight into out (law `written`), else into a scratch buffer and handed over
--- (law `handed`).
+-- (law `handed-over`).
 use mir.Facts.{toZ-ofZ}
 use mathlib.Core.Path.{_∙_}
 use native.Mathlib.Omega.{arith}
-use Rattle.wing_wire.proofs.Writing.Lays.{written, handed}
+use Rattle.wing_wire.proofs.Writing.Lays.{written, handed-over}
 use Rattle.wing_wire.proofs.Writing.Sizes.{format-le}
 use borrow.Author.Needs.{needs}
 use Rattle.wing_wire.proofs.set.format_id.Statement.{statement}
@@ -32,19 +32,21 @@ slice-aggregate-hand-over c = search needs
 
 hand-over-requires : tie.Need-hand-over-requires
 hand-over-requires c κs =
-    let entry = c .before .before .before .before .before .before .before in
-    let z = toZ-ofZ (entry .fits .id) in
-    omega (arith, (rw z at (c .before .before .before .lay-format2 .ensures)) .next, format-le (entry .args .prefix) (entry .args .id) (entry .args .suffix))
+    let at-lay-format2 = c .before .before .before in
+    let start = at-lay-format2 .before .before .before .before in
+    let z = toZ-ofZ (start .fits .id) in
+    omega (arith, (rw z at (at-lay-format2 .lay-format2 .ensures)) .next, format-le (start .args .prefix) (start .args .id) (start .args .suffix))
 
 same-length-2 : tie.Need-same-length-2
 same-length-2 c = search needs
 
 returns-2 : tie.Need-returns-2
 returns-2 c =
-    let entry = c .before .before .before .before .before .before .before .before .before .before in
-    let z = toZ-ofZ (entry .fits .id) in
+    let at-lay-format2 = c .before .before .before .before .before .before in
+    let start = at-lay-format2 .before .before .before .before in
+    let z = toZ-ofZ (start .fits .id) in
     c .before .before .hand-over .ensures
-    ∙ handed (rw z at (c .before .before .before .before .before .before .lay-format2 .ensures)) (format-le (entry .args .prefix) (entry .args .id) (entry .args .suffix)) (entry .args .out .now)
+    ∙ handed-over (rw z at (at-lay-format2 .lay-format2 .ensures)) (format-le (start .args .prefix) (start .args .id) (start .args .suffix)) (start .args .out .now)
 
 pub format-id-spec : {M : Type 1} → statement M
 format-id-spec =

@@ -1,9 +1,9 @@
 -- No float order is over 18 bytes (`set-float-le`): with room it is laid straight into out (law `written`), else into a scratch buffer and handed
--- over (law `handed`).
+-- over (law `handed-over`).
 use mir.Facts.{toZ-ofZ}
 use mathlib.Core.Path.{_∙_}
 use native.Mathlib.Omega.{arith}
-use Rattle.wing_wire.proofs.Writing.Lays.{written, handed}
+use Rattle.wing_wire.proofs.Writing.Lays.{written, handed-over}
 use Rattle.wing_wire.proofs.Writing.Sizes.{set-float-le}
 use borrow.Author.Needs.{needs}
 use Rattle.wing_wire.proofs.set.set_float.Statement.{statement}
@@ -32,19 +32,21 @@ slice-aggregate-hand-over c = search needs
 
 hand-over-requires : tie.Need-hand-over-requires
 hand-over-requires c κs =
-    let entry = c .before .before .before .before .before .before .before in
-    let z = toZ-ofZ (entry .fits .id) in
-    omega (arith, (rw z at (c .before .before .before .lay-set-float2 .ensures)) .next, set-float-le (entry .args .id) (entry .args .bits))
+    let at-lay-set-float2 = c .before .before .before in
+    let start = at-lay-set-float2 .before .before .before .before in
+    let z = toZ-ofZ (start .fits .id) in
+    omega (arith, (rw z at (at-lay-set-float2 .lay-set-float2 .ensures)) .next, set-float-le (start .args .id) (start .args .bits))
 
 same-length-2 : tie.Need-same-length-2
 same-length-2 c = search needs
 
 returns-2 : tie.Need-returns-2
 returns-2 c =
-    let entry = c .before .before .before .before .before .before .before .before .before .before in
-    let z = toZ-ofZ (entry .fits .id) in
+    let at-lay-set-float2 = c .before .before .before .before .before .before in
+    let start = at-lay-set-float2 .before .before .before .before in
+    let z = toZ-ofZ (start .fits .id) in
     c .before .before .hand-over .ensures
-    ∙ handed (rw z at (c .before .before .before .before .before .before .lay-set-float2 .ensures)) (set-float-le (entry .args .id) (entry .args .bits)) (entry .args .out .now)
+    ∙ handed-over (rw z at (at-lay-set-float2 .lay-set-float2 .ensures)) (set-float-le (start .args .id) (start .args .bits)) (start .args .out .now)
 
 pub set-float-spec : {M : Type 1} → statement M
 set-float-spec =

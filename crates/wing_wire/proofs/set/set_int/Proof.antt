@@ -1,9 +1,9 @@
 -- No integer order is over 18 bytes (`set-int-le`): with room it is laid straight into out (law `written`), else into a scratch buffer and handed
--- over (law `handed`).
+-- over (law `handed-over`).
 use mir.Facts.{toZ-ofZ}
 use mathlib.Core.Path.{_∙_}
 use native.Mathlib.Omega.{arith}
-use Rattle.wing_wire.proofs.Writing.Lays.{written, handed}
+use Rattle.wing_wire.proofs.Writing.Lays.{written, handed-over}
 use Rattle.wing_wire.proofs.Writing.Sizes.{set-int-le}
 use borrow.Author.Needs.{needs}
 use Rattle.wing_wire.proofs.set.set_int.Statement.{statement}
@@ -33,21 +33,23 @@ slice-aggregate-hand-over c = search needs
 
 hand-over-requires : tie.Need-hand-over-requires
 hand-over-requires c κs =
-    let entry = c .before .before .before .before .before .before .before in
-    let z = toZ-ofZ (entry .fits .id) in
-    let z1 = toZ-ofZ (entry .fits .value) in
-    omega (arith, (rw (z, z1) at (c .before .before .before .lay-set-int2 .ensures)) .next, set-int-le (entry .args .id) (entry .args .value))
+    let at-lay-set-int2 = c .before .before .before in
+    let start = at-lay-set-int2 .before .before .before .before in
+    let z = toZ-ofZ (start .fits .id) in
+    let z1 = toZ-ofZ (start .fits .value) in
+    omega (arith, (rw (z, z1) at (at-lay-set-int2 .lay-set-int2 .ensures)) .next, set-int-le (start .args .id) (start .args .value))
 
 same-length-2 : tie.Need-same-length-2
 same-length-2 c = search needs
 
 returns-2 : tie.Need-returns-2
 returns-2 c =
-    let entry = c .before .before .before .before .before .before .before .before .before .before in
-    let z = toZ-ofZ (entry .fits .id) in
-    let z1 = toZ-ofZ (entry .fits .value) in
+    let at-lay-set-int2 = c .before .before .before .before .before .before in
+    let start = at-lay-set-int2 .before .before .before .before in
+    let z = toZ-ofZ (start .fits .id) in
+    let z1 = toZ-ofZ (start .fits .value) in
     c .before .before .hand-over .ensures
-    ∙ handed (rw (z, z1) at (c .before .before .before .before .before .before .lay-set-int2 .ensures)) (set-int-le (entry .args .id) (entry .args .value)) (entry .args .out .now)
+    ∙ handed-over (rw (z, z1) at (at-lay-set-int2 .lay-set-int2 .ensures)) (set-int-le (start .args .id) (start .args .value)) (start .args .out .now)
 
 pub set-int-spec : {M : Type 1} → statement M
 set-int-spec =

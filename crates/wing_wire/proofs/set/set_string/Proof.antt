@@ -1,10 +1,10 @@
 -- Each return is a case of `setString` (`string-long`, `string-bad`, `string-good`); an order of UTF-8 is not over 395 bytes (`set-string-le`), so
--- it is laid straight into out (law `written`) or into a scratch buffer and handed over (law `handed`).
+-- it is laid straight into out (law `written`) or into a scratch buffer and handed over (law `handed-over`).
 use mir.Facts.{toZ-ofZ}
 use mathlib.Core.Path.{sym, _∙_}
 use native.Mathlib.Omega.{arith}
 use Rattle.wing_wire.proofs.Writing.Choices.{string-long, string-bad, string-good}
-use Rattle.wing_wire.proofs.Writing.Lays.{written, handed}
+use Rattle.wing_wire.proofs.Writing.Lays.{written, handed-over}
 use Rattle.wing_wire.proofs.Writing.Sizes.{set-string-le}
 use borrow.Author.Needs.{needs}
 use Rattle.wing_wire.proofs.set.set_string.Statement.{statement}
@@ -67,7 +67,7 @@ returns-3 c =
     let z = toZ-ofZ (entry .fits .id) in
     let o = k4 .is-utf8 .ensures .1 .right (k3 .if2 .taken) in
     k1 .hand-over .ensures
-    ∙ handed (rw z at (k2 .lay-set-string2 .ensures)) (set-string-le (entry .args .id) (entry .args .value .now) o (omega arith)) (entry .args .out .now)
+    ∙ handed-over (rw z at (k2 .lay-set-string2 .ensures)) (set-string-le (entry .args .id) (entry .args .value .now) o (omega arith)) (entry .args .out .now)
     ∙ string-good (entry .args .id) (entry .args .value .now) (entry .args .out .now) (omega arith) (sym (k4 .is-utf8 .ensures .0) ∙ k3 .if2 .taken)
 
 returns-4 : tie.Need-returns-4

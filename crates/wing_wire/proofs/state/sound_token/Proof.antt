@@ -10,9 +10,6 @@ sound-counts-requires c κs = search needs
 stored-by-requires : tie.Need-stored-by-requires
 stored-by-requires c κs = search needs
 
-cast-zeros-from : tie.Need-cast-zeros-from
-cast-zeros-from c = search needs
-
 zeros-from-requires : tie.Need-zeros-from-requires
 zeros-from-requires c κs = search needs
 
@@ -30,7 +27,6 @@ sound-token-spec =
     (tie.spec
     sound-counts-requires
     stored-by-requires
-    cast-zeros-from
     zeros-from-requires
     returns
     returns-2)

@@ -19,6 +19,9 @@ collected-requires c κs = search needs
 enum-known-token-2 : tie.Need-enum-known-token-2
 enum-known-token-2 c = search needs
 
+cast-result : tie.Need-cast-result
+cast-result c = search needs
+
 returns : tie.Need-returns
 unfolding storedBy
 returns c = simp (c .enum-told .given .1)
@@ -44,6 +47,7 @@ stored-by-spec =
     enum-known-token
     collected-requires
     enum-known-token-2
+    cast-result
     returns
     returns-2
     returns-3

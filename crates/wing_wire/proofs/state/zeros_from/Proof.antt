@@ -11,16 +11,16 @@ use Rattle.wing_wire.proofs.state.zeros_from.Statement.{statement}
 use Rattle.wing_wire.proofs.state.zeros_from.Tie as tie
 
 abbrev Inv-loop : tie.InvT-loop
-Inv-loop store at joined₀ i₀ joined i = zeros (drop at store) ≡ and (eqb joined 0) (zeros (drop i store))
+Inv-loop store at bits₀ i₀ bits i = zeros (drop at store) ≡ and (eqb bits 0) (zeros (drop i store))
 
 abbrev μ-loop : tie.MeasureT-loop
-μ-loop store at joined₀ i₀ joined i = length store - i
+μ-loop store at bits₀ i₀ bits i = length store - i
 
 loop-holds : tie.Need-loop-holds Inv-loop μ-loop
 loop-holds c = refl
 
-shared-slice-read-joined : tie.Need-shared-slice-read-joined Inv-loop μ-loop
-shared-slice-read-joined c = search needs
+shared-slice-read-bits : tie.Need-shared-slice-read-bits Inv-loop μ-loop
+shared-slice-read-bits c = search needs
 
 add-i : tie.Need-add-i Inv-loop μ-loop
 add-i c = search needs
@@ -31,12 +31,12 @@ loop-less c = search needs
 loop-again : tie.Need-loop-again Inv-loop μ-loop
 loop-again c =
     let l = c .before .before .loop in
-    l .inv ∙ one-more (c .before .before .before .args .store .now) (l .i) (l .joined) (c .before .loop-test .taken)
+    l .inv ∙ one-more (c .before .before .before .args .store .now) (l .i) (l .bits) (c .before .loop-test .taken)
 
 returns : tie.Need-returns Inv-loop μ-loop
 returns c =
     let l = c .before .loop in
-    sym (l .inv ∙ no-more (c .before .before .args .store .now) (l .i) (l .joined) (c .loop-test .left))
+    sym (l .inv ∙ no-more (c .before .before .args .store .now) (l .i) (l .bits) (c .loop-test .left))
 
 pub zeros-from-spec : {M : Type 1} → statement M
 zeros-from-spec =
@@ -45,7 +45,7 @@ zeros-from-spec =
     Inv-loop
     μ-loop
     loop-holds
-    shared-slice-read-joined
+    shared-slice-read-bits
     add-i
     loop-less
     loop-again

@@ -4,18 +4,18 @@ use borrow.Author.Needs.{needs}
 use mathlib.Core.Path.{_≡_, refl, sym, _∙_, ap}
 use Prim.Native.Nat.{_+_, _-_, _*_}
 use lib.ListN.{length}
-use Rattle.wing_wire.specs.Stream.{heard, followOf, advanceOf}
-use Rattle.wing_wire.specs.Units.{waiting}
-use Rattle.wing_wire.specs.Plain.{turned}
+use Rattle.wing_wire.specs.Stream.{stepEffect, followOf, advanceOf}
+use Rattle.wing_wire.specs.Units.{pendingCount}
+use Rattle.wing_wire.specs.Plain.{stepAt}
 use Rattle.wing_wire.proofs.Reading.Plains.{whole, once-whole, once-less, whole-ends}
 use Rattle.wing_wire.proofs.stream.advance.Statement.{statement}
 use Rattle.wing_wire.proofs.stream.advance.Tie as tie
 
 abbrev Inv-loop : tie.InvT-loop
-Inv-loop store₀ bytes t₀ i₀ store t i = (length store ≡ length store₀) × (whole bytes (turned (heard t₀ store₀) 0) ≡ whole bytes (turned (heard t store) i))
+Inv-loop store₀ bytes t₀ i₀ store t i = (length store ≡ length store₀) × (whole bytes (stepAt (stepEffect t₀ store₀) 0) ≡ whole bytes (stepAt (stepEffect t store) i))
 
 abbrev μ-loop : tie.MeasureT-loop
-μ-loop store₀ bytes t₀ i₀ store t i = 2 * (length bytes - i) + waiting (t .control .escape .pending)
+μ-loop store₀ bytes t₀ i₀ store t i = 2 * (length bytes - i) + pendingCount (t .control .escape .pending)
 
 loop-holds : tie.Need-loop-holds Inv-loop μ-loop
 loop-holds c = (refl, refl)
@@ -28,15 +28,24 @@ step-requires c κs = search needs
 
 loop-less : tie.Need-loop-less Inv-loop μ-loop
 loop-less c =
-    let l = c .before .before .before .before .before .before .before .before .loop in
-    let on = sym (c .before .before .before .before .before .before .before .is-on .ensures) ∙ c .before .before .before .before .before .before .if1 .taken in
-    rw (← c .before .before .before .step .ensures) at (once-less (l .t) (l .store) (c .before .before .before .before .before .before .before .before .before .before .before .args .bytes .now) (l .i) on)
+    let at-step = c .before .before .before in
+    let at-if1 = at-step .before .before .before in
+    let at-is-on = at-if1 .before in
+    let at-loop = at-is-on .before in
+    let entry = at-loop .before .before .before in
+    let l = at-loop .loop in
+    let on = sym (at-is-on .is-on .ensures) ∙ at-if1 .if1 .taken in
+    rw (← at-step .step .ensures) at (once-less (l .t) (l .store) (entry .args .bytes .now) (l .i) on)
 
 loop-again : tie.Need-loop-again Inv-loop μ-loop
 loop-again c =
-    let l = c .before .before .before .before .before .before .before .before .loop in
-    let on = sym (c .before .before .before .before .before .before .before .is-on .ensures) ∙ c .before .before .before .before .before .before .if1 .taken in
-    (search needs, l .inv .1 ∙ once-whole (l .t) (l .store) _ (l .i) on ∙ ap (whole _) (sym (c .before .before .before .step .ensures)))
+    let at-step = c .before .before .before in
+    let at-if1 = at-step .before .before .before in
+    let at-is-on = at-if1 .before in
+    let at-loop = at-is-on .before in
+    let l = at-loop .loop in
+    let on = sym (at-is-on .is-on .ensures) ∙ at-if1 .if1 .taken in
+    (search needs, l .inv .1 ∙ once-whole (l .t) (l .store) _ (l .i) on ∙ ap (whole _) (sym (at-step .step .ensures)))
 
 same-length : tie.Need-same-length Inv-loop μ-loop
 same-length c = search needs

@@ -22,14 +22,22 @@ same-length c = search needs
 
 returns : tie.Need-returns
 unfolding onceOf onAhead
-returns c = simp (← c .before .before .before .before .before .before .before .before .before .before .before .before .decode-next .ensures, ← c .before .before .before .before .before .before .before .before .before .take .ensures, ← c .before .before .before .before .before .before .is-free .ensures, c .before .before .before .before .before .if1 .taken, c .before .before .ahead .ensures)
+returns c =
+    let at-if1 = c .before .before .before .before .before in
+    let at-is-free = at-if1 .before in
+    let at-take = at-is-free .before .before .before in
+    let at-decode-next = at-take .before .before .before in
+    simp (← at-decode-next .decode-next .ensures, ← at-take .take .ensures, ← at-is-free .is-free .ensures, at-if1 .if1 .taken, c .before .before .ahead .ensures)
 
 same-length-2 : tie.Need-same-length-2
 same-length-2 c = search needs
 
 returns-2 : tie.Need-returns-2
 unfolding onceOf onAhead
-returns-2 c = simp (← c .before .before .before .before .before .before .before .decode-next .ensures, ← c .before .before .before .before .take .ensures, ← c .before .is-free .ensures, c .if1 .left)
+returns-2 c =
+    let at-take = c .before .before .before .before in
+    let at-decode-next = at-take .before .before .before in
+    simp (← at-decode-next .decode-next .ensures, ← at-take .take .ensures, ← c .before .is-free .ensures, c .if1 .left)
 
 pub step-spec : {M : Type 1} → statement M
 step-spec =

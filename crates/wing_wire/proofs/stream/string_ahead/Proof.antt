@@ -35,7 +35,10 @@ put-requires : tie.Need-put-requires Inv-loop μ-loop
 put-requires c κs = search needs
 
 sub-l : tie.Need-sub-l Inv-loop μ-loop
-sub-l c = omega (arith, inner-more _ _ (sym (c .before .before .before .before .before .before .before .is-inner .ensures) ∙ c .before .before .before .before .before .before .if1 .taken))
+sub-l c =
+    let at-if1 = c .before .before .before .before .before .before in
+    let at-is-inner = at-if1 .before in
+    omega (arith, inner-more _ _ (sym (at-is-inner .is-inner .ensures) ∙ at-if1 .if1 .taken))
 
 add-i : tie.Need-add-i Inv-loop μ-loop
 add-i c = search needs
@@ -45,8 +48,13 @@ loop-less c = search needs
 
 loop-again : tie.Need-loop-again Inv-loop μ-loop
 loop-again c =
-    let inner = sym (c .before .before .before .before .before .before .before .is-inner .ensures) ∙ c .before .before .before .before .before .before .if1 .taken in
-    (search needs, c .before .before .before .before .before .before .before .before .before .before .loop .inv .1 ∙ string-turn _ _ _ _ _ (c .before .before .before .before .before .before .before .before .before .loop-test .taken) inner ∙ rw (c .before .before .put .ensures, c .before .before .before .before .collected .ensures))
+    let at-collected = c .before .before .before .before in
+    let at-if1 = at-collected .before .before in
+    let at-is-inner = at-if1 .before in
+    let at-loop-test = at-is-inner .before .before in
+    let at-loop = at-loop-test .before in
+    let inner = sym (at-is-inner .is-inner .ensures) ∙ at-if1 .if1 .taken in
+    (search needs, at-loop .loop .inv .1 ∙ string-turn _ _ _ _ _ (at-loop-test .loop-test .taken) inner ∙ rw (c .before .before .put .ensures, at-collected .collected .ensures))
 
 same-length : tie.Need-same-length Inv-loop μ-loop
 same-length c = search needs

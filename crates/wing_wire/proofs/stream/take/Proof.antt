@@ -31,20 +31,21 @@ is-appended-requires c κs = search needs
 take-unit-requires : tie.Need-take-unit-requires
 take-unit-requires c κs = search needs
 
-join-requires : tie.Need-join-requires
-join-requires c κs = search needs
+after-unit-requires : tie.Need-after-unit-requires
+after-unit-requires c κs = search needs
 
 same-length : tie.Need-same-length
 same-length c = search needs
 
 returns-2 : tie.Need-returns-2
 returns-2 c =
-    let a = c .before .before .before .before .before .before .before .before .before .before .before .args in
+    let at-is-nothing = c .before .before .before .before .before .before .before .before .before in
+    let a = at-is-nothing .before .before .args in
     let k = a .c in
     let back : toZ w32 (ofZ w32 (k .node)) ≡ k .node = search needs in
-    let some = sym (c .before .before .before .before .before .before .before .before .before .is-nothing .ensures) ∙ c .before .before .before .before .before .before .before .before .if1 .left in
+    let some = sym (at-is-nothing .is-nothing .ensures) ∙ c .before .before .before .before .before .before .before .before .if1 .left in
     let taken = rw (back, c .before .before .before .before .before .before .value-of .ensures, c .before .before .before .before .before .is-appended .ensures) at (c .before .before .before .take-unit .ensures) in
-    simp (c .join .ensures, given-some (a .unit) (a .after) k (a .store .now) some, ← taken)
+    simp (c .after-unit .ensures, given-some (a .unit) (a .after) k (a .store .now) some, ← taken)
 
 pub take-spec : {M : Type 1} → statement M
 take-spec =
@@ -56,6 +57,6 @@ take-spec =
     value-of-requires
     is-appended-requires
     take-unit-requires
-    join-requires
+    after-unit-requires
     same-length
     returns-2)

@@ -21,7 +21,12 @@ same-length c = search needs
 
 returns : tie.Need-returns
 unfolding stringUnit
-returns c = simp (c .before .before .before .before .before .before .before .before .collected .ensures, c .before .before .before .before .before .before .before .put .ensures, le-leb _ _ (c .before .before .before .before .if1 .taken), c .before .before .string-done .ensures) (rw (toZ-ofZ (c .before .before .before .before .before .before .before .before .before .before .before .fits .node)))
+returns c =
+    let at-if1 = c .before .before .before .before in
+    let at-put = at-if1 .before .before .before in
+    let at-collected = at-put .before in
+    let entry = at-collected .before .before .before in
+    simp (at-collected .collected .ensures, at-put .put .ensures, le-leb _ _ (at-if1 .if1 .taken), c .before .before .string-done .ensures) (rw (toZ-ofZ (entry .fits .node)))
 
 sub-t14 : tie.Need-sub-t14
 sub-t14 c = search needs
@@ -34,7 +39,11 @@ same-length-2 c = search needs
 
 returns-2 : tie.Need-returns-2
 unfolding stringUnit
-returns-2 c = simp (c .before .before .before .before .before .collected .ensures, c .before .before .before .before .put .ensures, lt-leb _ _ (c .before .if1 .left), c .taken-of .ensures) (rw (toZ-ofZ (c .before .before .before .before .before .before .before .before .fits .node)))
+returns-2 c =
+    let at-put = c .before .before .before .before in
+    let at-collected = at-put .before in
+    let start = at-collected .before .before .before in
+    simp (at-collected .collected .ensures, at-put .put .ensures, lt-leb _ _ (c .before .if1 .left), c .taken-of .ensures) (rw (toZ-ofZ (start .fits .node)))
 
 pub string-unit-spec : {M : Type 1} → statement M
 string-unit-spec =

@@ -1,0 +1,65 @@
+"""Bytes held over some lines, and the orders that take them."""
+from orders.words import pairs
+from randoms.odd import ODD
+from randoms.single import LINE_BYTES, Single
+from rules.numbers import unsigned_bytes
+
+# Orders out of form: they leave the bytes as they are.
+LEAVING = ("packet 4201 +", "pieces 65536 +", "piecelist 0 +", "piecelist 1, +", "stream + ", "sum more 00", "more 0", "units +",
+           "sum units +", "lent +", "feed +", "stream ++", "more +", "sum sum stream +", "definition + +")
+# Around the most bytes of one call of next, and around the most that are held.
+FULL = (65535, 65536, 65537, 65540, 69999, 70000, 70001, 75000)
+
+
+def more_lines(source, data):
+    """The bytes in lines, some of them empty, with lines in between that leave the bytes held as they are."""
+    lines = []
+    for piece in source.cuts(data):
+        for at in range(0, max(len(piece), 1), LINE_BYTES):
+            lines.append("more " + pairs(piece[at:at + LINE_BYTES]))
+            if source.chance(0.2):
+                lines.append(source.pick("# between", "", "dump", "new 2", "stream 05", source.r.choice(LEAVING), source.r.choice(ODD)))
+    return lines
+
+
+def wide_definition(source):
+    """A definition whose items do not fit a line, mostly."""
+    kind, count = source.pick(5, 6), source.pick(300, 1000, source.r.randrange(3000))
+    items = b"".join((bytes([0]) if kind == 5 else source.field(4)) + source.pick(b"\x00", b"\x01x", b"\x02\xc3\xa9")
+                     for _ in range(count))
+    body = source.field(10) + bytes(2) + unsigned_bytes(kind * 16, 2) + unsigned_bytes(count, 2) + items
+    return source.damaged(body, source.pick(0, 0, 1))
+
+
+def stream_of(source, size):
+    data = b""
+    while len(data) < size:
+        data += source.stream()
+    return data[:size]
+
+
+def some(source):
+    """Bytes for one order, and that order; now and then an order out of form before it, and after it the same with none held."""
+    single = Single(source)
+    order, data = source.pick(
+        ("stream +", stream_of(source, source.r.randrange(20000))),
+        ("pieces %d +" % source.pick(1, 7, 4096), stream_of(source, source.r.randrange(20000))),
+        ("piecelist %s +" % single.size_list(), stream_of(source, source.r.randrange(20000))),
+        ("definition +", source.pick(source.definition(), wide_definition(source))),
+        ("packet %d +" % source.pick(4093, 4094, 4095, 4200),
+         source.r.randbytes(source.pick(8190, 8191, 8192, 8193, source.r.randrange(9000)))))
+    order = source.pick("", "sum ") + order
+    before = [source.r.choice(LEAVING)] if source.chance(0.3) else []
+    return more_lines(source, data) + before + [order] + ([order] if source.chance(0.2) else [])
+
+
+def full(source):
+    """As many bytes as are held at most, about; past 65,536 they are too many for one call of next, and stay for the pieces."""
+    single, size = Single(source), source.r.choice(FULL)
+    lines = more_lines(source, stream_of(source, size))
+    last = source.pick("pieces %d +" % source.pick(4096, 65535), "piecelist %s +" % single.size_list())
+    return ["stream +"] + lines + ["more " + pairs(bytes(source.pick(1, 100)))] + ["sum stream +", "sum " + last, "stream +"]
+
+
+def held(source):
+    return full(source) if source.chance(0.15) else some(source)
