@@ -32,6 +32,10 @@ entriesIn L t = map (L .entryIn) (rows L t)
 abbrev pub machineIn : Layout → Mirror → Machine
 machineIn L m = record { decoder = m .decoder; map = entriesIn L (m .table) }
 
+-- its run from there
+abbrev pub machineFrom : Layout → Mirror → List Call → History Machine
+machineFrom L m calls = runAll (machineStep (L .keeping) (placesIn L (m .table .buffer))) (machineIn L m) calls
+
 module _ {L : Layout} (laws : Lawful L) (t : Table) (b : AreBytes (t .buffer)) (u : usable L t ≡ true) where
   open Layout L using (width, recordOf, entryIn)
 
@@ -56,21 +60,15 @@ module _ {L : Layout} (laws : Lawful L) (t : Table) (b : AreBytes (t .buffer)) (
 -- from any usable table and valid state
 module _ {L : Layout} (laws : Lawful L) (m : Mirror) (s : ValidState (m .decoder)) (b : AreBytes (m .table .buffer)) (u : usable L (m .table) ≡ true)
     (calls : List Call) (t : All TypedCall calls) where
-  open Layout L using (keeping)
-
-  -- the machine's run from there
-  abbrev pub machineFrom : History Machine
-  machineFrom = runAll (machineStep keeping (placesIn L (m .table .buffer))) (machineIn L m) calls
-
   starts : Invariant L (placesIn L (m .table .buffer)) (machineIn L m)
   starts = record { decoder = s; map = own-valid laws (m .table) b u }
 
   -- the mirror's run is the image of it
-  pub run-from : runAll (mirrorStep L) m calls ≡ imageRun L (m .table .buffer) machineFrom
+  pub run-from : runAll (mirrorStep L) m calls ≡ imageRun L (m .table .buffer) (machineFrom L m calls)
   run-from =
       ap (λ (x : Table). runAll (mirrorStep L) (record { decoder = m .decoder; table = x }) calls) (sym (own-image laws (m .table) b u))
       ∙ run-image laws (m .table .buffer) (machineIn L m) calls t starts
 
   -- and agrees with it
-  pub agrees-from : Agree L (m .table .buffer) (runAll (mirrorStep L) m calls) machineFrom
-  agrees-from = rw run-from (image-agrees laws (m .table .buffer) machineFrom (invariant-run L (placesIn L (m .table .buffer)) (machineIn L m) calls t starts .map))
+  pub agrees-from : Agree L (m .table .buffer) (runAll (mirrorStep L) m calls) (machineFrom L m calls)
+  agrees-from = rw run-from (image-agrees laws (m .table .buffer) (machineFrom L m calls) (invariant-run L (placesIn L (m .table .buffer)) (machineIn L m) calls t starts .map))
