@@ -17,9 +17,10 @@ use crate::bytes::lay;
 use crate::order::row;
 use crate::order::search;
 use crate::record::least;
+use crate::record::payload;
 use crate::record::rank;
+use crate::record::read;
 use crate::table::is_usable;
-use wing_node::field;
 use wing_node::value::Value;
 use wing_wire::state::State;
 
@@ -89,14 +90,13 @@ fn read_record(rec: &[u8]) -> RecordRead
     requires { ⌜ length (now rec) ≡ width ⌝ }
     ensures { λ r. ⌜ r ≡ readOf (entryIn (now (rec .entry))) ⌝ }
 {
-    let id = field::i32_at(rec, 0);
-    if rec[4] == 0 {
-        return number_read(id, Value::Integer(field::i32_at(rec, 8)));
+    let held = read(rec);
+    let value = held.value;
+    match value {
+        Value::Integer(_) => number_read(held.id, value),
+        Value::Float(_) => number_read(held.id, value),
+        Value::String(n) => string_read(held.id, n, payload(rec)),
     }
-    if rec[4] == 1 {
-        return number_read(id, Value::Float(field::u32_at(rec, 8)));
-    }
-    string_read(id, field::u16_at(rec, 6), &rec[8..])
 }
 
 fn read_at(table: &[u8], number: usize) -> RecordRead

@@ -9,25 +9,20 @@ ghost use Rattle.wing_mirror.specs.Table.{table as tableOf, rows, rowAt,
 ghost use Rattle.wing_mirror.specs.Recall.{recallBytes, recallOf};
 ghost use Rattle.wing_mirror.specs.Sending.{orderIn, ordersOf, sizeIn};
 use crate::order::row;
+use crate::record;
+use crate::set::send;
 use crate::table::is_usable;
-use wing_node::field;
-use wing_wire::set;
 use wing_wire::state::State;
 use wing_wire::write::Written;
 
+// The set order of what a record holds.
 fn send_record(out: &mut [u8], rec: &[u8]) -> Written
     requires { ⌜ (length (now rec) ≡ width) × (wellFormed (now rec) ≡ true) ⌝ }
     ensures { λ r. ⌜ writeEffect r (now (out .exit)) ≡ writeOf (orderIn (now (rec .entry))) (now (out .entry)) ⌝ }
 {
-    let id = field::i32_at(rec, 0);
-    if rec[4] == 0 {
-        return set::set_int(out, id, field::i32_at(rec, 8));
-    }
-    if rec[4] == 1 {
-        return set::set_float(out, id, field::u32_at(rec, 8));
-    }
-    let len = field::u16_at(rec, 6) as usize;
-    set::set_string(out, id, &rec[8..8 + len])
+    let held = record::read(rec);
+    let value = held.value;
+    send(out, held.id, value, record::payload(rec))
 }
 
 fn size_in(w: Written) -> usize

@@ -1,16 +1,22 @@
-// A record of the table, 264 bytes: where it stands in the order, whether it has 01's form, and how one is laid.
+// A record of the table, 264 bytes: where it stands in the order, whether it has 01's form, what it holds, and how one is laid.
 ghost use mathlib.Core.Path.{_≡_};
 ghost use Prim.Native.Nat.{_≤_, min};
 ghost use lib.ListN.{length, take};
 ghost use Rattle.wing_node.specs.Field.{bytesOf};
 ghost use Rattle.wing_node.specs.Value.{meant};
 ghost use Rattle.wing_mirror.specs.Entry.{flipped, rankOf, entry};
-ghost use Rattle.wing_mirror.specs.Record.{width, keyOf, stringKept, wellKept, wellFormed, recordOf, laidFrom};
+ghost use Rattle.wing_mirror.specs.Record.{width, keyOf, stringKept, wellKept, wellFormed, payloadIn, entryIn, recordOf, laidFrom};
 use crate::bytes;
 use wing_node::field;
 use wing_node::utf8::is_utf8;
 use wing_node::value::Value;
 use wing_wire::state::zeros_from;
+
+// What a record holds. A string's bytes stand in the payload, as many as its length.
+pub struct Held {
+    pub id: i32,
+    pub value: Value,
+}
 
 // Signed order as the order of numbers: the top bit the other way.
 fn flip(bits: u32) -> u32
@@ -36,6 +42,14 @@ pub(crate) fn key(rec: &[u8]) -> u32
     ensures { λ r. ⌜ r ≡ keyOf (now (rec .entry)) ⌝ }
 {
     flip(field::u32_at(rec, 0))
+}
+
+// 01: the payload, 256 bytes.
+pub(crate) fn payload(rec: &[u8]) -> &[u8]
+    requires { ⌜ length (now rec) ≡ width ⌝ }
+    ensures { λ r. ⌜ now r ≡ payloadIn (now (rec .entry)) ⌝ }
+{
+    &rec[8..]
 }
 
 // A string's length is 0 to 256, its bytes are UTF-8, and 0 stands after them.
@@ -73,9 +87,36 @@ pub(crate) fn well_formed(rec: &[u8]) -> bool
     ensures { λ r. ⌜ r ≡ wellFormed (now (rec .entry)) ⌝ }
 {
     if rec[5] == 0 {
-        return well_kept(rec[4], field::u16_at(rec, 6), &rec[8..]);
+        return well_kept(rec[4], field::u16_at(rec, 6), payload(rec));
     }
     false
+}
+
+// Its id and value, whatever its form.
+pub(crate) fn read(rec: &[u8]) -> Held
+    requires { ⌜ length (now rec) ≡ width ⌝ }
+    ensures { λ r. ⌜ entry (r .id) (meant (r .value) (payloadIn (now (rec .entry)))) ≡ entryIn (now (rec .entry)) ⌝ }
+{
+    let id = field::i32_at(rec, 0);
+    if rec[4] == 0 {
+        let value = Value::Integer(field::i32_at(rec, 8));
+        return Held {
+            id: id,
+            value: value,
+        };
+    }
+    if rec[4] == 1 {
+        let value = Value::Float(field::u32_at(rec, 8));
+        return Held {
+            id: id,
+            value: value,
+        };
+    }
+    let value = Value::String(field::u16_at(rec, 6));
+    Held {
+        id: id,
+        value: value,
+    }
 }
 
 // Kind, length and payload of a number.

@@ -6,30 +6,27 @@ use mathlib.Core.List.{List, [], _∷_, _++_}
 use native.Mathlib.Omega.{arith}
 use borrow.Author.Tests.{eqb-false, le-ltb, lt-leb, leb-true}
 use lib.Dec.{leb, eqb}
-use lib.IntN.{ℤ}
 use lib.ListN.{length, take, drop, getD, length-append, length-drop}
 use lib.Seq.{sets-eq, length-take-le}
 use Rattle.wing_node.specs.Bool.{if}
-use Rattle.wing_node.specs.Field.{big, fieldAt}
+use Rattle.wing_node.specs.Field.{big}
 use Rattle.wing_node.specs.Signed.{signed}
 use Rattle.wing_node.specs.Utf8.{utf8}
 use Rattle.wing_node.specs.Value.{NodeValue, integer, float, string}
 use Rattle.wing_node.proofs.Branches.{branch}
-use Rattle.wing_node.proofs.Numerals.Placed.{field-whole}
 use Rattle.wing_wire.specs.State.{zeros}
 use Rattle.wing_wire.specs.Write.{Laid, writeEffect, writeOf, WriteEffect}
-use Rattle.wing_wire.specs.Command.{setBytes, setString}
+use Rattle.wing_wire.specs.Command.{setBytes}
 use Rattle.wing_wire.specs.declared.write.Written.{Written}
 use Rattle.wing_wire.specs.declared.write.Written.the-variants.{Bytes, Refused}
 use Rattle.wing_wire.proofs.Laws.{writer-laws}
 use Rattle.wing_mirror.specs.Rows.{Table, records, joined}
-use Rattle.wing_mirror.specs.Entry.{Entry}
 use Rattle.wing_mirror.specs.Record.{kindIn, lengthIn, payloadIn, idIn, valueIn, entryIn, stringKept, wellKept, wellFormed, full}
 use Rattle.wing_mirror.specs.Table.{rows, every, rowAt, placesAllowed, usable}
-use Rattle.wing_mirror.specs.Recall.{setOf, recallBytes, recallOf}
+use Rattle.wing_mirror.specs.Recall.{recallBytes, recallOf}
 use Rattle.wing_mirror.specs.Sending.{orderIn, ordersOf, sizeIn}
 use Rattle.wing_mirror.proofs.Tables.Chunks.{length-records}
-use Rattle.wing_mirror.proofs.Records.Said.{row-of, string-entry}
+use Rattle.wing_mirror.proofs.Records.Said.{row-of}
 use Rattle.wing_mirror.proofs.Tables.Tests.{from, from-all, from-next, from-none}
 use Rattle.wing_mirror.proofs.Records.Usables.{both, in-range, few, room, formed}
 
@@ -46,16 +43,6 @@ kept-string k n p h a b =
 module _ (r : List ℕ) (wide : length r ≡ 264) (form : wellFormed r ≡ true) where
   pub text : (getD r 4 0 ≡ 0 → ⊥) → (getD r 4 0 ≡ 1 → ⊥) → (lengthIn r ≤ 256) × (utf8 (take (lengthIn r) (payloadIn r)) ≡ true)
   text a b = kept-string (kindIn r) (lengthIn r) (payloadIn r) (both (eqb (getD r 5 0) 0) (wellKept (kindIn r) (lengthIn r) (payloadIn r)) (unfold wellFormed in form) .1) a b
-
-  -- a string's order, as the code reads the record
-  pub string-order : (id : ℤ) → id ≡ signed 31 (fieldAt 4 r 0) → (n : ℕ) → (getD r 4 0 ≡ 0 → ⊥) → (getD r 4 0 ≡ 1 → ⊥) → n ≡ fieldAt 2 r 6 →
-      (out : List ℕ) → setString id (take n (drop 8 r)) out ≡ writeOf (orderIn r) out
-  string-order id eid n j k e out =
-      let m : n ≡ lengthIn r = e ∙ field-whole 2 r 6 (omega arith) in
-      let t = text j k in
-      let s : List ℕ = take n (drop 8 r) in
-      let l : length s ≤ 256 = omega (arith, length-take-le n (drop 8 r) (omega (arith, length-drop 8 r))) in
-      sym (writer-laws .accepted id s out l (rw m (t .1))) ∙ ap (λ (x : Entry). writeOf (setOf x) out) (string-entry r wide id eid n j k e)
 
   -- no order of a record is longer than 395 bytes
   pub order-le : length (orderIn r) ≤ 395

@@ -1,16 +1,17 @@
 -- What a record says, as the code reads it.
-use Prim.Native.Nat.{ℕ, zero, suc, _+_, _-_, _*_, _<_, min}
+use Prim.Native.Nat.{ℕ, zero, suc, _+_, _*_, _<_, min}
 use mathlib.Core.Path.{_≡_, sym, _∙_, ap, ap₂}
 use mathlib.Core.List.{List, []}
 use native.Mathlib.Omega.{arith}
 use native.Mathlib.Nat.{mul-suc, mul-zero}
 use borrow.Author.Tests.{eq-eqb, ne-eqb}
 use lib.IntN.{ℤ}
-use lib.ListN.{length, take, drop, getD, replicate, length-take, length-drop}
-use lib.Seq.{sets, drop-drop, take-all}
+use lib.ListN.{length, take, drop, getD, replicate, length-take}
+use lib.Seq.{sets, drop-drop}
 use Rattle.wing_node.specs.Field.{fieldAt}
 use Rattle.wing_node.specs.Signed.{signed}
-use Rattle.wing_node.specs.Value.{integer, float, string}
+use Rattle.wing_node.specs.Value.{integer, float, string, meant}
+use Rattle.wing_node.specs.declared.value.Value.{Value}
 use Rattle.wing_node.specs.declared.value.Value.the-variants.{Integer, Float, String}
 use Rattle.wing_node.proofs.Numerals.Placed.{field-whole}
 use Rattle.wing_wire.specs.Reader.{filled}
@@ -60,16 +61,16 @@ module _ (r : List ℕ) (wide : length r ≡ 264) (id : ℤ) (eid : id ≡ signe
       rw (ne-eqb (getD r 4 0) 0 j, ne-eqb (getD r 4 0) 1 k)
       (ap₂ (λ (a : ℤ) (m : ℕ). entry a (string (take m (drop 8 r)))) id-is (e ∙ field-whole 2 r 6 (omega arith)))
 
-  pub integer-said : (x : ℤ) → getD r 4 0 ≡ 0 → x ≡ signed 31 (fieldAt 4 r 8) → besideZeros id (Integer x) ≡ readOf (entryIn r)
-  unfolding readOf valueOf bytesBeside
-  integer-said x k e = ap readOf (integer-entry x k e)
+-- what a record that holds v says, its string's bytes in p
+module _ (id : ℤ) (v : Value) (p r : List ℕ) (e : entry id (meant v p) ≡ entryIn r) where
+  pub integer-said : (x : ℤ) → v ≡ Integer x → besideZeros id v ≡ readOf (entryIn r)
+  unfolding meant readOf valueOf bytesBeside
+  integer-said x q = rw q (ap readOf (rw q at e))
 
-  pub float-said : (bits : ℕ) → (getD r 4 0 ≡ 0 → ⊥) → getD r 4 0 ≡ 1 → bits ≡ fieldAt 4 r 8 → besideZeros id (Float bits) ≡ readOf (entryIn r)
-  unfolding readOf valueOf bytesBeside
-  float-said bits j k e = ap readOf (float-entry bits j k e)
+  pub float-said : (bits : ℕ) → v ≡ Float bits → besideZeros id v ≡ readOf (entryIn r)
+  unfolding meant readOf valueOf bytesBeside
+  float-said bits q = rw q (ap readOf (rw q at e))
 
-  pub string-read-said : (n : ℕ) → (getD r 4 0 ≡ 0 → ⊥) → (getD r 4 0 ≡ 1 → ⊥) → n ≡ fieldAt 2 r 6 →
-      readOf (entry id (string (take n (take (length r - 8) (drop 8 r))))) ≡ readOf (entryIn r)
-  string-read-said n j k e =
-      let a : take (length r - 8) (drop 8 r) ≡ drop 8 r = take-all (length r - 8) (drop 8 r) (omega (arith, length-drop 8 r)) in
-      ap (λ (q : List ℕ). readOf (entry id (string (take n q)))) a ∙ ap readOf (string-entry n j k e)
+  pub string-is-said : (n : ℕ) → v ≡ String n → readOf (entry id (string (take n p))) ≡ readOf (entryIn r)
+  unfolding meant
+  string-is-said n q = ap readOf (rw q at e)

@@ -10,7 +10,7 @@ use lib.Dec.{ltb}
 use lib.ListN.{length, take, drop}
 use lib.Seq.{sets, sets-eq}
 use Rattle.wing_node.specs.Bool.{if}
-use Rattle.wing_mirror.specs.Rows.{records, holds, below, rising, insert, takes, store}
+use Rattle.wing_mirror.specs.Rows.{records, holds, below, insert, takes, store}
 use Rattle.wing_mirror.specs.Record.{keyOf}
 use Rattle.wing_mirror.specs.Table.{table}
 use Rattle.wing_mirror.specs.Puts.{PutEffect}

@@ -1,5 +1,4 @@
 -- Both returns are the branches of `nextAbove` with that test of the number, by the contract of `key_at`.
-use native.Mathlib.Omega.{arith}
 use borrow.Author.Tests.{lt-ltb, le-ltb}
 use Rattle.wing_mirror.specs.Rows.{nextAbove}
 use Rattle.wing_mirror.proofs.Tables.Chunks.{row-fits}

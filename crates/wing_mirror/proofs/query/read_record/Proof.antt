@@ -1,85 +1,89 @@
--- Each return is the kind of record with that test (`integer-said`, `float-said`, `string-read-said`), by the contracts of the field readers,
--- `number_read` and `string_read`.
-use mathlib.Core.Path.{_≡_, _∙_}
+-- Each arm is the kind of value that `read` gives (`integer-said`, `float-said`), by the contracts of `number_read`, `payload` and `string_read`.
+use Prim.Native.Nat.{ℕ}
+use mathlib.Core.Path.{_≡_, _∙_, ap}
+use mathlib.Core.List.{List}
+use native.Mathlib.Omega.{arith}
 use mir.Syntax.{w32}
 use mir.Val.{toZ, ofZ}
-use Rattle.wing_mirror.proofs.Records.Said.{integer-said, float-said, string-read-said}
+use lib.ListN.{length, take, length-drop}
+use Rattle.wing_node.specs.Value.{string}
+use Rattle.wing_mirror.specs.Entry.{entry}
+use Rattle.wing_mirror.specs.Record.{payloadIn}
+use Rattle.wing_mirror.specs.Query.{readOf}
+use Rattle.wing_mirror.proofs.Records.Said.{integer-said, float-said, string-is-said}
 use borrow.Author.Needs.{needs}
 use Rattle.wing_mirror.proofs.query.read_record.Statement.{statement}
 use Rattle.wing_mirror.proofs.query.read_record.Tie as tie
 
-i32-at-requires : tie.Need-i32-at-requires
-i32-at-requires c κs = search needs
+read-requires : tie.Need-read-requires
+read-requires c κs = search needs
 
-shared-slice-read-if1 : tie.Need-shared-slice-read-if1
-shared-slice-read-if1 c = search needs
-
-i32-at-requires-2 : tie.Need-i32-at-requires-2
-i32-at-requires-2 c κs = search needs
+enum-told : tie.Need-enum-told
+enum-told c = search needs
 
 number-read-requires : tie.Need-number-read-requires
 number-read-requires c κs = search needs
 
-returns : tie.Need-returns
-returns c =
-    let i = c .before .before .before .before .i32-at .result in
-    let x = c .before .i32-at2 .result in
-    let back-i : toZ w32 (ofZ w32 i) ≡ i = search needs in
-    let back-x : toZ w32 (ofZ w32 x) ≡ x = search needs in
-    c .number-read .ensures ∙ rw (back-i, back-x) (integer-said (c .before .before .before .before .before .before .args .rec .now) (c .before .before .before .before .before .before .pre) i (c .before .before .before .before .i32-at .ensures) x (c .before .before .if1 .taken) (c .before .i32-at2 .ensures))
-
-shared-slice-read-if2 : tie.Need-shared-slice-read-if2
-shared-slice-read-if2 c = search needs
-
-u32-at-requires : tie.Need-u32-at-requires
-u32-at-requires c κs = search needs
+enum-told-2 : tie.Need-enum-told-2
+enum-told-2 c = search needs
 
 number-read-requires-2 : tie.Need-number-read-requires-2
 number-read-requires-2 c κs = search needs
 
-returns-2 : tie.Need-returns-2
-returns-2 c =
-    let i = c .before .before .before .before .before .before .i32-at .result in
-    let back-i : toZ w32 (ofZ w32 i) ≡ i = search needs in
-    c .number-read2 .ensures ∙ rw back-i (float-said (c .before .before .before .before .before .before .before .before .args .rec .now) (c .before .before .before .before .before .before .before .before .pre) i (c .before .before .before .before .before .before .i32-at .ensures) (c .before .u32-at .result) (c .before .before .before .before .if1 .left) (c .before .before .if2 .taken) (c .before .u32-at .ensures))
+enum-known-value : tie.Need-enum-known-value
+enum-known-value c = search needs
 
-u16-at-requires : tie.Need-u16-at-requires
-u16-at-requires c κs = search needs
-
-sub-string-read : tie.Need-sub-string-read
-sub-string-read c = search needs
-
-part-string-read-start : tie.Need-part-string-read-start
-part-string-read-start c = search needs
-
-part-string-read-end : tie.Need-part-string-read-end
-part-string-read-end c = search needs
+payload-requires : tie.Need-payload-requires
+payload-requires c κs = search needs
 
 string-read-requires : tie.Need-string-read-requires
-string-read-requires c κs = search needs
+string-read-requires c κs =
+    let r = c .before .before .before .before .before .before .before .args .rec .now in
+    omega (arith, ap length (c .before .payload .ensures), length-drop 8 r)
+
+returns : tie.Need-returns
+returns c =
+    let at-told = c .before .before in
+    let at-read = at-told .before .before in
+    let r = at-read .before .before .args .rec .now in
+    let h = at-read .read in
+    let back : toZ w32 (ofZ w32 (h .result .id)) ≡ h .result .id = search needs in
+    c .number-read .ensures ∙ rw back (integer-said (h .result .id) (h .result .value) (payloadIn r) r (h .ensures) _ (at-told .enum-told .given .1))
+
+returns-2 : tie.Need-returns-2
+returns-2 c =
+    let at-told = c .before .before in
+    let at-read = at-told .before .before in
+    let r = at-read .before .before .args .rec .now in
+    let h = at-read .read in
+    let back : toZ w32 (ofZ w32 (h .result .id)) ≡ h .result .id = search needs in
+    c .number-read2 .ensures ∙ rw back (float-said (h .result .id) (h .result .value) (payloadIn r) r (h .ensures) _ (at-told .enum-told2 .given .1))
 
 returns-3 : tie.Need-returns-3
 returns-3 c =
-    let i = c .before .before .before .before .before .before .before .i32-at .result in
-    let back-i : toZ w32 (ofZ w32 i) ≡ i = search needs in
-    c .string-read .ensures ∙ rw back-i (string-read-said (c .before .before .before .before .before .before .before .before .before .args .rec .now) (c .before .before .before .before .before .before .before .before .before .pre) i (c .before .before .before .before .before .before .before .i32-at .ensures) (c .before .before .u16-at .result) (c .before .before .before .before .before .if1 .left) (c .before .before .before .if2 .left) (c .before .before .u16-at .ensures))
+    let at-payload = c .before .before in
+    let at-value = at-payload .before .before in
+    let at-read = at-value .before .before in
+    let r = at-read .before .before .args .rec .now in
+    let h = at-read .read in
+    let n = at-value .value .given .0 .0 in
+    let back : toZ w32 (ofZ w32 (h .result .id)) ≡ h .result .id = search needs in
+    c .string-read .ensures
+    ∙ rw back (ap (λ (p : List ℕ). readOf (entry (h .result .id) (string (take n p)))) (at-payload .payload .ensures)
+    ∙ string-is-said (h .result .id) (h .result .value) (payloadIn r) r (h .ensures) n (at-value .value .given .1))
 
 pub read-record-spec : {M : Type 1} → statement M
 read-record-spec =
     tie.close
     (tie.spec
-    i32-at-requires
-    shared-slice-read-if1
-    i32-at-requires-2
+    read-requires
+    enum-told
     number-read-requires
-    returns
-    shared-slice-read-if2
-    u32-at-requires
+    enum-told-2
     number-read-requires-2
-    returns-2
-    u16-at-requires
-    sub-string-read
-    part-string-read-start
-    part-string-read-end
+    enum-known-value
+    payload-requires
     string-read-requires
+    returns
+    returns-2
     returns-3)

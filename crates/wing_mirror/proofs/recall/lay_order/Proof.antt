@@ -1,8 +1,7 @@
 -- The contract of `send_record` on the record that `row` gives writes its order, whole since there is room (`laid-whole`), and `size_in` gives its
 -- length.
 use Prim.Native.Nat.{ℕ}
-use mathlib.Core.Bool.{true}
-use mathlib.Core.Path.{_≡_, _∙_, ap}
+use mathlib.Core.Path.{_∙_, ap}
 use mathlib.Core.List.{List}
 use lib.ListN.{length}
 use Rattle.wing_wire.specs.Write.{writeOf}

@@ -1,10 +1,8 @@
--- Both returns are the branches of `wellFormed` with that test of the sixth byte, by the contracts of `u16_at` and `well_kept`.
+-- Both returns are the branches of `wellFormed` with that test of the sixth byte, by the contracts of `u16_at`, `payload` and `well_kept`.
 use borrow.Author.Tests.{eq-eqb, ne-eqb}
-use Prim.Native.Nat.{_-_}
-use mathlib.Core.Path.{_≡_, _∙_, ap₂}
+use mathlib.Core.Path.{_≡_, _∙_, ap, ap₂}
 use native.Mathlib.Omega.{arith}
 use lib.ListN.{length, take, drop, getD, length-drop}
-use lib.Seq.{take-all}
 use Rattle.wing_node.specs.Field.{big, fieldAt}
 use Rattle.wing_node.proofs.Numerals.Placed.{field-whole}
 use Rattle.wing_mirror.specs.Record.{wellKept, wellFormed}
@@ -21,24 +19,20 @@ shared-slice-read-well-kept c = search needs
 u16-at-requires : tie.Need-u16-at-requires
 u16-at-requires c κs = search needs
 
-sub-well-kept : tie.Need-sub-well-kept
-sub-well-kept c = search needs
-
-part-well-kept-start : tie.Need-part-well-kept-start
-part-well-kept-start c = search needs
-
-part-well-kept-end : tie.Need-part-well-kept-end
-part-well-kept-end c = search needs
+payload-requires : tie.Need-payload-requires
+payload-requires c κs = search needs
 
 well-kept-requires : tie.Need-well-kept-requires
-well-kept-requires c κs = search needs
+well-kept-requires c κs =
+    let r = c .before .before .before .before .before .before .args .rec .now in
+    omega (arith, ap length (c .payload .ensures), length-drop 8 r)
 
 returns : tie.Need-returns
 unfolding wellFormed
 returns c =
     let r = c .before .before .before .before .before .before .before .args .rec .now in
     let n : fieldAt 2 r 6 ≡ big (take 2 (drop 6 r)) = field-whole 2 r 6 (omega arith) in
-    simp (eq-eqb _ _ (c .before .before .before .before .if1 .taken)) (c .well-kept .ensures ∙ ap₂ (wellKept (getD r 4 0)) (c .before .before .u16-at .ensures ∙ n) (take-all (length r - 8) (drop 8 r) (omega (arith, length-drop 8 r))))
+    simp (eq-eqb _ _ (c .before .before .before .before .if1 .taken)) (c .well-kept .ensures ∙ ap₂ (wellKept (getD r 4 0)) (c .before .before .u16-at .ensures ∙ n) (c .before .payload .ensures))
 
 returns-2 : tie.Need-returns-2
 unfolding wellFormed
@@ -51,9 +45,7 @@ well-formed-spec =
     shared-slice-read-if1
     shared-slice-read-well-kept
     u16-at-requires
-    sub-well-kept
-    part-well-kept-start
-    part-well-kept-end
+    payload-requires
     well-kept-requires
     returns
     returns-2)
