@@ -3,7 +3,7 @@ ghost use mathlib.Core.Path.{_≡_};
 ghost use Prim.Native.Nat.{_≤_, min};
 ghost use lib.ListN.{length, take};
 ghost use Rattle.wing_node.specs.Field.{bytesOf};
-ghost use Rattle.wing_node.specs.Value.{meant};
+ghost use Rattle.wing_node.specs.Value.{nodeValue};
 ghost use Rattle.wing_mirror.specs.Entry.{flipped, rankOf, entry};
 ghost use Rattle.wing_mirror.specs.Record.{width, keyOf, stringKept, wellKept, wellFormed, payloadIn, entryIn, recordOf, laidFrom};
 use crate::bytes;
@@ -95,7 +95,7 @@ pub(crate) fn well_formed(rec: &[u8]) -> bool
 // Its id and value, whatever its form.
 pub(crate) fn read(rec: &[u8]) -> Held
     requires { ⌜ length (now rec) ≡ width ⌝ }
-    ensures { λ r. ⌜ entry (r .id) (meant (r .value) (payloadIn (now (rec .entry)))) ≡ entryIn (now (rec .entry)) ⌝ }
+    ensures { λ r. ⌜ entry (r .id) (nodeValue (r .value) (payloadIn (now (rec .entry)))) ≡ entryIn (now (rec .entry)) ⌝ }
 {
     let id = field::i32_at(rec, 0);
     if rec[4] == 0 {
@@ -149,7 +149,7 @@ fn lay_string(out: &mut [u8], string: &[u8], n: u16)
 // The record of an id and a value; a string's bytes stand beside its length.
 pub(crate) fn lay_record(out: &mut [u8], id: i32, value: Value, string: &[u8])
     requires { ⌜ (length (now out) ≡ width) × (length (now string) ≤ 256) ⌝ }
-    ensures { λ _. ⌜ now (out .exit) ≡ recordOf (entry id (meant value (now (string .entry)))) ⌝ }
+    ensures { λ _. ⌜ now (out .exit) ≡ recordOf (entry id (nodeValue value (now (string .entry)))) ⌝ }
 {
     bytes::clear(out);
     field::put_i32(out, 0, id);

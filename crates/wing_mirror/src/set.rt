@@ -3,7 +3,7 @@ ghost use mathlib.Core.Path.{_≡_};
 ghost use mathlib.Core.Bool.{true};
 ghost use Prim.Native.Nat.{_≤_};
 ghost use lib.ListN.{length};
-ghost use Rattle.wing_node.specs.Value.{integer, float, string as stringOf, meant};
+ghost use Rattle.wing_node.specs.Value.{integer, float, string as stringOf, nodeValue};
 ghost use Rattle.wing_wire.specs.Write.{writeEffect, writeOf};
 ghost use Rattle.wing_wire.specs.Command.{setBytes};
 ghost use Rattle.wing_mirror.specs.Entry.{storable};
@@ -34,8 +34,8 @@ fn refused(why: u8, count: usize) -> SetReply
 
 // The command of a value; a string's bytes stand beside its length.
 pub(crate) fn send(out: &mut [u8], id: i32, value: Value, string: &[u8]) -> Written
-    requires { ⌜ storable (meant value (now string)) ≡ true ⌝ }
-    ensures { λ r. ⌜ writeEffect r (now (out .exit)) ≡ writeOf (setBytes id (meant value (now (string .entry)))) (now (out .entry)) ⌝ }
+    requires { ⌜ storable (nodeValue value (now string)) ≡ true ⌝ }
+    ensures { λ r. ⌜ writeEffect r (now (out .exit)) ≡ writeOf (setBytes id (nodeValue value (now (string .entry)))) (now (out .entry)) ⌝ }
 {
     match value {
         Value::Integer(x) => set::set_int(out, id, x),
@@ -73,8 +73,8 @@ fn set_value(
     value: Value,
     string: &[u8],
 ) -> SetReply
-    requires { ⌜ (usable full (tableOf (now table) count) ≡ true) × (storable (meant value (now string)) ≡ true) × (length (now string) ≤ 256) ⌝ }
-    ensures { λ r. ⌜ setEffect r (now (out .exit)) (now (table .exit)) ≡ mirrorSet full id (meant value (now (string .entry))) (tableOf (now (table .entry)) count) (now (out .entry)) ⌝ }
+    requires { ⌜ (usable full (tableOf (now table) count) ≡ true) × (storable (nodeValue value (now string)) ≡ true) × (length (now string) ≤ 256) ⌝ }
+    ensures { λ r. ⌜ setEffect r (now (out .exit)) (now (table .exit)) ≡ mirrorSet full id (nodeValue value (now (string .entry))) (tableOf (now (table .entry)) count) (now (out .entry)) ⌝ }
 {
     let mut rec = [0u8; State::PLACE_WIDTH];
     lay_record(&mut rec, id, value, string);

@@ -80,7 +80,7 @@ unfolding joined
 set-events L [] node h = no-bytes
   where
     no-bytes : events (channelOne node) [] ≡ []
-    no-bytes = unfold decodeAll in ap (λ (x : Fed (List StreamEvent)). x .memo) (decoder-laws .feed .none appendEvent (record { control = channelOne node .control; store = channelOne node .store; memo = [] }) refl)
+    no-bytes = unfold decodeAll in ap (λ (x : Fed (List StreamEvent)). x .memo) (decoder-laws .feed .empty appendEvent (record { control = channelOne node .control; store = channelOne node .store; memo = [] }) refl)
 set-events L (e ∷ es) node h =
     onward (channelOne node) (setOf e) (joined (map setOf es)) _ (set-event node e (h .0)) ∙ ap (λ (l : List StreamEvent). entryEvent e ∷ l) (set-events L es (e .id) (h .1))
 

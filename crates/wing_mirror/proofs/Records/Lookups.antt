@@ -13,7 +13,7 @@ use Rattle.wing_node.specs.Bool.{if}
 use Rattle.wing_node.specs.Result.{Result, ok, refused}
 use Rattle.wing_node.specs.Signed.{InBits}
 use Rattle.wing_node.specs.Utf8.{utf8}
-use Rattle.wing_node.specs.Value.{NodeValue, integer, float, string, meant}
+use Rattle.wing_node.specs.Value.{NodeValue, integer, float, string, nodeValue}
 use Rattle.wing_wire.specs.Range.{AreBytes}
 use Rattle.wing_mirror.specs.Rows.{Table, found, nothing, holds, below, numberOf, All}
 use Rattle.wing_mirror.specs.Entry.{Entry, entry, rankOf, storable}
@@ -35,7 +35,7 @@ rank-one i j h k e = same-id i j (same-rank i j h k ∙ eq-eqb (rankOf i) (rankO
 
 -- what a read of an entry's record says is the entry
 value-read : (id : ℤ) (v : NodeValue) → storable v ≡ true → recordResult (readOf (entry id v)) ≡ ok (entry id v)
-unfolding entryResult readOf valueOf bytesBeside meant storable
+unfolding entryResult readOf valueOf bytesBeside nodeValue storable
 value-read id (integer x) h = refl
 value-read id (float bits) h = refl
 value-read id (string s) h =

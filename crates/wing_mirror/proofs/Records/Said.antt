@@ -10,7 +10,7 @@ use lib.ListN.{length, take, drop, getD, replicate, length-take}
 use lib.Seq.{sets, drop-drop}
 use Rattle.wing_node.specs.Field.{fieldAt}
 use Rattle.wing_node.specs.Signed.{signed}
-use Rattle.wing_node.specs.Value.{integer, float, string, meant}
+use Rattle.wing_node.specs.Value.{integer, float, string, nodeValue}
 use Rattle.wing_node.specs.declared.value.Value.{Value}
 use Rattle.wing_node.specs.declared.value.Value.the-variants.{Integer, Float, String}
 use Rattle.wing_node.proofs.Numerals.Placed.{field-whole}
@@ -62,15 +62,15 @@ module _ (r : List ℕ) (wide : length r ≡ 264) (id : ℤ) (eid : id ≡ signe
       (ap₂ (λ (a : ℤ) (m : ℕ). entry a (string (take m (drop 8 r)))) id-is (e ∙ field-whole 2 r 6 (omega arith)))
 
 -- what a record that holds v says, its string's bytes in p
-module _ (id : ℤ) (v : Value) (p r : List ℕ) (e : entry id (meant v p) ≡ entryIn r) where
+module _ (id : ℤ) (v : Value) (p r : List ℕ) (e : entry id (nodeValue v p) ≡ entryIn r) where
   pub integer-said : (x : ℤ) → v ≡ Integer x → besideZeros id v ≡ readOf (entryIn r)
-  unfolding meant readOf valueOf bytesBeside
+  unfolding nodeValue readOf valueOf bytesBeside
   integer-said x q = rw q (ap readOf (rw q at e))
 
   pub float-said : (bits : ℕ) → v ≡ Float bits → besideZeros id v ≡ readOf (entryIn r)
-  unfolding meant readOf valueOf bytesBeside
+  unfolding nodeValue readOf valueOf bytesBeside
   float-said bits q = rw q (ap readOf (rw q at e))
 
   pub string-is-said : (n : ℕ) → v ≡ String n → readOf (entry id (string (take n p))) ≡ readOf (entryIn r)
-  unfolding meant
+  unfolding nodeValue
   string-is-said n q = ap readOf (rw q at e)

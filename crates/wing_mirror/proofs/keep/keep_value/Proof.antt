@@ -3,7 +3,7 @@
 use mathlib.Core.Path.{refl, _∙_, ap}
 use lib.IntN.{ℤ}
 use mir.Facts.{toZ-ofZ}
-use Rattle.wing_node.specs.Value.{meant}
+use Rattle.wing_node.specs.Value.{nodeValue}
 use Rattle.wing_mirror.specs.Record.{full}
 use Rattle.wing_mirror.specs.Entry.{entry}
 use Rattle.wing_mirror.specs.Record.{recordOf}
@@ -41,7 +41,7 @@ returns c =
     let start = at-lay-record .before .before .before .before in
     let l = at-lay-record .lay-record in
     let p = at-put .put in
-    let v = meant (start .args .value) (start .args .string .now) in
+    let v = nodeValue (start .args .value) (start .args .string .now) in
     let e = l .ensures ∙ ap (λ (x : ℤ). recordOf (entry x v)) (toZ-ofZ (start .fits .node)) in
     let t = table (start .args .table .now) (start .args .t .count) in
     rw (c .mark .ensures) (rw (c .before .if1 .taken) at (put-kept full (start .args .node) v t (start .args .t .counts) (l .last .0) (p .result) (p .last .0) refl e (p .ensures ∙ put-is (l .last .0) t)))
@@ -59,7 +59,7 @@ returns-2 c =
     let start = at-lay-record .before .before .before .before in
     let l = at-lay-record .lay-record in
     let p = at-put .put in
-    let v = meant (start .args .value) (start .args .string .now) in
+    let v = nodeValue (start .args .value) (start .args .string .now) in
     let e = l .ensures ∙ ap (λ (x : ℤ). recordOf (entry x v)) (toZ-ofZ (start .fits .node)) in
     let t = table (start .args .table .now) (start .args .t .count) in
     rw (c .mark2 .ensures) (rw (c .before .if1 .left) at (put-kept full (start .args .node) v t (start .args .t .counts) (l .last .0) (p .result) (p .last .0) refl e (p .ensures ∙ put-is (l .last .0) t)))

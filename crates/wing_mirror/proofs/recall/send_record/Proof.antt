@@ -5,7 +5,7 @@ use mathlib.Core.List.{List}
 use native.Mathlib.Omega.{arith}
 use mir.Syntax.{w32}
 use mir.Val.{toZ, ofZ}
-use Rattle.wing_node.specs.Value.{meant}
+use Rattle.wing_node.specs.Value.{nodeValue}
 use Rattle.wing_wire.specs.Write.{writeOf}
 use Rattle.wing_mirror.specs.Entry.{Entry, entry, storable}
 use Rattle.wing_mirror.specs.Record.{entryIn}
@@ -27,7 +27,7 @@ send-requires c κs =
     let at-read = c .before .before .before in
     let s = at-read .before .before .before in
     let v = at-read .read .result .value in
-    ap (λ (p : List ℕ). storable (meant v p)) (c .before .payload .ensures)
+    ap (λ (p : List ℕ). storable (nodeValue v p)) (c .before .payload .ensures)
     ∙ ap (λ (e : Entry). storable (e .value)) (at-read .read .ensures)
     ∙ read-storable (s .args .rec .now) (s .pre .0) (λ i. omega (arith, at-read .before .shared-slice-known .given i)) (s .pre .1)
 
@@ -43,7 +43,7 @@ returns c =
     let h = at-read .read .result in
     let back : toZ w32 (ofZ w32 (h .id)) ≡ h .id = search needs in
     rw back at (at-send .send .ensures)
-    ∙ ap (λ (p : List ℕ). writeOf (setOf (entry (h .id) (meant (h .value) p))) (s .args .out .now)) (at-payload .payload .ensures)
+    ∙ ap (λ (p : List ℕ). writeOf (setOf (entry (h .id) (nodeValue (h .value) p))) (s .args .out .now)) (at-payload .payload .ensures)
     ∙ ap (λ (e : Entry). writeOf (setOf e) (s .args .out .now)) (at-read .read .ensures)
 
 pub send-record-spec : {M : Type 1} → statement M

@@ -2,7 +2,7 @@
 use mathlib.Core.Path.{_≡_}
 use mir.Syntax.{w32}
 use mir.Val.{toZ, ofZ}
-use Rattle.wing_node.specs.Value.{meant}
+use Rattle.wing_node.specs.Value.{nodeValue}
 use Rattle.wing_mirror.proofs.Records.Said.{integer-entry, float-entry, string-entry}
 use borrow.Author.Needs.{needs}
 use Rattle.wing_mirror.proofs.record.read.Statement.{statement}
@@ -18,7 +18,7 @@ i32-at-requires-2 : tie.Need-i32-at-requires-2
 i32-at-requires-2 c κs = search needs
 
 returns : tie.Need-returns
-unfolding meant
+unfolding nodeValue
 returns c =
     let at-id = c .before .before .before in
     let s = at-id .before .before in
@@ -35,7 +35,7 @@ u32-at-requires : tie.Need-u32-at-requires
 u32-at-requires c κs = search needs
 
 returns-2 : tie.Need-returns-2
-unfolding meant
+unfolding nodeValue
 returns-2 c =
     let at-if1 = c .before .before .before in
     let at-id = at-if1 .before .before in
@@ -48,7 +48,7 @@ u16-at-requires : tie.Need-u16-at-requires
 u16-at-requires c κs = search needs
 
 returns-3 : tie.Need-returns-3
-unfolding meant
+unfolding nodeValue
 returns-3 c =
     let at-if1 = c .before .before .before in
     let at-id = at-if1 .before .before in
