@@ -16,11 +16,11 @@ use crate::answer::Same;
 use crate::bytes::lay;
 use crate::order::row;
 use crate::order::search;
-use crate::record::least;
 use crate::record::payload;
 use crate::record::rank;
 use crate::record::read;
 use crate::table::is_usable;
+use wing_node::field::least;
 use wing_node::value::Value;
 use wing_wire::state::State;
 

@@ -1,9 +1,9 @@
 // Reading a body field by field. A cursor is the place reached and the refusal met, 0 for none; once it has
 // a refusal it stays as it is, so the first failing field counts.
 ghost use mathlib.Core.Path.{_≡_};
-ghost use Prim.Native.Nat.{min};
 ghost use Rattle.wing_node.specs.Bool.{if};
 ghost use Rattle.wing_node.specs.Cursor.{number, string, start, stopped, nothing, readAt, shortOf};
+use crate::field::least;
 use crate::field::left;
 use crate::field::u16_at;
 use crate::field::u32_at;
@@ -97,12 +97,6 @@ pub(crate) fn read_16(body: &[u8], c: Cursor) -> ShortRead
             refused: 0,
         },
     }
-}
-
-fn least(a: usize, b: usize) -> usize
-    ensures { λ r. ⌜ r ≡ min a b ⌝ }
-{
-    if a < b { a } else { b }
 }
 
 // 0, or why a string is refused. 01: length before UTF-8.

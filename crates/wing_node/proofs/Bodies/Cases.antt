@@ -1,19 +1,17 @@
 -- What a field at a cursor gives, case by case: at any width, and for a string.
-use mathlib.Core.Path.{_≡_, refl, _∙_, ap, sym}
+use mathlib.Core.Path.{_≡_, refl}
 use mathlib.Core.Bool.{Bool, true, false}
-use mathlib.Core.List.{List, [], _∷_, _++_}
-use Prim.Native.Nat.{ℕ, suc, min, _+_, _-_, _*_, _≤_, _<_}
+use mathlib.Core.List.{List}
+use Prim.Native.Nat.{ℕ, min, _+_, _-_, _≤_, _<_}
 use native.Mathlib.Omega.{arith}
-use native.Mathlib.Numerals.{add-one}
-use lib.Dec.{ltb, eqb}
+use lib.Dec.{ltb}
 use lib.ListN.{length, take, drop, getD, length-drop}
-use lib.Seq.{drop-cons, getD-drop, drop-drop}
+use lib.Seq.{getD-drop, drop-drop}
 use borrow.Author.Tests.{eq-eqb, ne-eqb, lt-ltb, le-ltb, ltb-true, ltb-false}
 use Rattle.wing_node.specs.Bool.{if}
 use Rattle.wing_node.specs.Utf8.{utf8}
-use Rattle.wing_node.specs.Cursor.{Field, number, string, size, content, right, fault, valueOf, begins, stopped, cursor, from, fieldRead, nothing, readAt}
+use Rattle.wing_node.specs.Cursor.{Field, string, size, content, right, fault, valueOf, contentAt, stopped, cursor, from, fieldRead, nothing, readAt}
 use Rattle.wing_node.specs.declared.cursor.Cursor.{Cursor}
-use Rattle.wing_node.specs.declared.cursor.FieldRead.{FieldRead}
 
 pub first-byte : (s : List ℕ) (i : ℕ) → getD (drop i s) 0 0 ≡ getD s i 0
 first-byte s i = let e : i + 0 ≡ i = omega arith in rw (getD-drop, e)
@@ -23,38 +21,38 @@ module _ (f : Field) (body : List ℕ) (c : Cursor) where
   unfolding readAt
   read-refused h = simp (ne-eqb _ _ h)
 
-  module _ (none : c .refused ≡ 0) where
+  module _ (not-refused : c .refused ≡ 0) where
     pub read-short : length body - c .at < size f (from body c) → readAt f body c ≡ nothing (stopped c 4)
     unfolding readAt fault
-    read-short h = simp (eq-eqb _ _ none, length-drop, lt-ltb _ _ h)
+    read-short h = simp (eq-eqb _ _ not-refused, length-drop, lt-ltb _ _ h)
 
     module _ (fits : size f (from body c) ≤ length body - c .at) where
       pub read-there : right f (from body c) ≡ true →
-          readAt f body c ≡ fieldRead (valueOf f (from body c)) (begins f (c .at)) (cursor (c .at + size f (from body c)) 0)
+          readAt f body c ≡ fieldRead (valueOf f (from body c)) (contentAt f (c .at)) (cursor (c .at + size f (from body c)) 0)
       unfolding readAt fault
-      read-there r = simp (eq-eqb _ _ none, length-drop, le-ltb _ _ fits, r)
+      read-there r = simp (eq-eqb _ _ not-refused, length-drop, le-ltb _ _ fits, r)
 
       pub read-wrong : right f (from body c) ≡ false → readAt f body c ≡ nothing (stopped c 5)
       unfolding readAt fault
-      read-wrong r = simp (eq-eqb _ _ none, length-drop, le-ltb _ _ fits, r)
+      read-wrong r = simp (eq-eqb _ _ not-refused, length-drop, le-ltb _ _ fits, r)
 
 -- a string, by its length byte in the body
-module _ (body : List ℕ) (c : Cursor) (none : c .refused ≡ 0) where
+module _ (body : List ℕ) (c : Cursor) (not-refused : c .refused ≡ 0) where
   pub string-short : length body - c .at < 1 + getD body (c .at) 0 → readAt string body c ≡ nothing (stopped c 4)
   unfolding size
-  string-short h = read-short string body c none (rw first-byte h)
+  string-short h = read-short string body c not-refused (rw first-byte h)
 
   -- e of the string's bytes are there, and u says whether these are UTF-8
   module _ (some : 1 ≤ length body - c .at) (e : ℕ) (ee : e ≡ min (getD body (c .at) 0) (length body - c .at - 1))
       (u : Bool) (eu : u ≡ utf8 (take e (drop (c .at + 1) body))) where
-    abbrev told : ℕ
-    told = if (ltb (length body - c .at - 1) (getD body (c .at) 0)) 4 (if u 0 5)
+    abbrev stringFault : ℕ
+    stringFault = if (ltb (length body - c .at - 1) (getD body (c .at) 0)) 4 (if u 0 5)
 
-    string-told : fault string (from body c) ≡ told
+    string-fault-is : fault string (from body c) ≡ stringFault
     unfolding fault size right content
-    string-told = go (ltb (length body - c .at - 1) (getD body (c .at) 0)) refl
+    string-fault-is = go (ltb (length body - c .at - 1) (getD body (c .at) 0)) refl
       where
-        go : (t : Bool) → ltb (length body - c .at - 1) (getD body (c .at) 0) ≡ t → fault string (from body c) ≡ told
+        go : (t : Bool) → ltb (length body - c .at - 1) (getD body (c .at) 0) ≡ t → fault string (from body c) ≡ stringFault
         go true q =
             let l : length body - c .at - 1 < getD body (c .at) 0 = ltb-true _ _ q in
             let h : length body - c .at < 1 + getD body (c .at) 0 = omega arith in
@@ -65,19 +63,19 @@ module _ (body : List ℕ) (c : Cursor) (none : c .refused ≡ 0) where
             let k : e ≡ getD body (c .at) 0 = omega arith in
             rw (q, eu, k, length-drop, first-byte, drop-drop, le-ltb _ _ h)
 
-    whole : told ≡ 0 → getD body (c .at) 0 ≤ length body - c .at - 1
+    whole : stringFault ≡ 0 → getD body (c .at) 0 ≤ length body - c .at - 1
     whole = go (ltb (length body - c .at - 1) (getD body (c .at) 0)) refl
       where
-        go : (t : Bool) → ltb (length body - c .at - 1) (getD body (c .at) 0) ≡ t → told ≡ 0 → getD body (c .at) 0 ≤ length body - c .at - 1
+        go : (t : Bool) → ltb (length body - c .at - 1) (getD body (c .at) 0) ≡ t → stringFault ≡ 0 → getD body (c .at) 0 ≤ length body - c .at - 1
         go true q z = absurd (let f : _≡_ {A = ℕ} 4 0 = rw q at z in omega arith)
         go false q z = ltb-false _ _ q
 
-    pub string-refused : (why : ℕ) → why ≡ told → (why ≡ 0 → ⊥) → readAt string body c ≡ nothing (stopped c why)
+    pub string-refused : (why : ℕ) → why ≡ stringFault → (why ≡ 0 → ⊥) → readAt string body c ≡ nothing (stopped c why)
     unfolding readAt
-    string-refused why q h = simp (eq-eqb _ _ none, string-told, ← q, ne-eqb _ _ h)
+    string-refused why q h = simp (eq-eqb _ _ not-refused, string-fault-is, ← q, ne-eqb _ _ h)
 
-    pub string-good : told ≡ 0 → readAt string body c ≡ fieldRead (getD body (c .at) 0) (c .at + 1) (cursor (c .at + 1 + e) 0)
-    unfolding readAt size valueOf begins
+    pub string-good : stringFault ≡ 0 → readAt string body c ≡ fieldRead (getD body (c .at) 0) (c .at + 1) (cursor (c .at + 1 + e) 0)
+    unfolding readAt size valueOf contentAt
     string-good q =
         let k : c .at + (1 + getD body (c .at) 0) ≡ c .at + 1 + e = omega (arith, whole q) in
-        simp (eq-eqb _ _ none, string-told, q, first-byte, k)
+        simp (eq-eqb _ _ not-refused, string-fault-is, q, first-byte, k)

@@ -10,7 +10,7 @@ use Rattle.wing_node.proofs.cursor.read_string.Statement.{statement}
 use Rattle.wing_node.proofs.cursor.read_string.Tie as tie
 use Rattle.wing_node.proofs.cursor.read_string.Reads as reads
 use Rattle.wing_node.proofs.cursor.read_string.Lts as lts
-use Rattle.wing_node.proofs.cursor.least.Reads as least-reads
+use Rattle.wing_node.proofs.field.least.Reads as least-reads
 use Rattle.wing_node.proofs.cursor.refuse.Reads as refuse-reads
 use Rattle.wing_node.proofs.cursor.string_fault.Reads as string-fault-reads
 use Rattle.wing_node.proofs.field.left.Reads as left-reads
