@@ -29,8 +29,12 @@ class Single:
     def stream(self):
         return "stream " + pairs(self.s.stream()[:LINE_BYTES])
 
+    def size(self):
+        """Of a piece. 0 is rare: shell then makes as many calls as the longest stream may want, and each takes nothing."""
+        return 0 if self.s.chance(0.02) else self.s.pick(1, 1, 2, 3, 7, 64, 4096, 65535, self.r.randrange(1, 65536))
+
     def pieces(self):
-        return "pieces %d %s" % (self.s.pick(0, 1, 1, 2, 3, 7, 64, 65535, self.s.uint16()), pairs(self.s.stream()[:LINE_BYTES]))
+        return "pieces %d %s" % (self.size(), pairs(self.s.stream()[:LINE_BYTES]))
 
     def size_list(self):
         sizes = self.s.pick(1, 2, 5, 64, self.r.randrange(1, 65))
@@ -47,7 +51,7 @@ class Single:
 
     def taking(self):
         """An order on the bytes held."""
-        order = self.s.pick("stream", "pieces %d" % self.s.pick(0, 1, 7, 4096, 65535), "piecelist " + self.size_list(), "definition",
+        order = self.s.pick("stream", "pieces %d" % self.size(), "piecelist " + self.size_list(), "definition",
                             "packet %d" % self.s.pick(4200, 4094, self.r.randrange(4201)))
         return self.s.pick("", "", "sum ") + order + " +"
 

@@ -1,25 +1,24 @@
 // A definition's body: what the parser says, with every item; its cuts; its items by number and through the walker.
-use crate::commands::half;
+use crate::forms;
 use crate::read;
 use crate::show;
+use crate::show::Log;
+use crate::show::Said;
+use wing_node::definition;
 use wing_node::definition::Definition;
 use wing_node::definition::Details;
 use wing_node::definition::Item;
 use wing_node::definition::Parsed;
 use wing_node::definition::Span;
-use wing_node::definition::from_bytes;
-use wing_node::items::Begun;
+use wing_node::items;
 use wing_node::items::Step;
 use wing_node::items::Walk;
-use wing_node::items::item_by_number;
-use wing_node::items::item_step;
-use wing_node::items::items_begin;
 use wing_node::node_type;
 use wing_node::node_type::NodeType;
 use wing_node::node_type::NodeUnit;
 use wing_node::walker;
 
-fn type_number(t: NodeType) -> u8 {
+fn type_number(t: NodeType) -> u64 {
     match t {
         NodeType::Node => 0,
         NodeType::LinearFloat => 1,
@@ -32,7 +31,7 @@ fn type_number(t: NodeType) -> u8 {
     }
 }
 
-fn unit_number(u: NodeUnit) -> u8 {
+fn unit_number(u: NodeUnit) -> u64 {
     match u {
         NodeUnit::None => 0,
         NodeUnit::Db => 1,
@@ -45,42 +44,45 @@ fn unit_number(u: NodeUnit) -> u8 {
     }
 }
 
+// R and r: a refusal in words and short.
+fn say(log: &mut Log, at: usize, s: Said) -> usize {
+    let table =
+        b"dWWH|kkBBF|--|ffWWW|iiWW|ssH|ccH|##|,,W|nnone|Rrefused D|rrR|;; |aat D left D|l at D left D|\
+gD-D good|bD-D refused D|o, ";
+    show::say(log, at, table, s)
+}
+
+fn refused(log: &mut Log, at: usize, why: u8, words: bool) -> usize {
+    let letter = if words { b'R' } else { b'r' };
+    say(log, at, show::one(letter, why as u64))
+}
+
 // A string of the body, with a mark before it.
-fn string(log: &mut [u8], at: usize, mark: u8, body: &[u8], s: Span) -> usize {
+fn string(log: &mut Log, at: usize, mark: u8, body: &[u8], s: Span) -> usize {
     let start = s.start;
     let string_at = show::put(log, at, mark);
     let end = read::onward(start, s.len as usize, body.len());
     show::front(log, string_at, read::part(body, start, end), s.len as usize)
 }
 
-fn strings(log: &mut [u8], at: usize, body: &[u8], short: Span, long: Span) -> usize {
-    let long_at = string(log, at, b',', body, short);
-    string(log, long_at, b'/', body, long)
-}
-
-fn float(log: &mut [u8], at: usize, body: &[u8], bits: u32, long: Span) -> usize {
-    let bits_at = show::put(log, at, b',');
-    let long_at = show::hex_32(log, bits_at, bits);
-    string(log, long_at, b'/', body, long)
-}
-
-fn item(log: &mut [u8], at: usize, body: &[u8], i: Item) -> usize {
+// An item; none and a refusal in words or short.
+fn item(log: &mut Log, at: usize, body: &[u8], i: Item, words: bool) -> usize {
     match i {
-        Item::None => show::put(log, at, b'-'),
-        Item::Strings { item, long_item } => strings(log, at, body, item, long_item),
-        Item::Float { item, long_item } => float(log, at, body, item, long_item),
-        Item::Refused(why) => show::code(log, at, why),
+        Item::None => say(log, at, show::none(if words { b'n' } else { b'-' })),
+        Item::Strings { item, long_item } => {
+            let long_at = string(log, at, b',', body, item);
+            string(log, long_at, b'/', body, long_item)
+        }
+        Item::Float { item, long_item } => {
+            let long_at = say(log, at, show::one(b',', item as u64));
+            string(log, long_at, b'/', body, long_item)
+        }
+        Item::Refused(why) => refused(log, at, why, words),
     }
 }
 
-// Where a walk and the text stand.
-struct Turned {
-    walk: Walk,
-    text: usize,
-}
-
-fn turned_to(walk: Walk, text: usize) -> Turned {
-    Turned { walk, text }
+fn standing(log: &mut Log, at: usize, letter: u8, w: Walk) -> usize {
+    say(log, at, show::two(letter, w.at as u64, w.left as u64))
 }
 
 // The walker is made anew by the library for each step: a program that holds one would be proved by hand.
@@ -89,120 +91,125 @@ fn one_step(body: &[u8], w: Walk, lent: bool) -> Step {
         return walker::step_over(body, w);
     }
     let kind = w.kind;
-    item_step(body, w.at, w.left, kind)
+    items::item_step(body, w.at, w.left, kind)
 }
 
-fn step_text(log: &mut [u8], at: usize, body: &[u8], s: Step, lent: bool) -> usize {
-    if lent {
-        let step_at = show::text(log, at, b"; ");
-        return step_words(log, step_at, body, s);
-    }
+// The item of a step, and in words where the walk stands after it.
+fn step_text(log: &mut Log, at: usize, body: &[u8], s: Step, words: bool) -> usize {
     let i = s.item;
-    item(log, at, body, i)
+    let next = s.next;
+    let end = item(log, at, body, i, words);
+    if words {
+        return standing(log, end, b'l', next);
+    }
+    end
 }
 
-fn turn(log: &mut [u8], t: Turned, body: &[u8], lent: bool) -> Turned {
+// Where a walk and the text stand.
+struct Turned {
+    walk: Walk,
+    text: usize,
+}
+
+// A step by number, short; or one of the walker, in words.
+fn turn(log: &mut Log, t: Turned, body: &[u8], lent: bool) -> Turned {
     let w = t.walk;
     let s = one_step(body, w, lent);
-    let next = s.next;
-    turned_to(next, step_text(log, t.text, body, s, lent))
+    let walk = s.next;
+    let mut at = t.text;
+    if lent {
+        at = say(log, at, show::none(b';'));
+    }
+    let text = step_text(log, at, body, s, lent);
+    Turned { walk, text }
 }
 
 // Every item, and what stands after the last.
-fn walk(log: &mut [u8], at: usize, body: &[u8], first: Walk, lent: bool) -> usize {
-    let mut t = turned_to(first, at);
-    let mut left = first.left;
+fn walk(log: &mut Log, at: usize, body: &[u8], first: Walk, lent: bool) -> usize {
+    let text = at;
+    let mut t = Turned { walk: first, text };
+    let mut left = first.left as u32 + 1;
     while left > 0 {
         t = turn(log, t, body, lent);
         left -= 1;
     }
-    let end = turn(log, t, body, lent);
-    end.text
+    t.text
 }
 
-fn before(count: u16) -> usize {
-    if count == 0 { 0 } else { (count - 1) as usize }
-}
-
-fn walked(log: &mut [u8], at: usize, body: &[u8]) -> usize {
-    let begun = items_begin(body);
+fn walked(log: &mut Log, at: usize, body: &[u8]) -> usize {
+    let begun = items::items_begin(body);
     match begun {
-        Begun::Good(first) => walk(log, at, body, first, false),
-        Begun::Refused(why) => show::code(log, at, why),
+        items::Begun::Good(first) => walk(log, at, body, first, false),
+        items::Begun::Refused(why) => refused(log, at, why, false),
     }
+}
+
+fn numbered(log: &mut Log, at: usize, body: &[u8], number: u64, words: bool) -> usize {
+    let i = items::item_by_number(body, number as usize);
+    item(log, at, body, i, words)
 }
 
 // The items in order, the last one by its number, and the number past it.
-fn items(log: &mut [u8], at: usize, body: &[u8], count: u16) -> usize {
-    let count_at = show::put(log, at, b'c');
-    let items_at = show::hex_16(log, count_at, count);
-    let number_at = walked(log, items_at, body);
-    let last_at = show::put(log, number_at, b'#');
-    let past_at = item(log, last_at, body, item_by_number(body, before(count)));
-    item(log, past_at, body, item_by_number(body, count as usize))
+fn all_items(log: &mut Log, at: usize, body: &[u8], count: u64) -> usize {
+    let number_at = walked(log, at, body);
+    let last_at = say(log, number_at, show::none(b'#'));
+    let past_at = numbered(log, last_at, body, read::less(count, 1), false);
+    numbered(log, past_at, body, count, false)
 }
 
-fn floats(log: &mut [u8], at: usize, min: u32, max: u32, steps: i32) -> usize {
-    let min_at = show::put(log, at, b'f');
-    let max_at = show::hex_32(log, min_at, min);
-    let steps_at = show::hex_32(log, max_at, max);
-    show::bits(log, steps_at, steps)
-}
-
-fn integers(log: &mut [u8], at: usize, min: i32, max: i32) -> usize {
-    let min_at = show::put(log, at, b'i');
-    let max_at = show::bits(log, min_at, min);
-    show::bits(log, max_at, max)
-}
-
-fn max_len(log: &mut [u8], at: usize, len: u16) -> usize {
-    let len_at = show::put(log, at, b's');
-    show::hex_16(log, len_at, len)
-}
-
-fn details(log: &mut [u8], at: usize, body: &[u8], d: Details) -> usize {
+fn details(d: Details) -> Said {
     match d {
-        Details::None => show::put(log, at, b'-'),
-        Details::Floats { min, max, steps } => floats(log, at, min, max, steps),
-        Details::Integers { min, max } => integers(log, at, min, max),
-        Details::Items { count, first: _ } => items(log, at, body, count),
-        Details::String { max_len: len } => max_len(log, at, len),
+        Details::None => show::none(b'-'),
+        Details::Floats { min, max, steps } => {
+            show::three(b'f', min as u64, max as u64, show::bits(steps))
+        }
+        Details::Integers { min, max } => show::two(b'i', show::bits(min), show::bits(max)),
+        Details::Items { count, first: _ } => show::one(b'c', count as u64),
+        Details::String { max_len } => show::one(b's', max_len as u64),
     }
 }
 
-fn kinds(log: &mut [u8], at: usize, d: Definition) -> usize {
-    let t = d.node_type;
-    let u = d.unit;
-    let mark_at = show::put(log, at, b'k');
-    let unit_at = show::hex_8(log, mark_at, type_number(t));
-    let read_only_at = show::hex_8(log, unit_at, unit_number(u));
-    show::flag(log, read_only_at, d.read_only)
-}
-
-fn fields(log: &mut [u8], at: usize, body: &[u8], d: Definition) -> usize {
+fn fields(log: &mut Log, at: usize, body: &[u8], d: Definition) -> usize {
     let name = d.name;
     let long_name = d.long_name;
     let more = d.details;
-    let id_at = show::bits(log, at, d.parent_id);
-    let index_at = show::bits(log, id_at, d.id);
-    let name_at = show::hex_16(log, index_at, d.index);
-    let long_at = string(log, name_at, b'n', body, name);
-    let kinds_at = string(log, long_at, b'l', body, long_name);
-    let details_at = kinds(log, kinds_at, d);
-    details(log, details_at, body, more)
+    let t = d.node_type;
+    let u = d.unit;
+    let ids = show::three(
+        b'd',
+        show::bits(d.parent_id),
+        show::bits(d.id),
+        d.index as u64,
+    );
+    let kinds = show::three(
+        b'k',
+        type_number(t),
+        unit_number(u),
+        show::flag(d.read_only),
+    );
+    let said = details(more);
+    let mut to = say(log, at, ids);
+    to = string(log, to, b'n', body, name);
+    to = string(log, to, b'l', body, long_name);
+    to = say(log, to, kinds);
+    to = say(log, to, said);
+    if said.letter == b'c' {
+        return all_items(log, to, body, show::first(said, b'c'));
+    }
+    to
 }
 
-pub fn definition(log: &mut [u8], at: usize, body: &[u8]) -> usize {
-    let parsed = from_bytes(body);
+pub fn definition(log: &mut Log, at: usize, body: &[u8]) -> usize {
+    let parsed = definition::from_bytes(body);
     match parsed {
         Parsed::Good(d) => fields(log, at, body, d),
-        Parsed::Refused(why) => show::code(log, at, why),
+        Parsed::Refused(why) => refused(log, at, why, false),
     }
 }
 
 // The number of the refusal, 0 for a body that the parser takes.
 fn refusal(body: &[u8]) -> u8 {
-    let parsed = from_bytes(body);
+    let parsed = definition::from_bytes(body);
     match parsed {
         Parsed::Good(_) => 0,
         Parsed::Refused(why) => why,
@@ -217,21 +224,18 @@ struct Run {
     text: usize,
 }
 
-fn run_text(log: &mut [u8], r: Run) -> usize {
-    let to_at = show::decimal(log, r.text, r.from as u64);
-    let why_at = show::named(log, to_at, b"-", r.to as u64);
-    if r.why == 0 {
-        return show::text(log, why_at, b" good");
-    }
-    show::named(log, why_at, b" refused ", r.why as u64)
+fn run_text(log: &mut Log, r: Run) -> usize {
+    let letter = if r.why == 0 { b'g' } else { b'b' };
+    let run = show::three(letter, r.from as u64, r.to as u64, r.why as u64);
+    say(log, r.text, run)
 }
 
 // The run with one length more, or the next run, the last one being in the text.
-fn longer(log: &mut [u8], before: Run, to: usize, why: u8) -> Run {
+fn longer(log: &mut Log, before: Run, to: usize, why: u8) -> Run {
     let mut r = before;
     if why != r.why {
         let end = run_text(log, r);
-        r.text = show::text(log, end, b", ");
+        r.text = say(log, end, show::none(b'o'));
         r.from = to;
         r.why = why;
     }
@@ -240,7 +244,7 @@ fn longer(log: &mut [u8], before: Run, to: usize, why: u8) -> Run {
 }
 
 // What the parser says of every front of a body, in runs of equal answers.
-pub fn cuts(log: &mut [u8], body: &[u8]) -> usize {
+fn cuts(log: &mut Log, body: &[u8]) -> usize {
     let mut r = Run {
         from: 0,
         to: 0,
@@ -255,60 +259,43 @@ pub fn cuts(log: &mut [u8], body: &[u8]) -> usize {
     run_text(log, r)
 }
 
-// An item with words for none and for a refusal.
-fn item_words(log: &mut [u8], at: usize, body: &[u8], i: Item) -> usize {
-    match i {
-        Item::None => show::text(log, at, b"none"),
-        Item::Strings { item, long_item } => strings(log, at, body, item, long_item),
-        Item::Float { item, long_item } => float(log, at, body, item, long_item),
-        Item::Refused(why) => show::refused(log, at, why),
-    }
-}
-
-pub fn numbered(log: &mut [u8], number: u64, body: &[u8]) -> usize {
-    item_words(log, 0, body, item_by_number(body, number as usize))
-}
-
-fn standing(log: &mut [u8], at: usize, w: Walk) -> usize {
-    let left_at = show::named(log, at, b"at ", w.at as u64);
-    show::named(log, left_at, b" left ", w.left as u64)
-}
-
-fn step_words(log: &mut [u8], at: usize, body: &[u8], s: Step) -> usize {
-    let i = s.item;
-    let next = s.next;
-    let space_at = item_words(log, at, body, i);
-    let stands_at = show::put(log, space_at, b' ');
-    standing(log, stands_at, next)
-}
-
 // One step from a place that need not come from a walk; after it, in the same log, the walker's, to be held against it.
-pub fn step(log: &mut [u8], n: [u64; 5], body: &[u8]) -> usize {
-    let kind = node_type::type_of(half(n[2]));
+fn step(log: &mut Log, n: forms::Numbers, body: &[u8]) -> usize {
+    let kind = node_type::type_of((n[2] % 0x1_0000) as u16);
     let at = n[0] as usize;
-    let left = half(n[1]);
+    let left = (n[1] % 0x1_0000) as u16;
     let w = Walk { at, left, kind };
-    let end = step_words(log, 0, body, one_step(body, w, false));
-    let second_end = step_words(log, end, body, one_step(body, w, true));
+    let end = step_text(log, 0, body, one_step(body, w, false), true);
+    let second_end = step_text(log, end, body, one_step(body, w, true), true);
     show::same_again(log, end, second_end)
 }
 
-fn walk_from(log: &mut [u8], body: &[u8], start: walker::Start) -> usize {
+fn walk_from(log: &mut Log, body: &[u8], start: walker::Start) -> usize {
     let kind = start.kind;
-    let w = Walk {
-        at: start.at,
-        left: start.left,
-        kind,
-    };
-    let steps_at = standing(log, 0, w);
+    let at = start.at;
+    let left = start.left;
+    let w = Walk { at, left, kind };
+    let steps_at = standing(log, 0, b'a', w);
     walk(log, steps_at, body, w, true)
 }
 
-pub fn walk_items(log: &mut [u8], body: &[u8]) -> usize {
+fn walk_items(log: &mut Log, body: &[u8]) -> usize {
     let start = walker::begin_over(body);
     let opening = start.opening;
     match opening {
         walker::Opening::Good => walk_from(log, body, start),
-        walker::Opening::Refused(why) => show::refused(log, 0, why),
+        walker::Opening::Refused(why) => refused(log, 0, why, true),
+    }
+}
+
+pub fn order(log: &mut Log, a: forms::Asked, bytes: &[u8]) -> usize {
+    let n = a.numbers;
+    let letter = a.letter;
+    match letter {
+        b'd' => definition(log, 0, bytes),
+        b'c' => cuts(log, bytes),
+        b'i' => numbered(log, 0, bytes, n[0], true),
+        b's' => step(log, n, bytes),
+        _ => walk_items(log, bytes),
     }
 }

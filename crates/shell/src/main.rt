@@ -9,218 +9,188 @@ mod states;
 mod streams;
 mod values;
 
-use crate::mirror::Done;
-use crate::mirror::Mirror;
-use libc::STDERR_FILENO;
-use libc::STDIN_FILENO;
+use crate::mirror::Kept;
+use crate::mirror::Session;
+use crate::show::Log;
 
 // The longest line, and one byte more that tells a longer one.
 const LINE: usize = 16385;
 
-// No line spells more bytes.
-const BYTES: usize = 8192;
+type Line = [u8; LINE];
 
-// The mirror's memory, and after it the longest output of keep-alives.
-const MEMORY: usize = 1070864;
+const BUFFER: usize = 65536;
 
-// Room for the longest answer: keep-alives of 800,000 bytes.
-const LOG: usize = 2097152;
+type Buffer = [u8; BUFFER];
 
-// The bytes of a line so far stand in the line's buffer. more says that the input may go on.
-struct Session {
-    mirror: Mirror,
+// Bytes of the input that are not taken yet, from a place of their buffer up to another, and how many bytes of a line stand
+// in the line's buffer. ended: the line is complete. more: the input may go on. whole: no read of it has failed.
+struct Input {
+    at: usize,
+    end: usize,
     len: usize,
+    ended: bool,
     more: bool,
     whole: bool,
 }
 
-fn state(log: &mut [u8], n: [u64; 5], bytes: &[u8]) -> usize {
-    let mut all = [0u8; show::MOST];
-    let len = show::repeat(&mut all, bytes, n[1]);
-    if len < show::MOST {
-        return streams::state(log, n[0], read::part(&all, 0, len));
+// Every order but a feed. Capital letters are orders to the mirror. Bytes held that the order took are held no more.
+fn order(
+    before: Kept,
+    memory: &mut mirror::Memory,
+    a: forms::Asked,
+    bytes: &[u8],
+    log: &mut Log,
+) -> Kept {
+    let mut k = before;
+    let part = a.part;
+    if part == b'M' {
+        return mirror::change(k, memory, a, bytes, log);
     }
-    0
-}
-
-// The output of the keep-alives stands in the memory after the mirror's.
-fn keep_alive(log: &mut [u8], n: [u64; 5], memory: &mut [u8]) -> usize {
-    let from = mirror::MEMORY;
-    let to = memory.len();
-    if from <= to {
-        return commands::keep_alive(log, n, &mut memory[from..to]);
+    if part == b'S' {
+        return mirror::send(k, memory, a, bytes, log);
     }
-    0
-}
-
-// The answer's text to an order that needs no mirror.
-fn answer(log: &mut [u8], memory: &mut [u8], letter: u8, n: [u64; 5], bytes: &[u8]) -> usize {
-    match letter {
-        b's' => streams::stream(log, 0, bytes, bytes.len()),
-        b'p' => streams::stream(log, 0, bytes, n[0] as usize),
-        b'a' => values::one_more(log, bytes, 63, true),
-        b'l' => streams::units(log, bytes),
-        b'e' => state(log, n, bytes),
-        b'c' => streams::splits(log, bytes),
-        b'j' => streams::lent(log, bytes),
-        b'd' => definitions::definition(log, 0, bytes),
-        b'b' => definitions::cuts(log, bytes),
-        b'o' => definitions::numbered(log, n[0], bytes),
-        b'n' => definitions::step(log, n, bytes),
-        b'z' => definitions::walk_items(log, bytes),
-        b'u' => values::characters(log, 0, bytes),
-        b'w' => values::one_more(log, bytes, 255, false),
-        b'g' => values::getters(log, n[0], bytes),
-        b'h' => values::string(log, commands::half(n[0]), bytes),
-        b'v' => commands::packet(log, n[0], bytes),
-        b'k' => keep_alive(log, n, memory),
-        b'x' => commands::format(log, n, bytes),
-        _ => commands::command(log, letter, n, bytes),
+    let len = match part {
+        b'Q' => mirror::query(k, memory, a, log),
+        b's' => streams::order(log, a, bytes),
+        b'd' => definitions::order(log, a, bytes),
+        b'v' => values::order(log, a, bytes),
+        b'c' => commands::order(log, a, bytes),
+        b'p' => commands::packet(log, a, bytes),
+        _ => 0,
+    };
+    if len > 0 {
+        k.held = a.from;
     }
-}
-
-// The rest of a line after `sum `, or all of it. Orders to the mirror have no sum.
-fn order(m: Mirror, memory: &mut [u8], line: &[u8], from: usize, log: &mut [u8]) -> Done {
-    let mut bytes = [0u8; BYTES];
-    let a = forms::order(read::part(line, from, line.len()), &mut bytes);
-    let n = a.numbers;
-    let hex = read::part(&bytes, 0, a.len);
-    if a.good && a.letter >= b'a' {
-        return mirror::done_with(m, answer(log, memory, a.letter, n, hex));
-    }
-    if a.good && from == 0 {
-        return mirror::order(m, memory, a.letter, n, hex, log);
-    }
-    mirror::done_with(m, 0)
-}
-
-fn order_or_sum(m: Mirror, memory: &mut [u8], line: &[u8], log: &mut [u8]) -> Done {
-    if read::same(read::part(line, 0, 4), b"sum ") {
-        let d = order(m, memory, line, 4, log);
-        return mirror::done_with(m, show::summed(log, d.len));
-    }
-    order(m, memory, line, 0, log)
-}
-
-fn print_back(before: &[u8], line: &[u8], log: &mut [u8]) {
-    let at = show::text(log, 0, before);
-    let n = show::text(log, at, line);
-    show::print(log, n);
-}
-
-// A comment and an empty line are printed back, so that the output reads by itself.
-fn any_line(m: Mirror, memory: &mut [u8], line: &[u8], log: &mut [u8]) -> Mirror {
-    if line.len() == 0 || line[0] == b'#' {
-        print_back(b"", line, log);
-        return m;
-    }
-    let d = order_or_sum(m, memory, line, log);
-    let after = d.mirror;
-    if d.len == 0 {
-        print_back(b"? ", line, log);
+    k.len = if a.summed {
+        show::summed(log, len)
     } else {
-        show::print(log, d.len);
+        len
+    };
+    k
+}
+
+fn turn(
+    t: Session,
+    memory: &mut mirror::Memory,
+    line: &[u8],
+    bytes: &mut forms::Bytes,
+    log: &mut Log,
+) -> Session {
+    let mut k = t.kept;
+    k.len = 0;
+    let a = forms::order(line, bytes, k.held);
+    let given = read::part(bytes, a.from, a.to);
+    let state = t.state;
+    if a.part == b'F' {
+        return mirror::feed(state, k, memory, given, log);
     }
+    let kept = order(k, memory, a, given, log);
+    Session { state, kept }
+}
+
+// A line out of form is printed back; a comment and an empty line too, so that the output reads by itself.
+fn print_back(line: &[u8], log: &mut Log) -> usize {
+    if forms::LINE < line.len() {
+        return show::put(log, 0, b'?');
+    }
+    if read::byte_or(line, 0, b'#') == b'#' {
+        return show::text(log, 0, line);
+    }
+    show::put(log, 0, b'?');
+    show::put(log, 1, b' ');
+    show::text(log, 2, line)
+}
+
+fn answer(
+    t: Session,
+    memory: &mut mirror::Memory,
+    line: &[u8],
+    bytes: &mut forms::Bytes,
+    log: &mut Log,
+) -> Session {
+    let after = turn(t, memory, line, bytes, log);
+    let k = after.kept;
+    let n = if k.len == 0 {
+        print_back(line, log)
+    } else {
+        k.len
+    };
+    show::print(log, n);
     after
 }
 
-// The line is complete.
-fn answered(before: Session, memory: &mut [u8], line: &[u8], log: &mut [u8]) -> Session {
+fn refill(before: Input, buffer: &mut Buffer) -> Input {
     let mut t = before;
-    let m = t.mirror;
-    let n = t.len;
+    let got = libc::read(libc::STDIN_FILENO, buffer);
+    t.at = 0;
+    t.end = io::count(got, buffer);
+    t.more = got > 0;
+    t.whole = got >= 0;
+    t
+}
+
+fn take(before: Input, b: u8, line: &mut Line) -> Input {
+    let mut t = before;
+    t.at = read::onward(t.at, 1, BUFFER);
+    t.ended = b == b'\n';
+    if !t.ended {
+        t.len = read::put(line, t.len, b);
+    }
+    t
+}
+
+fn read_line(before: Input, buffer: &mut Buffer, line: &mut Line) -> Input {
+    let mut t = before;
     t.len = 0;
-    if n < line.len() {
-        let after = any_line(m, memory, read::part(line, 0, n), log);
-        t.mirror = after;
-        return t;
-    }
-    print_back(b"?", b"", log);
-    t
-}
-
-// A piece of a line, or the rest of it with its end.
-fn turn(
-    before: Session,
-    memory: &mut [u8],
-    line: &mut [u8],
-    log: &mut [u8],
-    piece: &[u8],
-) -> Session {
-    let mut t = before;
-    let n = read::text_length(piece);
-    t.len = show::text(line, t.len, read::part(piece, 0, n));
-    if n < piece.len() {
-        return answered(t, memory, line, log);
-    }
-    t
-}
-
-fn absorb(t: Session, memory: &mut [u8], line: &mut [u8], log: &mut [u8], bytes: &[u8]) -> Session {
-    let mut s = t;
-    let mut i = 0;
-    while i < bytes.len() {
-        let next = read::next_line(bytes, i);
-        s = turn(s, memory, line, log, read::part(bytes, i, next));
-        i = next;
-    }
-    s
-}
-
-fn take_some(before: Session, memory: &mut [u8], line: &mut [u8], log: &mut [u8]) -> Session {
-    let mut t = before;
-    let mut buf = [0u8; 65536];
-    let got = libc::read(STDIN_FILENO, &mut buf);
-    if got <= 0 {
-        t.more = false;
-        t.whole = got == 0;
-        return t;
-    }
-    let n = io::count(got, &buf);
-    absorb(t, memory, line, log, &buf[..n])
-}
-
-fn take_all(memory: &mut [u8], line: &mut [u8], log: &mut [u8]) -> Session {
-    let mirror = mirror::fresh(0, 0);
-    let mut t = Session {
-        mirror,
-        len: 0,
-        more: true,
-        whole: true,
-    };
+    t.ended = false;
     let mut turns = u64::MAX;
-    while turns > 0 && t.more {
-        t = take_some(t, memory, line, log);
+    while turns > 0 && t.more && !t.ended {
+        if t.at < t.end {
+            t = take(t, read::byte_or(buffer, t.at, 0), line);
+        } else {
+            t = refill(t, buffer);
+        }
         turns -= 1;
     }
     t
 }
 
 // The last line needs no newline.
-fn last_line(t: Session, memory: &mut [u8], line: &[u8], log: &mut [u8]) {
-    if t.len > 0 {
-        answered(t, memory, line, log);
+fn run(
+    buffer: &mut Buffer,
+    memory: &mut mirror::Memory,
+    line: &mut Line,
+    bytes: &mut forms::Bytes,
+    log: &mut Log,
+) -> bool {
+    let mut s = mirror::start();
+    let mut t = Input {
+        at: 0,
+        end: 0,
+        len: 0,
+        ended: false,
+        more: true,
+        whole: true,
+    };
+    let mut turns = u64::MAX;
+    while turns > 0 && t.more {
+        t = read_line(t, buffer, line);
+        if t.ended || t.len > 0 {
+            s = answer(s, memory, read::part(line, 0, t.len), bytes, log);
+        }
+        turns -= 1;
     }
-}
-
-fn complain(whole: bool) {
-    if !whole {
-        io::write_all(
-            STDERR_FILENO,
-            b"shell: standard input was not read to its end\n",
-        );
-    }
-}
-
-fn run(memory: &mut [u8], line: &mut [u8], log: &mut [u8]) {
-    let t = take_all(memory, line, log);
-    last_line(t, memory, line, log);
-    complain(t.whole);
+    t.whole
 }
 
 fn main() {
-    let mut memory = [0u8; MEMORY];
+    let mut buffer = [0u8; BUFFER];
+    let mut memory = [0u8; mirror::MEMORY];
     let mut line = [0u8; LINE];
-    let mut log = [0u8; LOG];
-    run(&mut memory, &mut line, &mut log);
+    let mut bytes = [0u8; forms::BYTES];
+    let mut log = [0u8; show::LOG];
+    if !run(&mut buffer, &mut memory, &mut line, &mut bytes, &mut log) {
+        let text = b"shell: standard input was not read to its end\n";
+        io::write_all(libc::STDERR_FILENO, text);
+    }
 }

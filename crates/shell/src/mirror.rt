@@ -1,231 +1,204 @@
 // The mirror that the orders go to. Its table buffer is the front of one memory.
-use crate::commands::bits;
 use crate::commands::int;
+use crate::forms;
+use crate::forms::Asked;
 use crate::read;
 use crate::show;
-use wing_mirror::answer::Counts;
-use wing_mirror::answer::FeedAnswer;
-use wing_mirror::answer::Lookup;
-use wing_mirror::answer::RecordAnswer;
+use crate::show::Log;
+use crate::show::Said;
+use wing_mirror::answer;
 use wing_mirror::answer::RecordRead;
 use wing_mirror::answer::SetReply;
-use wing_mirror::feed::feed;
 use wing_mirror::query;
-use wing_mirror::recall::recall;
+use wing_mirror::recall;
 use wing_mirror::set;
 use wing_mirror::table;
 use wing_node::value::Value;
 use wing_wire::state::State;
 use wing_wire::write::Written;
 
-// 1,026 places: 01 allows 1,024, and a buffer of one place more is refused. What stands after these bytes is no part of it.
+// 1,026 places: 01 allows 1,024, and a buffer of one place more is refused.
 pub const MEMORY: usize = 270864;
 
-const SET_ROOM: usize = 512;
+pub type Memory = [u8; MEMORY];
 
 const ROOM: usize = 16384;
+
+// The most bytes held for a later order.
+const HELD: usize = 70000;
 
 // What the bytes of an output hold before a call.
 const MARK: u8 = 0xa5;
 
-// The size is the table buffer's, the fill what the memory held when the mirror was fresh.
-pub struct Mirror {
-    pub state: State,
+// What lasts from line to line, and the length of the last answer's text, 0 for a line out of form. The count is that of the
+// records, the size the table buffer's, the fill what the memory held when the mirror was fresh. fresh: the next feed
+// begins with a fresh decoder. held: the bytes at the front of the orders' buffer that wait for a later order.
+pub struct Kept {
     pub count: usize,
     pub size: usize,
     pub fill: u8,
-}
-
-// The mirror after an order, and the length of the answer's text; 0 for a line out of form.
-pub struct Done {
-    pub mirror: Mirror,
+    pub fresh: bool,
+    pub held: usize,
     pub len: usize,
 }
 
-pub fn done_with(mirror: Mirror, len: usize) -> Done {
-    Done { mirror, len }
+// The decoder's state stands apart, since feeds alone go through it.
+pub struct Session {
+    pub state: State,
+    pub kept: Kept,
 }
 
-// A fresh mirror.
-pub fn fresh(size: usize, fill: u8) -> Mirror {
+pub fn start() -> Session {
     let state = State::fresh();
-    Mirror {
-        state,
+    let kept = Kept {
         count: 0,
-        size,
-        fill,
-    }
+        size: 0,
+        fill: 0,
+        fresh: true,
+        held: 0,
+        len: 0,
+    };
+    Session { state, kept }
 }
 
-fn with_count(before: Mirror, count: usize) -> Mirror {
-    let mut m = before;
-    m.count = count;
-    m
+fn say(log: &mut Log, at: usize, s: Said) -> usize {
+    let table =
+        b"Ffed D D D D D D|pplaces D|ccount D|hheld D|kpoked|ssent |rrefused D|+ clean|! dirt|\
+dD records|iS,i,S|fS,f,W|tS,s,|aat D|nnone";
+    show::say(log, at, table, s)
 }
 
-fn new(m: Mirror, memory: &mut [u8], n: [u64; 5], log: &mut [u8]) -> Done {
-    // The remainders are the numbers themselves: with them the size is known to be a number.
-    let size = (n[0] % 1027 * 264 + n[1] % 264) as usize;
-    if MEMORY < size {
-        return done_with(m, 0);
-    }
-    let fill = (n[2] % 256) as u8;
-    show::fill(memory, fill);
-    let places = table::places(read::part(memory, 0, size));
-    done_with(
-        fresh(size, fill),
-        show::named(log, 0, b"places ", places as u64),
-    )
-}
-
-fn count(log: &mut [u8], at: usize, n: u32) -> usize {
-    show::named(log, at, b" ", n as u64)
-}
-
-fn counts(log: &mut [u8], c: Counts) -> usize {
-    let mut at = show::text(log, 0, b"fed");
-    at = count(log, at, c.stored);
-    at = count(log, at, c.unplaced);
-    at = count(log, at, c.strings_refused);
-    at = count(log, at, c.definitions_read);
-    at = count(log, at, c.definitions_refused);
-    count(log, at, c.ends)
-}
-
-fn feed_said(log: &mut [u8], a: FeedAnswer, c: Counts) -> usize {
+fn fed(a: answer::FeedAnswer, c: answer::Counts) -> Said {
+    let values = [
+        c.stored as u64,
+        c.unplaced as u64,
+        c.strings_refused as u64,
+        c.definitions_read as u64,
+        c.definitions_refused as u64,
+        c.ends as u64,
+    ];
     match a {
-        FeedAnswer::Taken => counts(log, c),
-        FeedAnswer::Refused(why) => show::refused(log, 0, why),
+        answer::FeedAnswer::Taken => show::said_of(b'F', values),
+        answer::FeedAnswer::Refused(why) => show::one(b'r', why as u64),
     }
 }
 
-fn feed_bytes(before: Mirror, memory: &mut [u8], bytes: &[u8], log: &mut [u8]) -> Done {
-    let mut m = before;
-    let s = m.state;
-    let size = m.size;
+fn decoder(s: State, fresh: bool) -> State {
+    if fresh { State::fresh() } else { s }
+}
+
+pub fn feed(s: State, before: Kept, memory: &mut [u8], bytes: &[u8], log: &mut Log) -> Session {
+    let mut k = before;
+    let size = k.size;
     if size <= memory.len() {
-        let r = feed(s, &mut memory[0..size], m.count, bytes);
+        let first = decoder(s, k.fresh);
+        let r = wing_mirror::feed::feed(first, &mut memory[0..size], k.count, bytes);
         let a = r.answer;
         let c = r.counts;
-        let after = r.state;
-        m.state = after;
-        m.count = r.count;
-        return done_with(m, feed_said(log, a, c));
+        let state = r.state;
+        k.fresh = false;
+        k.count = r.count;
+        k.len = say(log, 0, fed(a, c));
+        return Session { state, kept: k };
     }
-    done_with(m, 0)
+    Session { state: s, kept: k }
 }
 
-fn repeat(m: Mirror, memory: &mut [u8], times: u64, bytes: &[u8], log: &mut [u8]) -> Done {
-    let mut all = [0u8; show::MOST];
-    let n = show::repeat(&mut all, bytes, times);
-    if n < show::MOST {
-        return feed_bytes(m, memory, read::part(&all, 0, n), log);
-    }
-    done_with(m, 0)
+fn cleanness(log: &mut Log, at: usize, clean: bool) -> usize {
+    say(log, at, show::none(if clean { b'+' } else { b'!' }))
 }
 
-// What was written into an output of some bytes, and whether the rest of it is as it was.
-fn sent(log: &mut [u8], w: Written, out: &[u8]) -> usize {
+fn outcome(w: Written) -> Said {
     match w {
-        Written::Bytes(n) => {
-            let to = show::text(log, 0, b"sent ");
-            let at = show::bytes(log, to, read::part(out, 0, n));
-            show::cleanness(log, at, show::all_same(out, n, MARK))
-        }
-        Written::Refused(why) => {
-            let at = show::refused(log, 0, why);
-            show::cleanness(log, at, show::all_same(out, 0, MARK))
-        }
+        Written::Bytes(n) => show::one(b's', n as u64),
+        Written::Refused(why) => show::one(b'r', why as u64),
     }
 }
 
-fn set_value(
-    table: &mut [u8],
-    count: usize,
-    out: &mut [u8],
-    id: i32,
-    v: Value,
+// What was written into an output, and whether the rest of it is as it was.
+fn sent(log: &mut Log, w: Written, out: &[u8]) -> usize {
+    let o = outcome(w);
+    let n = show::first(o, b's') as usize;
+    let mut at = say(log, 0, o);
+    if o.letter == b's' {
+        at = show::bytes(log, at, read::part(out, 0, n));
+    }
+    cleanness(log, at, show::all_same(out, n, MARK))
+}
+
+fn recalled(table: &[u8], count: usize, out: &mut [u8]) -> SetReply {
+    let answer = recall::recall(table, count, out);
+    SetReply { answer, count }
+}
+
+// A set or a recall.
+fn written(a: Asked, table: &mut [u8], count: usize, out: &mut [u8], s: &[u8]) -> SetReply {
+    let n = a.numbers;
+    let id = int(n[0]);
+    let letter = a.letter;
+    match letter {
+        b'I' => set::set_int(table, count, out, id, int(n[1])),
+        b'F' => set::set_float(table, count, out, id, (n[1] % 0x1_0000_0000) as u32),
+        b'S' => set::set_string(table, count, out, id, s),
+        _ => recalled(table, count, out),
+    }
+}
+
+// The room is the last of the numbers.
+fn send_into(
+    before: Kept,
+    memory: &mut [u8],
+    a: Asked,
     s: &[u8],
-) -> SetReply {
-    match v {
-        Value::Integer(x) => set::set_int(table, count, out, id, x),
-        Value::Float(bits) => set::set_float(table, count, out, id, bits),
-        Value::String(_) => set::set_string(table, count, out, id, s),
-    }
-}
-
-// A set into the first bytes of an output.
-fn set_within(
-    table: &mut [u8],
-    count: usize,
     out: &mut [u8],
-    room: usize,
-    id: i32,
-    v: Value,
-    s: &[u8],
-) -> SetReply {
-    if room <= out.len() {
-        return set_value(table, count, &mut out[0..room], id, v, s);
-    }
-    set_value(table, count, out, id, v, s)
-}
-
-// The words are the node, the value and the room.
-fn send(m: Mirror, memory: &mut [u8], n: [u64; 5], v: Value, s: &[u8], log: &mut [u8]) -> Done {
-    let mut out = [MARK; SET_ROOM];
-    let size = m.size;
-    let room = n[2] as usize;
+    log: &mut Log,
+) -> Kept {
+    let mut k = before;
+    let size = k.size;
+    let room = forms::last_number(a) as usize;
     if size <= memory.len() {
-        let id = int(n[0]);
-        let r = set_within(&mut memory[0..size], m.count, &mut out, room, id, v, s);
-        let a = r.answer;
-        return done_with(with_count(m, r.count), sent(log, a, &out));
+        if room <= out.len() {
+            let r = written(a, &mut memory[0..size], k.count, &mut out[0..room], s);
+            let w = r.answer;
+            k.count = r.count;
+            k.len = sent(log, w, read::part(out, 0, room));
+        }
     }
-    done_with(m, 0)
+    k
 }
 
-// Into the first bytes of an output.
-fn recall_within(table: &[u8], count: usize, out: &mut [u8], room: usize) -> Written {
-    if room <= out.len() {
-        return recall(table, count, &mut out[0..room]);
-    }
-    recall(table, count, out)
-}
-
-fn recall_all(m: Mirror, memory: &[u8], room: u64, log: &mut [u8]) -> usize {
+pub fn send(k: Kept, memory: &mut [u8], a: Asked, s: &[u8], log: &mut Log) -> Kept {
     let mut out = [MARK; ROOM];
-    let table = read::part(memory, 0, m.size);
-    let w = recall_within(table, m.count, &mut out, room as usize);
-    sent(log, w, &out)
+    send_into(k, memory, a, s, &mut out, log)
 }
 
-fn value(log: &mut [u8], at: usize, v: Value, string: &[u8]) -> usize {
+fn value(id: u64, v: Value) -> Said {
     match v {
-        Value::Integer(x) => {
-            let to = show::text(log, at, b",i,");
-            show::signed(log, to, x)
-        }
-        Value::Float(bits) => {
-            let to = show::text(log, at, b",f,");
-            show::hex_32(log, to, bits)
-        }
-        Value::String(n) => {
-            let to = show::text(log, at, b",s,");
-            show::front(log, to, string, n as usize)
-        }
+        Value::Integer(x) => show::two(b'i', id, show::bits(x)),
+        Value::Float(bits) => show::two(b'f', id, bits as u64),
+        Value::String(_) => show::one(b't', id),
     }
+}
+
+fn string_len(v: Value) -> usize {
+    match v {
+        Value::String(n) => n as usize,
+        _ => 0,
+    }
+}
+
+fn node(log: &mut Log, at: usize, id: i32, v: Value, string: &[u8]) -> usize {
+    let end = say(log, at, value(show::bits(id), v));
+    show::front(log, end, string, string_len(v))
 }
 
 // A record as mirror lists it.
-fn entry(log: &mut [u8], at: usize, r: RecordRead) -> usize {
+fn entry(log: &mut Log, at: usize, r: RecordRead) -> usize {
     let a = r.answer;
     let string = r.string;
     match a {
-        RecordAnswer::Record { id, value: v } => {
-            let to = show::signed(log, at, id);
-            value(log, to, v, &string)
-        }
-        RecordAnswer::Refused(why) => show::refused(log, at, why),
+        answer::RecordAnswer::Record { id, value: v } => node(log, at, id, v, &string),
+        answer::RecordAnswer::Refused(why) => say(log, at, show::one(b'r', why as u64)),
     }
 }
 
@@ -235,7 +208,7 @@ fn alone(table: &[u8], number: usize) -> RecordRead {
     query::record(read::part(table, at, at + 264), 1, 0)
 }
 
-fn entries(log: &mut [u8], at: usize, table: &[u8], count: usize) -> usize {
+fn entries(log: &mut Log, at: usize, table: &[u8], count: usize) -> usize {
     let mut to = at;
     let mut number = 0;
     while number < count {
@@ -247,88 +220,115 @@ fn entries(log: &mut [u8], at: usize, table: &[u8], count: usize) -> usize {
 }
 
 // The memory past the last record holds what it held when the mirror was fresh.
-fn dump(m: Mirror, memory: &[u8], log: &mut [u8]) -> usize {
-    let records = read::part(memory, 0, m.size);
-    if !table::is_sound(records, m.count) {
-        return show::refused(log, 0, 7);
+fn dump(k: Kept, memory: &[u8], log: &mut Log) -> usize {
+    let records = read::part(memory, 0, k.size);
+    if !table::is_sound(records, k.count) {
+        return say(log, 0, show::one(b'r', 7));
     }
-    let to = show::decimal(log, 0, m.count as u64);
-    let at = show::text(log, to, b" records");
-    let front = read::part(memory, 0, MEMORY);
-    let clean = show::all_same(front, m.count % 1027 * 264, m.fill);
-    let entries_at = show::cleanness(log, at, clean);
-    entries(log, entries_at, records, m.count)
+    let at = say(log, 0, show::one(b'd', k.count as u64));
+    let clean = show::all_same(memory, k.count % 1027 * 264, k.fill);
+    let entries_at = cleanness(log, at, clean);
+    entries(log, entries_at, records, k.count)
 }
 
-fn find(m: Mirror, memory: &[u8], id: i32, log: &mut [u8]) -> usize {
-    let a = query::lookup(read::part(memory, 0, m.size), m.count, id);
+fn found(a: answer::Lookup) -> Said {
     match a {
-        Lookup::At(n) => show::named(log, 0, b"at ", n as u64),
-        Lookup::None => show::text(log, 0, b"none"),
-        Lookup::Refused(why) => show::refused(log, 0, why),
+        answer::Lookup::At(n) => show::one(b'a', n as u64),
+        answer::Lookup::None => show::none(b'n'),
+        answer::Lookup::Refused(why) => show::one(b'r', why as u64),
     }
-}
-
-fn read_record(m: Mirror, memory: &[u8], number: u64, log: &mut [u8]) -> usize {
-    let records = read::part(memory, 0, m.size);
-    entry(log, 0, query::record(records, m.count, number as usize))
 }
 
 // A place and a number of bytes within the table buffer.
-fn is_within(m: Mirror, at: u64, len: usize) -> bool {
-    let from = at as usize;
-    if from <= m.size {
-        return len <= m.size - from;
-    }
-    false
+fn is_within(k: Kept, at: usize, len: usize) -> bool {
+    let size = k.size as u64;
+    at as u64 <= size && len as u64 <= read::less(size, at as u64)
 }
 
-fn poke(m: Mirror, memory: &mut [u8], at: u64, bytes: &[u8], log: &mut [u8]) -> usize {
-    if is_within(m, at, bytes.len()) {
-        show::text(memory, at as usize, bytes);
-        return show::text(log, 0, b"poked");
+fn peek(k: Kept, memory: &[u8], at: usize, len: usize, log: &mut Log) -> usize {
+    if is_within(k, at, len) {
+        let end = read::onward(at, len, k.size);
+        return show::bytes(log, 0, read::part(memory, at, end));
     }
     0
 }
 
-fn peek(m: Mirror, memory: &[u8], at: u64, len: u64, log: &mut [u8]) -> usize {
-    let from = at as usize;
-    if is_within(m, at, len as usize) {
-        return show::bytes(
-            log,
-            0,
-            read::part(memory, from, read::onward(from, len as usize, m.size)),
-        );
-    }
-    0
-}
-
-fn hand_count(m: Mirror, n: u64, log: &mut [u8]) -> Done {
-    let len = show::named(log, 0, b"count ", n);
-    done_with(with_count(m, n as usize), len)
-}
-
-pub fn order(
-    m: Mirror,
-    memory: &mut [u8],
-    letter: u8,
-    n: [u64; 5],
-    bytes: &[u8],
-    log: &mut [u8],
-) -> Done {
+// What an order that changes nothing says.
+pub fn query(k: Kept, memory: &[u8], a: Asked, log: &mut Log) -> usize {
+    let n = a.numbers;
+    let letter = a.letter;
+    let records = read::part(memory, 0, k.size);
     match letter {
-        b'N' => new(m, memory, n, log),
-        b'F' => feed_bytes(m, memory, bytes, log),
-        b'R' => repeat(m, memory, n[0], bytes, log),
-        b'I' => send(m, memory, n, Value::Integer(int(n[1])), bytes, log),
-        b'B' => send(m, memory, n, Value::Float(bits(n[1])), bytes, log),
-        b'S' => send(m, memory, n, Value::String(0), bytes, log),
-        b'D' => done_with(m, dump(m, memory, log)),
-        b'L' => done_with(m, find(m, memory, int(n[0]), log)),
-        b'E' => done_with(m, read_record(m, memory, n[0], log)),
-        b'C' => done_with(m, recall_all(m, memory, n[0], log)),
-        b'P' => done_with(m, poke(m, memory, n[0], bytes, log)),
-        b'T' => hand_count(m, n[0], log),
-        _ => done_with(m, peek(m, memory, n[0], n[1], log)),
+        b'D' => dump(k, memory, log),
+        b'L' => say(log, 0, found(query::lookup(records, k.count, int(n[0])))),
+        b'R' => entry(log, 0, query::record(records, k.count, n[0] as usize)),
+        _ => peek(k, memory, n[0] as usize, n[1] as usize, log),
+    }
+}
+
+fn fill(memory: &mut [u8], fill: u8) {
+    let mut i = 0;
+    while i < memory.len() {
+        memory[i] = fill;
+        i += 1;
+    }
+}
+
+fn new(before: Kept, memory: &mut [u8], n: forms::Numbers, log: &mut Log) -> Kept {
+    let mut k = before;
+    // The remainders are the numbers themselves: with them the size is known to be a number.
+    let size = (n[0] % 1027 * 264 + n[1] % 264) as usize;
+    if size <= MEMORY {
+        k.count = 0;
+        k.size = size;
+        k.fill = (n[2] % 256) as u8;
+        k.fresh = true;
+        fill(memory, k.fill);
+        let places = table::places(read::part(memory, 0, size));
+        k.len = say(log, 0, show::one(b'p', places as u64));
+    }
+    k
+}
+
+fn poke(before: Kept, memory: &mut [u8], at: usize, bytes: &[u8], log: &mut Log) -> Kept {
+    let mut k = before;
+    let mut to = at;
+    let mut i = 0;
+    if is_within(k, at, bytes.len()) {
+        k.len = say(log, 0, show::none(b'k'));
+        while i < bytes.len() {
+            to = read::put(memory, to, bytes[i]);
+            i += 1;
+        }
+    }
+    k
+}
+
+// The count that the caller hands over from now on.
+fn hand_count(before: Kept, n: u64, log: &mut Log) -> Kept {
+    let mut k = before;
+    k.count = n as usize;
+    k.len = say(log, 0, show::one(b'c', n));
+    k
+}
+
+// The order's bytes stand after those held so far.
+fn hold(before: Kept, held: usize, log: &mut Log) -> Kept {
+    let mut k = before;
+    if held <= HELD {
+        k.held = held;
+        k.len = say(log, 0, show::one(b'h', held as u64));
+    }
+    k
+}
+
+pub fn change(k: Kept, memory: &mut [u8], a: Asked, bytes: &[u8], log: &mut Log) -> Kept {
+    let n = a.numbers;
+    let letter = a.letter;
+    match letter {
+        b'N' => new(k, memory, n, log),
+        b'C' => hand_count(k, n[0], log),
+        b'P' => poke(k, memory, n[0] as usize, bytes, log),
+        _ => hold(k, a.to, log),
     }
 }

@@ -1,6 +1,4 @@
 // Lines, their words, and the numbers and bytes that words spell.
-ghost use Prim.Native.Nat.{_≤_, _<_};
-ghost use lib.ListN.{length};
 
 // The bytes from a place up to another; none where they are not all there.
 pub fn part(s: &[u8], from: usize, to: usize) -> &[u8] {
@@ -17,6 +15,11 @@ pub fn byte_or(s: &[u8], at: usize, other: u8) -> u8 {
     if at < s.len() { s[at] } else { other }
 }
 
+// The number at a place; 0 past the end.
+pub fn number_at(s: &[u64], at: usize) -> u64 {
+    if at < s.len() { s[at] } else { 0 }
+}
+
 // The place after some bytes more; the end where there are not so many.
 pub fn onward(at: usize, more: usize, len: usize) -> usize {
     if at <= len {
@@ -27,30 +30,16 @@ pub fn onward(at: usize, more: usize, len: usize) -> usize {
     len
 }
 
-// Where the line begins that comes after a place.
-pub fn next_line(s: &[u8], from: usize) -> usize
-    requires { ⌜ from < length (now s) ⌝ }
-    ensures { λ r. ⌜ (from < r) × (r ≤ length (now (s .entry))) ⌝ }
-{
-    let mut i = from;
-    while i < s.len() {
-        if s[i] == b'\n' {
-            return i + 1;
-        }
-        i += 1;
-    }
-    i
+pub fn less(a: u64, b: u64) -> u64 {
+    if a < b { 0 } else { a - b }
 }
 
-// The bytes of a piece without the line's end, if it has that.
-pub fn text_length(piece: &[u8]) -> usize {
-    let n = piece.len();
-    if n > 0 {
-        if piece[n - 1] == b'\n' {
-            return n - 1;
-        }
+pub fn put(buffer: &mut [u8], at: usize, b: u8) -> usize {
+    if at < buffer.len() {
+        buffer[at] = b;
+        return at + 1;
     }
-    n
+    buffer.len()
 }
 
 pub fn same(a: &[u8], b: &[u8]) -> bool {
@@ -59,7 +48,7 @@ pub fn same(a: &[u8], b: &[u8]) -> bool {
     }
     let mut i = 0;
     while i < a.len() {
-        if byte_or(a, i, 0) != byte_or(b, i, 0) {
+        if a[i] != byte_or(b, i, 0) {
             return false;
         }
         i += 1;
@@ -79,6 +68,23 @@ pub fn word_end(line: &[u8], from: usize, end: u8) -> usize {
     i
 }
 
+// Where the next word begins. A line and a table are shorter than 65,536 bytes.
+pub fn after(word_end: usize) -> usize {
+    word_end % 0x1_0000 + 1
+}
+
+// The entry of a table that begins with a letter, without it. There are `|` between the entries, and at most 64.
+pub fn entry(table: &[u8], letter: u8) -> &[u8] {
+    let mut at = 0;
+    let mut turns: u8 = 64;
+    while turns > 0 && byte_or(table, at, letter) != letter {
+        at = after(word_end(table, at, b'|'));
+        turns -= 1;
+    }
+    part(table, after(at), word_end(table, at, b'|'))
+}
+
+// What a word spells, and whether it is in form.
 pub struct Number {
     pub good: bool,
     pub value: u64,
@@ -86,59 +92,6 @@ pub struct Number {
 
 pub fn number_of(good: bool, value: u64) -> Number {
     Number { good, value }
-}
-
-fn with_digit(n: Number, c: u8) -> Number {
-    if n.value > 999_999_999 {
-        return number_of(false, 0);
-    }
-    match c {
-        b'0'..=b'9' => number_of(n.good, n.value * 10 + (c - b'0') as u64),
-        _ => number_of(false, 0),
-    }
-}
-
-fn digits(word: &[u8]) -> Number {
-    let mut n = number_of(word.len() >= 1 && word.len() <= 10, 0);
-    let mut i = 0;
-    while i < word.len() {
-        n = with_digit(n, word[i]);
-        i += 1;
-    }
-    n
-}
-
-// One to ten digits that spell at most a number.
-pub fn unsigned(word: &[u8], most: u64) -> Number {
-    let n = digits(word);
-    number_of(n.good && n.value <= most, n.value)
-}
-
-pub fn less(a: u64, b: u64) -> u64 {
-    if a < b { 0 } else { a - b }
-}
-
-// A number of 32 bits with its sign, by its bits.
-pub fn signed(word: &[u8]) -> Number {
-    if byte_or(word, 0, 0) == b'-' {
-        let n = unsigned(part(word, 1, word.len()), 0x8000_0000);
-        return number_of(n.good, less(0x1_0000_0000, n.value) % 0x1_0000_0000);
-    }
-    unsigned(word, 0x7fff_ffff)
-}
-
-// How far the pairs of a word are read: the bytes made, a first digit that waits for its second
-// (WAITS_FOR_NONE where none does), and whether all was in form.
-pub struct PairsRead {
-    pub len: usize,
-    pub high: u8,
-    pub good: bool,
-}
-
-const WAITS_FOR_NONE: u8 = 16;
-
-fn pairs_read(len: usize, high: u8, good: bool) -> PairsRead {
-    PairsRead { len, high, good }
 }
 
 // The value of a hex digit, 16 for any other byte.
@@ -150,42 +103,51 @@ fn digit(c: u8) -> u8 {
     }
 }
 
-fn byte_of(high: u8, low: u8) -> u8 {
-    ((high as u16 * 16 + low as u16) % 256) as u8
-}
-
-// One more digit. The second of a pair has the byte go into the body.
-fn taken(p: PairsRead, c: u8, body: &mut [u8]) -> PairsRead {
-    let d = digit(c);
-    let at = p.len;
-    if d == 16 {
-        return pairs_read(at, WAITS_FOR_NONE, false);
-    }
-    if p.high == WAITS_FOR_NONE {
-        return pairs_read(at, d, p.good);
-    }
-    if at < body.len() {
-        body[at] = byte_of(p.high, d);
-        return pairs_read(at + 1, WAITS_FOR_NONE, p.good);
-    }
-    pairs_read(at, WAITS_FOR_NONE, false)
-}
-
-fn all_pairs(word: &[u8], body: &mut [u8]) -> PairsRead {
-    let mut p = pairs_read(0, WAITS_FOR_NONE, word.len() > 0);
+// One to ten digits that spell a number from the least to the most. The remainder is the number itself in such a word.
+pub fn unsigned(word: &[u8], least: u64, most: u64) -> Number {
+    let mut n = number_of(word.len() >= 1 && word.len() <= 10, 0);
     let mut i = 0;
     while i < word.len() {
-        p = taken(p, word[i], body);
+        let d = digit(word[i]);
+        n = number_of(n.good && d < 10, n.value % 1_000_000_000 * 10 + d as u64);
         i += 1;
     }
-    p
+    number_of(n.good && least <= n.value && n.value <= most, n.value)
 }
 
-// The bytes that a word spells, at the front of body; `-` spells none.
-pub fn pairs(word: &[u8], body: &mut [u8]) -> PairsRead {
-    if same(word, b"-") {
-        return pairs_read(0, WAITS_FOR_NONE, true);
+// A number of 32 bits with its sign, by its bits.
+pub fn signed(word: &[u8]) -> Number {
+    if byte_or(word, 0, 0) == b'-' {
+        let n = unsigned(part(word, 1, word.len()), 0, 0x8000_0000);
+        return number_of(n.good, less(0x1_0000_0000, n.value) % 0x1_0000_0000);
     }
-    let p = all_pairs(word, body);
-    pairs_read(p.len, p.high, p.good && p.high == WAITS_FOR_NONE)
+    unsigned(word, 0, 0x7fff_ffff)
+}
+
+// The byte that two hex digits spell.
+fn pair(high: u8, low: u8) -> Number {
+    let value = high as u64 % 16 * 16 + low as u64 % 16;
+    number_of(high < 16 && low < 16, value)
+}
+
+// The bytes that a word spells go into a body from a place on; the number is the place after them. `-` spells none.
+pub fn pairs(word: &[u8], body: &mut [u8], from: usize) -> Number {
+    if same(word, b"-") {
+        return number_of(true, from as u64);
+    }
+    let count = word.len() / 2;
+    let room = less(body.len() as u64, from as u64);
+    let mut good = count > 0 && word.len() % 2 == 0 && count as u64 <= room;
+    let mut at = from;
+    let mut i = 0;
+    while i < count {
+        let p = pair(
+            digit(byte_or(word, 2 * i, 0)),
+            digit(byte_or(word, 2 * i + 1, 0)),
+        );
+        good = good && p.good;
+        at = put(body, at, (p.value % 256) as u8);
+        i += 1;
+    }
+    number_of(good, at as u64)
 }

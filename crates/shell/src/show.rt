@@ -1,162 +1,177 @@
-// Text laid into a lent line. Each function takes the place that the line has reached and answers the next one; a full
-// line stays at its end.
+// Text laid into the log. Each function takes the place that the log has reached and answers the next one; a full log
+// stays at its end.
 use crate::read;
 use libc::STDOUT_FILENO;
-use wing_node::field::of_i32;
+use wing_node::field;
 
-pub fn put(line: &mut [u8], at: usize, b: u8) -> usize {
-    if at < line.len() {
-        line[at] = b;
+// Room for the longest answer: keep-alives of 851,968 bytes, or the integers of a stream of 70,000 bytes.
+pub const LOG: usize = 2097152;
+
+pub type Log = [u8; LOG];
+
+// A text by its letter in a table, and its numbers.
+pub struct Said {
+    pub letter: u8,
+    pub values: [u64; 6],
+}
+
+pub fn said_of(letter: u8, values: [u64; 6]) -> Said {
+    Said { letter, values }
+}
+
+pub fn none(letter: u8) -> Said {
+    said_of(letter, [0; 6])
+}
+
+pub fn one(letter: u8, a: u64) -> Said {
+    said_of(letter, [a, 0, 0, 0, 0, 0])
+}
+
+pub fn two(letter: u8, a: u64, b: u64) -> Said {
+    said_of(letter, [a, b, 0, 0, 0, 0])
+}
+
+pub fn three(letter: u8, a: u64, b: u64, c: u64) -> Said {
+    said_of(letter, [a, b, c, 0, 0, 0])
+}
+
+// The first number of a text with a letter; 0 of any other.
+pub fn first(s: Said, letter: u8) -> u64 {
+    let n = s.values;
+    if s.letter == letter { n[0] } else { 0 }
+}
+
+pub fn put(log: &mut Log, at: usize, b: u8) -> usize {
+    if at < LOG {
+        log[at] = b;
         return at + 1;
     }
-    line.len()
+    LOG
 }
 
-pub fn text(line: &mut [u8], at: usize, s: &[u8]) -> usize {
+pub fn text(log: &mut Log, at: usize, s: &[u8]) -> usize {
     let mut to = at;
     let mut i = 0;
     while i < s.len() {
-        to = put(line, to, s[i]);
+        to = put(log, to, s[i]);
         i += 1;
     }
     to
 }
 
-// More than the 65,536 bytes that 01 lets a feed have, so that 14 can be seen; and one byte more.
-pub const MOST: usize = 65601;
-
-// Bytes some times over. A place at the end of the buffer means that they do not fit.
-pub fn repeat(all: &mut [u8], bytes: &[u8], times: u64) -> usize {
-    let mut at = 0;
-    let mut left = if bytes.len() == 0 { 0 } else { times };
-    while left > 0 && at < all.len() {
-        at = text(all, at, bytes);
-        left -= 1;
-    }
-    at
-}
-
-pub fn decimal(line: &mut [u8], at: usize, n: u64) -> usize {
+fn decimal(log: &mut Log, at: usize, n: u64) -> usize {
     let mut digits = [0u8; 20];
     let k = io::decimal(n, &mut digits);
-    text(line, at, &digits[..k])
+    text(log, at, &digits[..k])
 }
 
-// A number after a word.
-pub fn named(line: &mut [u8], at: usize, word: &[u8], n: u64) -> usize {
-    let to = text(line, at, word);
-    decimal(line, to, n)
+fn hex(log: &mut Log, at: usize, n: u64, width: usize) -> usize {
+    let mut digits = [0u8; 16];
+    let k = io::hex(n, width, &mut digits);
+    text(log, at, &digits[..k])
 }
 
-// By its bits: the least i32 without its sign is no i32.
-pub fn signed(line: &mut [u8], at: usize, x: i32) -> usize {
-    let bits = of_i32(x) as u64;
-    if x < 0 {
-        let to = put(line, at, b'-');
-        return decimal(line, to, read::less(0x1_0000_0000, bits));
+// A number of 32 bits with its sign, by its bits.
+fn signed(log: &mut Log, at: usize, bits: u64) -> usize {
+    if bits < 0x8000_0000 {
+        return decimal(log, at, bits);
     }
-    decimal(line, at, bits)
+    let to = put(log, at, b'-');
+    decimal(log, to, read::less(0x1_0000_0000, bits))
 }
 
-fn digit(n: u8) -> u8 {
-    let d = n % 16;
-    if d < 10 {
-        return b'0' + d;
+fn width(letter: u8) -> usize {
+    match letter {
+        b'F' => 1,
+        b'B' => 2,
+        b'H' => 4,
+        _ => 8,
     }
-    b'a' - 10 + d
 }
 
-pub fn hex_8(line: &mut [u8], at: usize, n: u8) -> usize {
-    let low = put(line, at, digit(n / 16));
-    put(line, low, digit(n))
+fn number(log: &mut Log, at: usize, letter: u8, n: u64) -> usize {
+    match letter {
+        b'N' => at,
+        b'D' => decimal(log, at, n),
+        b'S' => signed(log, at, n),
+        b'R' => hex(log, at, n % 100 / 10 * 16 + n % 10, 2),
+        _ => hex(log, at, n, width(letter)),
+    }
 }
 
-pub fn hex_16(line: &mut [u8], at: usize, n: u16) -> usize {
-    let low = hex_8(line, at, (n / 256) as u8);
-    hex_8(line, low, (n % 256) as u8)
-}
-
-pub fn hex_32(line: &mut [u8], at: usize, n: u32) -> usize {
-    let low = hex_16(line, at, (n / 0x1_0000) as u16);
-    hex_16(line, low, (n % 0x1_0000) as u16)
-}
-
-// A signed number in eight hex digits.
-pub fn bits(line: &mut [u8], at: usize, x: i32) -> usize {
-    hex_32(line, at, of_i32(x))
-}
-
-pub fn place(line: &mut [u8], at: usize, n: usize) -> usize {
-    hex_32(line, at, (n % 0x1_0000_0000) as u32)
-}
-
-pub fn flag(line: &mut [u8], at: usize, yes: bool) -> usize {
-    put(line, at, if yes { b'1' } else { b'0' })
-}
-
-pub fn pairs(line: &mut [u8], at: usize, s: &[u8]) -> usize {
+// A text in which each capital letter stands for the next number: D in decimal, S in decimal with the sign of its 32 bits,
+// R the number of a refusal in two decimal digits, N not at all; in hex F a flag, B a byte, H 16 bits and W 32 bits.
+fn spell(log: &mut Log, at: usize, s: &[u8], values: [u64; 6]) -> usize {
     let mut to = at;
+    let mut k = 0;
     let mut i = 0;
     while i < s.len() {
-        to = hex_8(line, to, s[i]);
+        let c = s[i];
+        if b'A' <= c && c <= b'Z' {
+            to = number(log, to, c, read::number_at(&values, k));
+            k = read::onward(k, 1, 6);
+        } else {
+            to = put(log, to, c);
+        }
         i += 1;
     }
     to
+}
+
+// A text of a table, in which each stands after its letter, with `|` between.
+pub fn say(log: &mut Log, at: usize, table: &[u8], s: Said) -> usize {
+    let values = s.values;
+    spell(log, at, read::entry(table, s.letter), values)
+}
+
+// The bits of a signed number.
+pub fn bits(x: i32) -> u64 {
+    field::of_i32(x) as u64
+}
+
+pub fn flag(yes: bool) -> u64 {
+    if yes { 1 } else { 0 }
 }
 
 // The first n bytes in pairs; more than there are, which no answer should have, as `!`.
-pub fn front(line: &mut [u8], at: usize, s: &[u8], n: usize) -> usize {
-    if n <= s.len() {
-        return pairs(line, at, read::part(s, 0, n));
+pub fn front(log: &mut Log, at: usize, s: &[u8], n: usize) -> usize {
+    if s.len() < n {
+        return put(log, at, b'!');
     }
-    put(line, at, b'!')
+    let mut to = at;
+    let mut i = 0;
+    while i < n {
+        to = hex(log, to, read::byte_or(s, i, 0) as u64, 2);
+        i += 1;
+    }
+    to
 }
 
 // Bytes in pairs; none as `-`.
-pub fn bytes(line: &mut [u8], at: usize, s: &[u8]) -> usize {
+pub fn bytes(log: &mut Log, at: usize, s: &[u8]) -> usize {
     if s.len() == 0 {
-        return put(line, at, b'-');
+        return put(log, at, b'-');
     }
-    pairs(line, at, s)
+    front(log, at, s, s.len())
 }
 
 // A `!` unless all is as it should be.
-pub fn expect(line: &mut [u8], at: usize, good: bool) -> usize {
-    if good { at } else { put(line, at, b'!') }
+pub fn expect(log: &mut Log, at: usize, good: bool) -> usize {
+    if good { at } else { put(log, at, b'!') }
+}
+
+// Whether a text up to n stands after it again, up to an end.
+pub fn is_again(log: &[u8], n: usize, end: usize) -> bool {
+    read::same(read::part(log, 0, n), read::part(log, n, end))
 }
 
 // A text up to n, and after it up to end one that should be the same; where it is not, ` !` is put in its place.
-pub fn same_again(line: &mut [u8], n: usize, end: usize) -> usize {
-    if read::same(read::part(line, 0, n), read::part(line, n, end)) {
+pub fn same_again(log: &mut Log, n: usize, end: usize) -> usize {
+    if is_again(log, n, end) {
         return n;
     }
-    text(line, n, b" !")
-}
-
-// The number of a refusal in two decimal digits.
-pub fn code(line: &mut [u8], at: usize, why: u8) -> usize {
-    let tens = put(line, at, b'r');
-    let ones = put(line, tens, digit(why / 10));
-    put(line, ones, digit(why % 10))
-}
-
-pub fn refused(line: &mut [u8], at: usize, why: u8) -> usize {
-    named(line, at, b"refused ", why as u64)
-}
-
-pub fn cleanness(line: &mut [u8], at: usize, clean: bool) -> usize {
-    if clean {
-        return text(line, at, b" clean");
-    }
-    text(line, at, b" dirt")
-}
-
-pub fn fill(memory: &mut [u8], fill: u8) {
-    let mut i = 0;
-    while i < memory.len() {
-        memory[i] = fill;
-        i += 1;
-    }
+    let to = put(log, n, b' ');
+    put(log, to, b'!')
 }
 
 // The bytes from a place on all have one value.
@@ -187,16 +202,16 @@ fn sum(s: &[u8]) -> u64 {
 }
 
 // The text of n bytes gives way to its sum; no text stays none.
-pub fn summed(line: &mut [u8], n: usize) -> usize {
+pub fn summed(log: &mut Log, n: usize) -> usize {
     if n == 0 {
         return 0;
     }
-    let total = sum(read::part(line, 0, n));
-    hex_32(line, 0, (total % 0x1_0000_0000) as u32)
+    let total = sum(read::part(log, 0, n));
+    hex(log, 0, total, 8)
 }
 
 // A whole line with its end.
-pub fn print(line: &mut [u8], at: usize) {
-    let n = put(line, at, b'\n');
-    io::write_all(STDOUT_FILENO, read::part(line, 0, n));
+pub fn print(log: &mut Log, at: usize) {
+    let n = put(log, at, b'\n');
+    io::write_all(STDOUT_FILENO, read::part(log, 0, n));
 }

@@ -1,6 +1,8 @@
 // Decoder states as text, and the states that a caller may hand over, sound and unsound, by number.
 use crate::read;
 use crate::show;
+use crate::show::Log;
+use crate::show::Said;
 use wing_wire::state::Control;
 use wing_wire::state::Escape;
 use wing_wire::state::Pending;
@@ -8,52 +10,58 @@ use wing_wire::state::State;
 use wing_wire::state::Token;
 use wing_wire::token::Class;
 
-fn class_word(line: &mut [u8], at: usize, class: Class) -> usize {
+// Digits, and the byte after them.
+fn class_digit(class: Class) -> u8 {
     match class {
-        Class::NoEvent => show::text(line, at, b"skipped"),
-        Class::Integer => show::text(line, at, b"integer"),
-        Class::String => show::text(line, at, b"string"),
-        Class::Length => show::text(line, at, b"length"),
-        Class::Int16 => show::text(line, at, b"int16"),
-        Class::Int32 => show::text(line, at, b"int32"),
-        Class::Float => show::text(line, at, b"float"),
-        Class::Node => show::text(line, at, b"node"),
-        Class::End => show::text(line, at, b"end"),
-        Class::Count => show::text(line, at, b"count"),
-        Class::ZeroCount => show::text(line, at, b"zerocount"),
+        Class::NoEvent => b'0',
+        Class::Integer => b'1',
+        Class::String => b'2',
+        Class::Length => b'3',
+        Class::Int16 => b'4',
+        Class::Int32 => b'5',
+        Class::Float => b'6',
+        Class::Node => b'7',
+        Class::End => b'8',
+        Class::Count => b'9',
+        Class::ZeroCount => b':',
     }
 }
 
-fn in_number(line: &mut [u8], at: usize, class: Class, left: u16, value: u32) -> usize {
-    let class_at = show::text(line, at, b"number ");
-    let left_at = class_word(line, class_at, class);
-    let label_at = show::named(line, left_at, b" left=", left as u64);
-    let value_at = show::text(line, label_at, b" value=");
-    show::hex_32(line, value_at, value)
+fn say(log: &mut Log, at: usize, s: Said) -> usize {
+    let table = b"p pending=B|n pending=none|t token=between|s token=string left=D of D|\
+b token=body left=D of D stored=D|c token=number |l left=D value=W|o store=";
+    show::say(log, at, table, s)
 }
 
-fn in_bytes(line: &mut [u8], at: usize, word: &[u8], want: u16, left: u16) -> usize {
-    let left_at = show::text(line, at, word);
-    let want_at = show::named(line, left_at, b" left=", left as u64);
-    show::named(line, want_at, b" of ", want as u64)
+fn in_number(log: &mut Log, at: usize, class: Class, rest: Said) -> usize {
+    let table =
+        b"0skipped|1integer|2string|3length|4int16|5int32|6float|7node|8end|9count|:zerocount";
+    let class_at = say(log, at, show::none(b'c'));
+    let left_at = show::say(log, class_at, table, show::none(class_digit(class)));
+    say(log, left_at, rest)
 }
 
-fn token(line: &mut [u8], at: usize, t: Token) -> usize {
+fn token(log: &mut Log, at: usize, t: Token) -> usize {
     match t {
-        Token::Between => show::text(line, at, b"between"),
-        Token::Number { class, left, value } => in_number(line, at, class, left, value),
-        Token::String { want, left } => in_bytes(line, at, b"string", want, left),
+        Token::Between => say(log, at, show::none(b't')),
+        Token::Number { class, left, value } => {
+            in_number(log, at, class, show::two(b'l', left as u64, value as u64))
+        }
+        Token::String { want, left } => say(log, at, show::two(b's', left as u64, want as u64)),
         Token::Body { want, left, stored } => {
-            let stored_at = in_bytes(line, at, b"body", want, left);
-            show::named(line, stored_at, b" stored=", stored as u64)
+            say(
+                log,
+                at,
+                show::three(b'b', left as u64, want as u64, stored as u64),
+            )
         }
     }
 }
 
-fn pending(line: &mut [u8], at: usize, p: Pending) -> usize {
+fn pending(p: Pending) -> Said {
     match p {
-        Pending::None => show::text(line, at, b"none"),
-        Pending::Byte(b) => show::hex_8(line, at, b),
+        Pending::None => show::none(b'n'),
+        Pending::Byte(b) => show::one(b'p', b as u64),
     }
 }
 
@@ -73,40 +81,30 @@ fn used(store: &[u8]) -> usize {
     n
 }
 
-fn stored(line: &mut [u8], at: usize, s: State) -> usize {
-    let store = s.store;
-    let n = used(&store);
-    show::bytes(line, at, read::part(&store, 0, n))
-}
-
 // What LAST of a stream leaves out.
-pub fn state(line: &mut [u8], at: usize, s: State) -> usize {
+pub fn state(log: &mut Log, at: usize, s: State) -> usize {
     let c = s.control;
     let e = c.escape;
-    let p = e.pending;
     let t = c.token;
-    let pending_at = show::text(line, at, b" pending=");
-    let label_at = pending(line, pending_at, p);
-    let token_at = show::text(line, label_at, b" token=");
-    let name_at = token(line, token_at, t);
-    let store_at = show::text(line, name_at, b" store=");
-    stored(line, store_at, s)
-}
-
-fn escaping(escaped: bool, channel: i8, pending: Pending) -> Escape {
-    Escape {
-        escaped,
-        channel,
-        pending,
-    }
+    let store = s.store;
+    let p = e.pending;
+    let token_at = say(log, at, pending(p));
+    let store_at = token(log, token_at, t);
+    let bytes_at = say(log, store_at, show::none(b'o'));
+    show::bytes(log, bytes_at, read::part(&store, 0, used(&store)))
 }
 
 // Escapes, a token, and one byte of the store.
-fn with(escape: Escape, token: Token, at: usize, byte: u8) -> State {
+fn with(escaped: bool, channel: i8, pending: Pending, token: Token, at: usize, byte: u8) -> State {
     let mut store = [0u8; 4096];
     if at < 4096 {
         store[at] = byte;
     }
+    let escape = Escape {
+        escaped,
+        channel,
+        pending,
+    };
     let control = Control {
         escape,
         node: 0,
@@ -116,11 +114,11 @@ fn with(escape: Escape, token: Token, at: usize, byte: u8) -> State {
 }
 
 fn escaped(escaped: bool, channel: i8, pending: Pending) -> State {
-    with(escaping(escaped, channel, pending), Token::Between, 0, 0)
+    with(escaped, channel, pending, Token::Between, 0, 0)
 }
 
 fn inside(token: Token, at: usize, byte: u8) -> State {
-    with(escaping(false, -1, Pending::None), token, at, byte)
+    with(false, -1, Pending::None, token, at, byte)
 }
 
 fn number(class: Class, left: u16, value: u32) -> State {

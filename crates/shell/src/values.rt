@@ -1,18 +1,21 @@
 // Characters, the getters of values, and what one byte more makes of a front.
+use crate::forms::Asked;
 use crate::read;
 use crate::show;
+use crate::show::Log;
 use crate::streams;
-use wing_node::field::i32_at;
-use wing_node::field::u32_at;
-use wing_node::utf8::is_utf8;
-use wing_node::value::StringAnswer;
+use wing_node::field;
+use wing_node::utf8;
+use wing_node::value;
 use wing_node::value::Value;
-use wing_node::value::get_int;
-use wing_node::value::get_string;
 use wing_wire::state::zeros_from;
 
-pub fn characters(log: &mut [u8], at: usize, s: &[u8]) -> usize {
-    show::flag(log, at, is_utf8(s))
+fn say(log: &mut Log, at: usize, letter: u8, number: u64) -> usize {
+    show::say(log, at, b"fF|-W-|sWs", show::one(letter, number))
+}
+
+fn characters(log: &mut Log, at: usize, s: &[u8]) -> usize {
+    say(log, at, b'f', show::flag(utf8::is_utf8(s)))
 }
 
 // The bytes at the front of an array, and a byte past them.
@@ -27,7 +30,7 @@ fn filled(front: &[u8], other: u8) -> [u8; 256] {
 }
 
 // The front with one byte more, as a stream or as characters.
-fn with_last(log: &mut [u8], at: usize, front: &[u8], last: u8, as_stream: bool) -> usize {
+fn with_last(log: &mut Log, at: usize, front: &[u8], last: u8, as_stream: bool) -> usize {
     let bytes = filled(front, last);
     let n = read::onward(front.len(), 1, 256);
     if as_stream {
@@ -37,7 +40,7 @@ fn with_last(log: &mut [u8], at: usize, front: &[u8], last: u8, as_stream: bool)
 }
 
 // The 256 byte strings that are one byte longer than a front.
-pub fn one_more(log: &mut [u8], front: &[u8], longest: usize, as_stream: bool) -> usize {
+fn one_more(log: &mut Log, front: &[u8], longest: usize, as_stream: bool) -> usize {
     if longest < front.len() {
         return 0;
     }
@@ -50,43 +53,55 @@ pub fn one_more(log: &mut [u8], front: &[u8], longest: usize, as_stream: bool) -
     text
 }
 
-fn got(log: &mut [u8], v: Value, bytes: [u8; 256]) -> usize {
-    let string_at = show::bits(log, 0, get_int(v));
-    let r = get_string(v, bytes);
-    let answer = r.answer;
-    let found = r.bytes;
-    match answer {
-        StringAnswer::None => {
-            let rest_at = show::put(log, string_at, b'-');
-            show::expect(log, rest_at, zeros_from(&found, 0))
-        }
-        StringAnswer::String(n) => {
-            let bytes_at = show::put(log, string_at, b's');
-            let rest_at = show::front(log, bytes_at, &found, n as usize);
-            show::expect(log, rest_at, zeros_from(&found, n as usize))
-        }
+fn string_of(a: value::StringAnswer) -> show::Said {
+    match a {
+        value::StringAnswer::None => show::none(b'-'),
+        value::StringAnswer::String(n) => show::one(b's', n as u64),
     }
 }
 
+fn got(log: &mut Log, v: Value, bytes: [u8; 256]) -> usize {
+    let r = value::get_string(v, bytes);
+    let a = r.answer;
+    let found = r.bytes;
+    let s = string_of(a);
+    let n = show::first(s, b's') as usize;
+    let string_at = say(log, 0, s.letter, show::bits(value::get_int(v)));
+    let end = show::front(log, string_at, &found, n);
+    show::expect(log, end, zeros_from(&found, n))
+}
+
 // A string of at most 256 bytes; the bytes past it are none that a getter may give.
-pub fn string(log: &mut [u8], length: u16, s: &[u8]) -> usize {
+fn string(log: &mut Log, length: u16, s: &[u8]) -> usize {
     if 256 < s.len() {
         return 0;
     }
     got(log, Value::String(length), filled(s, 0xee))
 }
 
-fn number(log: &mut [u8], v: Value, s: &[u8]) -> usize {
+fn number(log: &mut Log, v: Value, s: &[u8]) -> usize {
     if s.len() != 4 {
         return 0;
     }
     got(log, v, [0xeeu8; 256])
 }
 
-pub fn getters(log: &mut [u8], kind: u64, s: &[u8]) -> usize {
+fn getters(log: &mut Log, kind: u64, s: &[u8]) -> usize {
     match kind {
-        0 => number(log, Value::Integer(i32_at(s, 0)), s),
-        1 => number(log, Value::Float(u32_at(s, 0)), s),
+        0 => number(log, Value::Integer(field::i32_at(s, 0)), s),
+        1 => number(log, Value::Float(field::u32_at(s, 0)), s),
         _ => string(log, (s.len() % 0x1_0000) as u16, s),
+    }
+}
+
+pub fn order(log: &mut Log, a: Asked, bytes: &[u8]) -> usize {
+    let n = a.numbers;
+    let letter = a.letter;
+    match letter {
+        b'u' => characters(log, 0, bytes),
+        b'f' => one_more(log, bytes, 255, false),
+        b's' => one_more(log, bytes, 63, true),
+        b'g' => getters(log, n[0], bytes),
+        _ => string(log, (n[0] % 0x1_0000) as u16, bytes),
     }
 }

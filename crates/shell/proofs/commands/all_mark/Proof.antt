@@ -1,6 +1,6 @@
-use Prim.Native.Nat.{_≤_, _-_}
 use borrow.Author.Needs.{needs}
 use lib.ListN.{length}
+use Prim.Native.Nat.{_≤_, _-_}
 use Rattle.shell.proofs.commands.all_mark.Statement.{statement}
 use Rattle.shell.proofs.commands.all_mark.Tie as tie
 
@@ -13,8 +13,11 @@ abbrev μ-loop : tie.MeasureT-loop
 loop-holds : tie.Need-loop-holds Inv-loop μ-loop
 loop-holds c = search needs
 
-reading-or-mark-requires : tie.Need-reading-or-mark-requires Inv-loop μ-loop
-reading-or-mark-requires c κs = search needs
+mul-if1 : tie.Need-mul-if1 Inv-loop μ-loop
+mul-if1 c = search needs
+
+shared-slice-copy-out-if1 : tie.Need-shared-slice-copy-out-if1 Inv-loop μ-loop
+shared-slice-copy-out-if1 c = search needs
 
 returns : tie.Need-returns Inv-loop μ-loop
 returns c = search needs
@@ -38,7 +41,8 @@ all-mark-spec =
     Inv-loop
     μ-loop
     loop-holds
-    reading-or-mark-requires
+    mul-if1
+    shared-slice-copy-out-if1
     returns
     add-i
     loop-less

@@ -6,31 +6,19 @@ use Rattle.shell.proofs.commands.meters_of.Statement.{statement}
 use Rattle.shell.proofs.commands.meters_of.Tie as tie
 
 abbrev Inv-loop : tie.InvT-loop
-Inv-loop items meters₀ i₀ meters i = length meters ≡ 64
+Inv-loop items other meters₀ i₀ meters i = length meters ≡ 64
 
 abbrev μ-loop : tie.MeasureT-loop
-μ-loop items meters₀ i₀ meters i = 64 - i
+μ-loop items other meters₀ i₀ meters i = 64 - i
 
 loop-holds : tie.Need-loop-holds Inv-loop μ-loop
 loop-holds c = search needs
 
-mul-byte-or : tie.Need-mul-byte-or Inv-loop μ-loop
-mul-byte-or c = search needs
+mul-meter-at : tie.Need-mul-meter-at Inv-loop μ-loop
+mul-meter-at c = search needs
 
-byte-or-requires : tie.Need-byte-or-requires Inv-loop μ-loop
-byte-or-requires c κs = search needs
-
-mul-byte-or-2 : tie.Need-mul-byte-or-2 Inv-loop μ-loop
-mul-byte-or-2 c = search needs
-
-add-byte-or : tie.Need-add-byte-or Inv-loop μ-loop
-add-byte-or c = search needs
-
-byte-or-requires-2 : tie.Need-byte-or-requires-2 Inv-loop μ-loop
-byte-or-requires-2 c κs = search needs
-
-meter-of-requires : tie.Need-meter-of-requires Inv-loop μ-loop
-meter-of-requires c κs = search needs
+meter-at-requires : tie.Need-meter-at-requires Inv-loop μ-loop
+meter-at-requires c κs = search needs
 
 mul-meters : tie.Need-mul-meters Inv-loop μ-loop
 mul-meters c = search needs
@@ -57,12 +45,8 @@ meters-of-spec =
     Inv-loop
     μ-loop
     loop-holds
-    mul-byte-or
-    byte-or-requires
-    mul-byte-or-2
-    add-byte-or
-    byte-or-requires-2
-    meter-of-requires
+    mul-meter-at
+    meter-at-requires
     mul-meters
     array-set-from-meters
     add-i

@@ -1,12 +1,10 @@
 use borrow.Author.Needs.{needs}
-use lib.ListN.{length}
-use mathlib.Core.Path.{_≡_}
-use Prim.Native.Nat.{_-_}
+use Prim.Native.Nat.{_≤_, _-_}
 use Rattle.shell.proofs.commands.readings.Statement.{statement}
 use Rattle.shell.proofs.commands.readings.Tie as tie
 
 abbrev Inv-loop : tie.InvT-loop
-Inv-loop log₀ at out count to₀ i₀ log to i = length log ≡ length log₀
+Inv-loop log₀ at out count to₀ i₀ log to i = 0 ≤ i
 
 abbrev μ-loop : tie.MeasureT-loop
 μ-loop log₀ at out count to₀ i₀ log to i = count - i
@@ -14,14 +12,11 @@ abbrev μ-loop : tie.MeasureT-loop
 loop-holds : tie.Need-loop-holds Inv-loop μ-loop
 loop-holds c = search needs
 
-reading-or-mark-requires : tie.Need-reading-or-mark-requires Inv-loop μ-loop
-reading-or-mark-requires c κs = search needs
+reading-requires : tie.Need-reading-requires Inv-loop μ-loop
+reading-requires c κs = search needs
 
-of-i16-requires : tie.Need-of-i16-requires Inv-loop μ-loop
-of-i16-requires c κs = search needs
-
-hex-16-requires : tie.Need-hex-16-requires Inv-loop μ-loop
-hex-16-requires c κs = search needs
+say-requires : tie.Need-say-requires Inv-loop μ-loop
+say-requires c κs = search needs
 
 add-i : tie.Need-add-i Inv-loop μ-loop
 add-i c = search needs
@@ -31,9 +26,6 @@ loop-less c = search needs
 
 loop-again : tie.Need-loop-again Inv-loop μ-loop
 loop-again c = search needs
-
-same-length : tie.Need-same-length Inv-loop μ-loop
-same-length c = search needs
 
 returns : tie.Need-returns Inv-loop μ-loop
 returns c = search needs
@@ -45,11 +37,9 @@ readings-spec =
     Inv-loop
     μ-loop
     loop-holds
-    reading-or-mark-requires
-    of-i16-requires
-    hex-16-requires
+    reading-requires
+    say-requires
     add-i
     loop-less
     loop-again
-    same-length
     returns)

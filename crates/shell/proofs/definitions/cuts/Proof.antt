@@ -1,12 +1,11 @@
 use borrow.Author.Needs.{needs}
 use lib.ListN.{length}
-use mathlib.Core.Path.{_≡_}
-use Prim.Native.Nat.{_-_}
+use Prim.Native.Nat.{_≤_, _-_}
 use Rattle.shell.proofs.definitions.cuts.Statement.{statement}
 use Rattle.shell.proofs.definitions.cuts.Tie as tie
 
 abbrev Inv-loop : tie.InvT-loop
-Inv-loop log₀ body r₀ len₀ log r len = length log ≡ length log₀
+Inv-loop log₀ body r₀ len₀ log r len = len ≤ length body
 
 abbrev μ-loop : tie.MeasureT-loop
 μ-loop log₀ body r₀ len₀ log r len = length body - len
@@ -41,9 +40,6 @@ loop-again c = search needs
 run-text-requires : tie.Need-run-text-requires Inv-loop μ-loop
 run-text-requires c κs = search needs
 
-same-length : tie.Need-same-length Inv-loop μ-loop
-same-length c = search needs
-
 returns : tie.Need-returns Inv-loop μ-loop
 returns c = search needs
 
@@ -63,5 +59,4 @@ cuts-spec =
     loop-less
     loop-again
     run-text-requires
-    same-length
     returns)

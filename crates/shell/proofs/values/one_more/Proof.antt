@@ -1,12 +1,10 @@
 use borrow.Author.Needs.{needs}
-use lib.ListN.{length}
-use mathlib.Core.Path.{_≡_}
-use Prim.Native.Nat.{_-_}
+use Prim.Native.Nat.{_≤_, _-_}
 use Rattle.shell.proofs.values.one_more.Statement.{statement}
 use Rattle.shell.proofs.values.one_more.Tie as tie
 
 abbrev Inv-loop : tie.InvT-loop
-Inv-loop log₀ front longest as-stream text₀ last₀ log text last = length log ≡ length log₀
+Inv-loop log₀ front longest as-stream text₀ last₀ log text last = last ≤ 256
 
 abbrev μ-loop : tie.MeasureT-loop
 μ-loop log₀ front longest as-stream text₀ last₀ log text last = 256 - last
@@ -32,9 +30,6 @@ loop-less c = search needs
 loop-again : tie.Need-loop-again Inv-loop μ-loop
 loop-again c = search needs
 
-same-length : tie.Need-same-length Inv-loop μ-loop
-same-length c = search needs
-
 returns-2 : tie.Need-returns-2 Inv-loop μ-loop
 returns-2 c = search needs
 
@@ -51,5 +46,4 @@ one-more-spec =
     add-last
     loop-less
     loop-again
-    same-length
     returns-2)

@@ -2,23 +2,20 @@ use borrow.Author.Needs.{needs}
 use lib.ListN.{length}
 use mathlib.Core.Path.{_≡_}
 use Prim.Native.Nat.{_-_}
-use Rattle.shell.proofs.show.pairs.Statement.{statement}
-use Rattle.shell.proofs.show.pairs.Tie as tie
+use Rattle.shell.proofs.mirror.fill.Statement.{statement}
+use Rattle.shell.proofs.mirror.fill.Tie as tie
 
 abbrev Inv-loop : tie.InvT-loop
-Inv-loop line₀ at s to₀ i₀ line to i = length line ≡ length line₀
+Inv-loop memory₀ fill i₀ memory i = length memory ≡ length memory₀
 
 abbrev μ-loop : tie.MeasureT-loop
-μ-loop line₀ at s to₀ i₀ line to i = length s - i
+μ-loop memory₀ fill i₀ memory i = length memory₀ - i
 
 loop-holds : tie.Need-loop-holds Inv-loop μ-loop
 loop-holds c = search needs
 
-shared-slice-read-hex-8 : tie.Need-shared-slice-read-hex-8 Inv-loop μ-loop
-shared-slice-read-hex-8 c = search needs
-
-hex-8-requires : tie.Need-hex-8-requires Inv-loop μ-loop
-hex-8-requires c κs = search needs
+slice-write-memory : tie.Need-slice-write-memory Inv-loop μ-loop
+slice-write-memory c = search needs
 
 add-i : tie.Need-add-i Inv-loop μ-loop
 add-i c = search needs
@@ -35,15 +32,14 @@ same-length c = search needs
 returns : tie.Need-returns Inv-loop μ-loop
 returns c = search needs
 
-pub pairs-spec : {M : Type 1} → statement M
-pairs-spec =
+pub fill-spec : {M : Type 1} → statement M
+fill-spec =
     tie.close
     (tie.spec
     Inv-loop
     μ-loop
     loop-holds
-    shared-slice-read-hex-8
-    hex-8-requires
+    slice-write-memory
     add-i
     loop-less
     loop-again

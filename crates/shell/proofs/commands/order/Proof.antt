@@ -1,0 +1,18 @@
+use mathlib.Core.Path.{sym}
+use Prim.Native.Nat.{ℕ}
+use lib.ListN.{length-replicate}
+use borrow.Author.Needs.{needs}
+use Rattle.shell.proofs.commands.order.Statement.{statement}
+use Rattle.shell.proofs.commands.order.Tie as tie
+
+slice-aggregate-into : tie.Need-slice-aggregate-into
+slice-aggregate-into c = sym (length-replicate {0} {A = ℕ} 851968 238)
+
+into-requires : tie.Need-into-requires
+into-requires c κs = search needs
+
+returns : tie.Need-returns
+returns c = search needs
+
+pub order-spec : {M : Type 1} → statement M
+order-spec = tie.close (tie.spec slice-aggregate-into into-requires returns)

@@ -1,0 +1,70 @@
+use borrow.Author.Needs.{needs}
+use lib.ListN.{length}
+use Prim.Native.Nat.{_≤_, _-_}
+use Rattle.shell.proofs.read.unsigned.Statement.{statement}
+use Rattle.shell.proofs.read.unsigned.Tie as tie
+
+abbrev Inv-loop : tie.InvT-loop
+Inv-loop word least most n₀ i₀ n i = 0 ≤ i
+
+abbrev μ-loop : tie.MeasureT-loop
+μ-loop word least most n₀ i₀ n i = length word - i
+
+number-of-requires : tie.Need-number-of-requires Inv-loop μ-loop
+number-of-requires c κs = search needs
+
+loop-holds : tie.Need-loop-holds Inv-loop μ-loop
+loop-holds c = search needs
+
+shared-slice-read-digit : tie.Need-shared-slice-read-digit Inv-loop μ-loop
+shared-slice-read-digit c = search needs
+
+digit-requires : tie.Need-digit-requires Inv-loop μ-loop
+digit-requires c κs = search needs
+
+mul-number-of : tie.Need-mul-number-of Inv-loop μ-loop
+mul-number-of c = search needs
+
+cast-number-of : tie.Need-cast-number-of Inv-loop μ-loop
+cast-number-of c = search needs
+
+add-number-of : tie.Need-add-number-of Inv-loop μ-loop
+add-number-of c = search needs
+
+number-of-requires-2 : tie.Need-number-of-requires-2 Inv-loop μ-loop
+number-of-requires-2 c κs = search needs
+
+add-i : tie.Need-add-i Inv-loop μ-loop
+add-i c = search needs
+
+loop-less : tie.Need-loop-less Inv-loop μ-loop
+loop-less c = search needs
+
+loop-again : tie.Need-loop-again Inv-loop μ-loop
+loop-again c = search needs
+
+number-of-requires-3 : tie.Need-number-of-requires-3 Inv-loop μ-loop
+number-of-requires-3 c κs = search needs
+
+returns : tie.Need-returns Inv-loop μ-loop
+returns c = search needs
+
+pub unsigned-spec : {M : Type 1} → statement M
+unsigned-spec =
+    tie.close
+    (tie.spec
+    Inv-loop
+    μ-loop
+    number-of-requires
+    loop-holds
+    shared-slice-read-digit
+    digit-requires
+    mul-number-of
+    cast-number-of
+    add-number-of
+    number-of-requires-2
+    add-i
+    loop-less
+    loop-again
+    number-of-requires-3
+    returns)
