@@ -14,6 +14,7 @@ use Rattle.wing_node.specs.Result.{Result, ok, refused}
 use Rattle.wing_node.specs.Signed.{InBits}
 use Rattle.wing_node.specs.Utf8.{utf8}
 use Rattle.wing_node.specs.Value.{NodeValue, integer, float, string}
+use Rattle.wing_node.proofs.Branches.{branch}
 use Rattle.wing_wire.specs.Range.{AreBytes}
 use Rattle.wing_wire.specs.State.{soundState}
 use Rattle.wing_wire.specs.Write.{WriteEffect, writeEffect, writeOf}
@@ -23,7 +24,6 @@ use Rattle.wing_wire.specs.SetOrders.{ReadsAsSet}
 use Rattle.wing_wire.specs.Answers.{writtenResult}
 use Rattle.wing_wire.specs.declared.state.State.{State}
 use Rattle.wing_wire.specs.declared.write.Written.the-variants.{Bytes}
-use Rattle.wing_node.proofs.Branches.{branch}
 use Rattle.wing_wire.proofs.BothWays.Orders.{reads-as-set}
 use Rattle.wing_mirror.specs.Rows.{Table, Found, found, nothing}
 use Rattle.wing_mirror.specs.Record.{Entry, entry, entryIn, Typed}

@@ -9,6 +9,7 @@ use lib.Dec.{leb}
 use lib.ListN.{length, take, length-take}
 use Rattle.wing_node.specs.Bool.{if}
 use Rattle.wing_node.specs.Result.{ok, refused}
+use Rattle.wing_node.proofs.Branches.{branch}
 use Rattle.wing_wire.specs.State.{bodyLimit, soundState}
 use Rattle.wing_wire.specs.Stream.{isMore, advanceOf}
 use Rattle.wing_wire.specs.Reader.{stringBeside, bodyBeside, nextOf, nextFrom, refusedNext}
@@ -17,7 +18,6 @@ use Rattle.wing_wire.specs.declared.state.State.{State}
 use Rattle.wing_wire.specs.declared.state.Pending.the-variants.{None}
 use Rattle.wing_wire.specs.declared.reader.Reply.{Reply}
 use Rattle.wing_wire.specs.declared.unit.Answer.the-variants.{More}
-use Rattle.wing_node.proofs.Branches.{branch}
 use Rattle.wing_wire.proofs.Reading.Steps.{next-more}
 use Rattle.wing_wire.proofs.Laws.{decoder-laws}
 use Rattle.wing_wire.proofs.Reading.Repeats.{accepted, repeated}

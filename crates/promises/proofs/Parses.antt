@@ -41,9 +41,9 @@ module _ (body : List ℕ) where
   pub begin-call : BeginCall body (begunResult (beginOf body))
   begin-call = record {
     refusals = record {
-      past-end = (λ e. p .pastEnd .0 (b .turned 4 .0 e), λ s. b .turned 4 .1 (p .pastEnd .1 s));
-      not-utf8 = (λ e. p .notUtf8 .0 (b .turned 5 .0 e), λ s. b .turned 5 .1 (p .notUtf8 .1 s));
-      numbers = λ n e. listed n [] (p .numbers n (b .turned n .0 e));
+      past-end = (λ e. p .pastEnd .0 (b .refusals 4 .0 e), λ s. b .refusals 4 .1 (p .pastEnd .1 s));
+      not-utf8 = (λ e. p .notUtf8 .0 (b .refusals 5 .0 e), λ s. b .refusals 5 .1 (p .notUtf8 .1 s));
+      numbers = λ n e. listed n [] (p .numbers n (b .refusals n .0 e));
     };
     taken = (λ e. begun-whole e, λ s. b .begun (whole-taken s));
   }
@@ -53,7 +53,7 @@ module _ (body : List ℕ) where
         where
           go : (r : Result DefinitionValues) → parserSays body ≡ r → AllStand body
           go (ok d) q = p .taken .0 (record { definition = d; says = q })
-          go (refused n) q = absurd (given (walkIn body) n (sym e ∙ b .turned n .1 q))
+          go (refused n) q = absurd (given (walkIn body) n (sym e ∙ b .refusals n .1 q))
 
   pub step-call : (w : Walk) → StepCall body w (stepAt body (w .at) (w .left) (w .kind))
   step-call w = let s = definitions .stepping body w in record {
@@ -73,21 +73,21 @@ module _ (body : List ℕ) where
 
     -- a refusal that is not 14 is the parser's
     from-parser : (k : ℕ) → (k ≡ 14 → ⊥) → (numberSays body number ≡ refused k) ↔ (parserSays body ≡ refused k)
-    from-parser k n = (λ e. go (i .turned k .0 e), λ e. i .turned k .1 (inl e))
+    from-parser k n = (λ e. go (i .refusals k .0 e), λ e. i .refusals k .1 (inl e))
       where
         go : (parserSays body ≡ refused k) ⊎ (Takes body × (countIn body ≤ number) × (k ≡ 14)) → parserSays body ≡ refused k
         go (inl e) = e
         go (inr t) = absurd (n (t .2))
 
     item-numbers : (k : ℕ) → numberSays body number ≡ refused k → In k (4 ∷ 5 ∷ 14 ∷ [])
-    item-numbers k e = go (i .turned k .0 e)
+    item-numbers k e = go (i .refusals k .0 e)
       where
         go : (parserSays body ≡ refused k) ⊎ (Takes body × (countIn body ≤ number) × (k ≡ 14)) → In k (4 ∷ 5 ∷ 14 ∷ [])
         go (inl e) = listed k (14 ∷ []) (p .numbers k e)
         go (inr t) = inr (inr (inl (t .2)))
 
     item-over : (numberSays body number ≡ refused 14) ↔ (AllStand body × (countIn body ≤ number))
-    item-over = (λ e. go (i .turned 14 .0 e), λ s. i .turned 14 .1 (inr (whole-taken (s .0), s .1, refl)))
+    item-over = (λ e. go (i .refusals 14 .0 e), λ s. i .refusals 14 .1 (inr (whole-taken (s .0), s .1, refl)))
       where
         other : _≡_ {A = ℕ} 14 4 ⊎ _≡_ {A = ℕ} 14 5 → ⊥
         other (inl e) = omega arith

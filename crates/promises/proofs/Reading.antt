@@ -8,9 +8,10 @@ use native.Mathlib.Omega.{arith}
 use lib.Dec.{leb, eqb}
 use lib.IntN.{ℤ}
 use lib.ListN.{take, set}
-use Rattle.wing_wire.specs.State.{bodyLimit}
 use Rattle.wing_node.specs.Signed.{signed}
 use Rattle.wing_node.specs.Utf8.{utf8}
+use Rattle.wing_node.proofs.Branches.{branch}
+use Rattle.wing_wire.specs.State.{bodyLimit}
 use Rattle.wing_wire.specs.Token.{ruleOf}
 use Rattle.wing_wire.specs.Escape.{decodeOf}
 use Rattle.wing_wire.specs.Unit.{singleOf, tokenOf, beginOf, countOf, numberOf, shiftIn, numberUnit, UnitEffect, stringDone, stringUnit, keeps, bodyDone, bodyNext, bodyUnit, unitOf}
@@ -28,7 +29,6 @@ use Rattle.wing_wire.specs.declared.escape.Unit.the-variants.{Nothing, Bare, Ap
 use Rattle.wing_wire.specs.declared.unit.Answer.{Answer}
 use Rattle.wing_wire.specs.declared.unit.Answer.the-variants.{More, Integer as anInteger, Float as aFloat, String as aString, Body as aBody, End as anEnd, Refused}
 use Rattle.wing_wire.specs.declared.unit.Taken.{Taken}
-use Rattle.wing_node.proofs.Branches.{branch}
 use Rattle.wing_wire.proofs.Reading.Pieces.{at, stays, run-on}
 use Rattle.wing_mirror.specs.Rows.{In}
 

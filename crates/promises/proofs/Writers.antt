@@ -12,6 +12,7 @@ use Rattle.wing_node.specs.Result.{Result, ok}
 use Rattle.wing_node.specs.Utf8.{utf8}
 use Rattle.wing_node.specs.Signed.{InBits}
 use Rattle.wing_node.specs.Value.{NodeValue, string}
+use Rattle.wing_node.proofs.Branches.{branch}
 use Rattle.wing_wire.specs.Write.{WriteEffect, writeEffect, writeOf}
 use Rattle.wing_wire.specs.Command.{setBytes, setString}
 use Rattle.wing_wire.specs.Meter.{RequestEffect, requestEffect, writeRequestOf, meterRequest, requestMeter, PacketEffect, packetEffect, readings, packetOf}
@@ -21,7 +22,6 @@ use Rattle.wing_wire.specs.declared.meter.Meter.{Meter}
 use Rattle.wing_wire.specs.declared.meter.Requested.the-variants.{Bytes as RequestWritten, Refused as RequestRefused}
 use Rattle.wing_wire.specs.declared.meter.MetersRead.the-variants.{Readings, Refused as ReadRefused}
 use Rattle.wing_wire.specs.RoundTrip.{Settable}
-use Rattle.wing_node.proofs.Branches.{branch}
 use Rattle.wing_wire.proofs.BothWays.Orders.{reads-as-set, reads-as-string}
 use Rattle.promises.specs.Wire.{Writes, CommandCall, commandLines, stringLines, SetOrder, MeterCall, PacketCall}
 use Rattle.promises.proofs.Lines.{taken, line, unless}

@@ -21,7 +21,6 @@ use Rattle.wing_wire.specs.Repeated.{Accepted, fedState, feedEvents, CoreGives}
 use Rattle.wing_wire.specs.Answers.{writtenResult, requestedResult, metersResult}
 use Rattle.wing_wire.specs.SetOrders.{ReadsAsSet}
 use Rattle.wing_wire.specs.declared.state.State.{State}
-use Rattle.wing_wire.specs.declared.state.Control.{Control}
 use Rattle.wing_wire.specs.declared.state.Escape.{Escape}
 use Rattle.wing_wire.specs.declared.state.Pending.the-variants.{None, Byte}
 use Rattle.wing_wire.specs.declared.escape.Unit.the-variants.{Nothing, Appended}
@@ -100,10 +99,6 @@ pub record NextCall (s : State) (bytes : List ℕ) (reply : Reply) : Type 0 wher
   pub again : sends (nextLines s bytes) ≡ ok tt → (reply .answer ≡ More → ⊥) → (rs : List StreamEvent) →
       feedEvents withEvent (fedState withEvent s rs) bytes ≡
       feedEvents withEvent (fedState withEvent (reply .state) (withEvent (reply .state .control .node) (eventIn reply) rs)) (drop (reply .taken) bytes)
-
--- a state by its parts
-abbrev pub stateOf : Control → List ℕ → State
-stateOf c store = record { control = c; store = store }
 
 -- bytes in two pieces, at any split and from any state, are the bytes at once: a token cut between two calls goes on where it was
 abbrev pub PiecesJoin : Type 0

@@ -2,8 +2,8 @@
 ghost use mathlib.Core.Path.{_≡_};
 ghost use Rattle.wing_node.specs.Items.{walk};
 ghost use Rattle.wing_node.specs.Utf8.{Octets, Decides};
-ghost use Rattle.wing_node.specs.Value.{meant, intIn, stringIn};
-ghost use Rattle.wing_node.specs.Answers.{begunResult, startResult, stringTold};
+ghost use Rattle.wing_node.specs.Value.{nodeValue, intIn, stringIn};
+ghost use Rattle.wing_node.specs.Answers.{begunResult, startResult, stringResult};
 ghost use Rattle.promises.specs.Node.{ParserCall, BeginCall, StepCall, ItemCall};
 use wing_node::definition::Item;
 use wing_node::definition::Parsed;
@@ -66,7 +66,7 @@ pub fn get_int(v: Value) -> i32
 }
 
 pub fn get_string(v: Value, bytes: [u8; 256]) -> StringRead
-    ensures { λ r. ⌜ stringTold (r .answer) (r .bytes) ≡ stringIn (meant v bytes) ⌝ }
+    ensures { λ r. ⌜ stringResult (r .answer) (r .bytes) ≡ stringIn (nodeValue v bytes) ⌝ }
 {
     wing_node::value::get_string(v, bytes)
 }

@@ -1,9 +1,10 @@
 // The calls of the wire, each with what is promised of it as its contract. There is nothing here but the call.
 ghost use Rattle.wing_node.specs.Value.{integer as integerOf, float as floatOf, string as stringOf};
+ghost use Rattle.wing_wire.specs.State.{stateOf};
 ghost use Rattle.wing_wire.specs.Command.{setBytes, idBytes, suffixBytes, requestBytes};
 ghost use Rattle.wing_wire.specs.Lent.{wholeReply};
 ghost use Rattle.wing_wire.specs.Meter.{keepAlives};
-ghost use Rattle.promises.specs.Wire.{stateOf, NextCall, AdvanceCall, DecodeCall, commandLines, stringLines, CommandCall, SetOrder, MeterCall, PacketCall};
+ghost use Rattle.promises.specs.Wire.{NextCall, AdvanceCall, DecodeCall, commandLines, stringLines, CommandCall, SetOrder, MeterCall, PacketCall};
 use wing_wire::escape::NextUnit;
 use wing_wire::lent::Parted;
 use wing_wire::meter::Meter;

@@ -3,7 +3,7 @@ use Prim.Native.Nat.{ℕ}
 use mathlib.Core.Bool.{Bool, true, false}
 use mathlib.Core.List.{List}
 use Rattle.wing_node.specs.Result.{Result, ok, refused}
-use Rattle.wing_node.specs.Value.{meant}
+use Rattle.wing_node.specs.Value.{nodeValue}
 use Rattle.wing_mirror.specs.Rows.{Found, found, nothing}
 use Rattle.wing_mirror.specs.Record.{Entry, entry}
 use Rattle.wing_mirror.specs.declared.answer.Counts.{Counts}
@@ -25,7 +25,7 @@ lookupResult (LookupRefused n) = refused n
 
 -- 01: a record is read by number: its node and value, with the bytes of a string beside the answer
 unfoldable pub entryResult : RecordAnswer → List ℕ → Result Entry
-entryResult (Record id v) string = ok (entry id (meant v string))
+entryResult (Record id v) string = ok (entry id (nodeValue v string))
 entryResult (RecordRefused n) string = refused n
 
 -- the same of the whole reply

@@ -5,13 +5,14 @@ use mathlib.Core.Path.{_≡_}
 use mathlib.Core.Logic.{_↔_}
 use mathlib.Core.List.{List, [], _∷_, map}
 use lib.ListN.{length, take, drop}
+use Rattle.wing_node.specs.Bytes.{joined}
 use Rattle.wing_wire.specs.State.{freshState}
 use Rattle.wing_wire.specs.Range.{AreBytes}
 use Rattle.wing_wire.specs.Write.{writeOf}
 use Rattle.wing_wire.specs.declared.state.State.{State}
 use Rattle.wing_wire.specs.declared.write.Written.{Written}
 use Rattle.wing_wire.specs.declared.write.Written.the-variants.{Bytes, Refused}
-use Rattle.wing_mirror.specs.Rows.{Table, All, places, joined, insert, In}
+use Rattle.wing_mirror.specs.Rows.{Table, All, places, insert, In}
 use Rattle.wing_mirror.specs.Record.{Entry, width, risingIds, ids, rankOf, recordOf, entryIn, wellFormed}
 use Rattle.wing_mirror.specs.Table.{table, rows, every, soundTable, placesAllowed}
 use Rattle.wing_mirror.specs.Recall.{recallBytes, recallOf}

@@ -1,11 +1,12 @@
 -- 01: recall writes df d1, then the set bytes of each record in order.
 use Prim.Native.Nat.{ℕ}
 use mathlib.Core.List.{List, _∷_, map}
+use Rattle.wing_node.specs.Bytes.{joined}
 use Rattle.wing_node.specs.Bool.{if}
 use Rattle.wing_wire.specs.Write.{WriteEffect, writeEffect, writeOf}
 use Rattle.wing_wire.specs.Command.{setBytes}
 use Rattle.wing_wire.specs.declared.write.Written.the-variants.{Refused}
-use Rattle.wing_mirror.specs.Rows.{Table, joined}
+use Rattle.wing_mirror.specs.Rows.{Table}
 use Rattle.wing_mirror.specs.Record.{Entry, entryIn}
 use Rattle.wing_mirror.specs.Table.{rows, usable}
 

@@ -6,6 +6,7 @@ use mathlib.Core.Path.{_≡_}
 use mathlib.Core.Logic.{_⊎_}
 use lib.Dec.{ltb, eqb}
 use lib.ListN.{length, take, drop}
+use Rattle.wing_node.specs.Bytes.{joined}
 use Rattle.wing_node.specs.Bool.{if}
 
 -- one, or none
@@ -17,11 +18,6 @@ pub data Found (A : Type 0) : Type 0 where
 unfoldable pub records : ℕ → ℕ → List ℕ → List (List ℕ)
 records w zero buf = []
 records w (suc n) buf = take w buf ∷ records w n (drop w buf)
-
--- bytes one after the other
-unfoldable pub joined : List (List ℕ) → List ℕ
-joined [] = []
-joined (r ∷ rs) = r ++ joined rs
 
 -- records at the front of a buffer, whose bytes after them are as they were
 unfoldable pub laid : ℕ → List (List ℕ) → List ℕ → List ℕ

@@ -3,9 +3,9 @@ ghost use mathlib.Core.Path.{_≡_};
 ghost use mathlib.Core.Bool.{true};
 ghost use Prim.Native.Nat.{_≤_, _<_};
 ghost use lib.ListN.{length};
-ghost use Rattle.wing_wire.specs.State.{bodyLimit};
 ghost use Rattle.wing_node.specs.Definition.{definitionOf};
-ghost use Rattle.wing_node.specs.Value.{meant};
+ghost use Rattle.wing_node.specs.Value.{nodeValue};
+ghost use Rattle.wing_wire.specs.State.{bodyLimit};
 ghost use Rattle.wing_wire.specs.Range.{Within};
 ghost use Rattle.wing_wire.specs.Reader.{value as valueEvent};
 ghost use Rattle.wing_mirror.specs.Table.{table as tableOf, usable};
@@ -51,7 +51,7 @@ fn mark(count: usize, counts: Counts, m: Mark) -> Tally
 // 01: a value is stored at its node, or has no place.
 fn keep_value(table: &mut [u8], t: Tally, node: i32, value: Value, string: &[u8]) -> Tally
     requires { ⌜ (usable (tableOf (now table) (t .count)) ≡ true) × (total (t .counts) < 4294967295) × (length (now string) ≤ 256) ⌝ }
-    ensures { λ r. ⌜ tallyOf r (now (table .exit)) ≡ keepEvent node (valueEvent (meant value (now (string .entry)))) (tallyOf t (now (table .entry))) ⌝ }
+    ensures { λ r. ⌜ tallyOf r (now (table .exit)) ≡ keepEvent node (valueEvent (nodeValue value (now (string .entry)))) (tallyOf t (now (table .entry))) ⌝ }
 {
     let mut rec = [0u8; State::PLACE_WIDTH];
     lay_record(&mut rec, node, value, string);

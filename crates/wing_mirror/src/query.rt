@@ -15,7 +15,6 @@ use crate::answer::Same;
 use crate::bytes::lay;
 use crate::order::has_key;
 use crate::order::search;
-use crate::record::least;
 use crate::record::rank;
 use crate::table::is_usable;
 use wing_node::field;
@@ -57,7 +56,7 @@ fn string_read(id: i32, n: u16, payload: &[u8]) -> RecordRead
     requires { ⌜ length (now payload) ≡ 256 ⌝ }
     ensures { λ r. ⌜ r ≡ readOf (entry id (stringOf (take n (now (payload .entry))))) ⌝ }
 {
-    let len = least(n as usize, 256);
+    let len = field::least(n as usize, 256);
     let mut string = [0u8; 256];
     lay(&mut string, 0, &payload[..len]);
     let value = Value::String(len as u16);

@@ -1,9 +1,9 @@
 // A record of the table, 264 bytes: where it stands in the order, whether it has 01's form, and how one is laid.
 ghost use mathlib.Core.Path.{_≡_};
-ghost use Prim.Native.Nat.{_≤_, min};
+ghost use Prim.Native.Nat.{_≤_};
 ghost use lib.ListN.{length, take};
 ghost use Rattle.wing_node.specs.Field.{bytesOf};
-ghost use Rattle.wing_node.specs.Value.{meant};
+ghost use Rattle.wing_node.specs.Value.{nodeValue};
 ghost use Rattle.wing_mirror.specs.Record.{width, flipped, rankOf, keyOf, stringKept, wellKept, wellFormed, entry, recordOf, laidFrom};
 use crate::bytes;
 use wing_node::field;
@@ -87,18 +87,12 @@ fn lay_number(out: &mut [u8], kind: u8, bits: u32)
     field::put_u32(out, 8, bits);
 }
 
-pub(crate) fn least(a: usize, b: usize) -> usize
-    ensures { λ r. ⌜ r ≡ min a b ⌝ }
-{
-    if a < b { a } else { b }
-}
-
 // Kind, length and payload of a string, the first n of the bytes lent.
 fn lay_string(out: &mut [u8], string: &[u8], n: u16)
     requires { ⌜ (length (now out) ≡ width) × (length (now string) ≤ 256) ⌝ }
     ensures { λ _. ⌜ now (out .exit) ≡ laidFrom (now (out .entry)) 2 (take n (now (string .entry))) ⌝ }
 {
-    let len = least(n as usize, string.len());
+    let len = field::least(n as usize, string.len());
     out[4] = 2;
     field::put_u16(out, 6, len as u16);
     bytes::lay(out, 8, &string[..len]);
@@ -107,7 +101,7 @@ fn lay_string(out: &mut [u8], string: &[u8], n: u16)
 // The record of an id and a value; a string's bytes stand beside its length.
 pub(crate) fn lay_record(out: &mut [u8], id: i32, value: Value, string: &[u8])
     requires { ⌜ (length (now out) ≡ width) × (length (now string) ≤ 256) ⌝ }
-    ensures { λ _. ⌜ now (out .exit) ≡ recordOf (entry id (meant value (now (string .entry)))) ⌝ }
+    ensures { λ _. ⌜ now (out .exit) ≡ recordOf (entry id (nodeValue value (now (string .entry)))) ⌝ }
 {
     bytes::clear(out);
     field::put_i32(out, 0, id);

@@ -6,26 +6,23 @@ use native.Mathlib.Omega.{arith}
 use native.Mathlib.Nat.{not-suc-le-zero}
 use borrow.Author.Tests.{eqb-true, eqb-false}
 use lib.Dec.{T, eqb}
-
-abbrev pub both : Bool → Bool → Bool
-both true b = b
-both false b = false
+use Rattle.wing_node.specs.Bool.{and}
 
 abbrev pub every : ℕ → (ℕ → Bool) → Bool
 every zero f = true
-every (suc n) f = both (f n) (every n f)
+every (suc n) f = and (f n) (every n f)
 
-pub both-left : (a b : Bool) → T (both a b) → T a
-both-left true b t = tt
-both-left false b t = t
+pub and-T-left : (a b : Bool) → T (and a b) → T a
+and-T-left true b t = tt
+and-T-left false b t = t
 
-pub both-right : (a b : Bool) → T (both a b) → T b
-both-right true b t = t
-both-right false b t = absurd t
+pub and-T-right : (a b : Bool) → T (and a b) → T b
+and-T-right true b t = t
+and-T-right false b t = absurd t
 
 pub below : (f : ℕ → Bool) (n : ℕ) → T (every n f) → (k : ℕ) → k < n → T (f k)
 below f zero t k h = absurd (not-suc-le-zero h)
-below f (suc n) t k h = go (eqb k n) refl (both-left (f n) (every n f) t) (below f n (both-right (f n) (every n f) t) k)
+below f (suc n) t k h = go (eqb k n) refl (and-T-left (f n) (every n f) t) (below f n (and-T-right (f n) (every n f) t) k)
   where
     go : (q : Bool) → eqb k n ≡ q → T (f n) → (k < n → T (f k)) → T (f k)
     go true e p ih = subst (λ (m : ℕ). T (f m)) (sym (eqb-true k n e)) p

@@ -10,7 +10,7 @@ use denote.Ref.{RefT, now}
 use Rattle.wing_node.specs.Result.{Result, ok, refused}
 use Rattle.wing_node.specs.Signed.{signed}
 use Rattle.wing_node.specs.Types.{typeOf, unitOf}
-use Rattle.wing_node.specs.Value.{NodeValue, MaybeString, none as noString, some, stringIn, answerOf}
+use Rattle.wing_node.specs.Value.{NodeValue, MaybeString, noString, some, stringIn, answerOf}
 use Rattle.wing_node.specs.Definition.{FieldName, ParentId, Id, Index, Name, LongName, Flags, Min, Max, Steps, Count, MaxLen}
 use Rattle.wing_node.specs.Items.{walk, beginOf}
 use Rattle.wing_node.specs.Walker.{startOf, openedOf}
@@ -130,9 +130,9 @@ abbrev pub startResult : Start → Result Walk
 startResult p = openingResult (p .opening) (walk (p .at) (p .left) (p .kind))
 
 -- 01: the string, or none; its bytes are at the front of the array beside the answer
-abbrev pub stringTold : StringAnswer → List ℕ → MaybeString
-stringTold StringAnswer·None bytes = noString
-stringTold (StringAnswer·String n) bytes = some (take n bytes)
+abbrev pub stringResult : StringAnswer → List ℕ → MaybeString
+stringResult StringAnswer·None bytes = noString
+stringResult (StringAnswer·String n) bytes = some (take n bytes)
 
 -- the walker begins with the walk of the plain call, and the string getter gives 01's string
 pub record AnswersAgree : Type 0 where
@@ -141,4 +141,4 @@ pub record AnswersAgree : Type 0 where
   -- the same on plain numbers
   pub started : (body : List ℕ) → startResult (startOf (beginOf body)) ≡ begunResult (beginOf body)
   -- 01: the string getter gives the string, an integer's decimal, and none for a float
-  pub string : (v : NodeValue) → stringTold (answerOf (stringIn v) .answer) (answerOf (stringIn v) .bytes) ≡ stringIn v
+  pub string : (v : NodeValue) → stringResult (answerOf (stringIn v) .answer) (answerOf (stringIn v) .bytes) ≡ stringIn v

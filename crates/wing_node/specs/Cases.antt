@@ -1,19 +1,18 @@
 -- 01's worked case: a node definition of 15 bytes with a one-letter name passes, and 14 bytes give 4.
 use Prim.Native.Nat.{ℕ}
 use mathlib.Core.Path.{_≡_, refl}
-use mathlib.Core.Bool.{Bool, true, false}
+use mathlib.Core.Bool.{true}
 use mathlib.Core.List.{List, [], _∷_}
 use lib.ListN.{take}
-use lib.IntN.{ℤ, pos, negsuc}
+use lib.IntN.{pos, negsuc}
 use Rattle.wing_node.specs.Digits.{numberFrom, numberIn}
-use Rattle.wing_node.specs.Utf8.{holds, begins as beginsRow, firstThat, charLength, charsFrom, utf8}
+use Rattle.wing_node.specs.Utf8.{holds, begins, firstThat, charLength, charsFrom, utf8}
 use Rattle.wing_node.specs.Types.{typeOf, unitOf}
-use Rattle.wing_node.specs.Cursor.{size, content, right, fault, valueOf, begins, readAt, reads, after}
+use Rattle.wing_node.specs.Cursor.{size, content, right, fault, valueOf, contentAt, readAt, reads, after}
 use Rattle.wing_node.specs.Definition.{definitionOf, detailsAt, times}
 use Rattle.wing_node.specs.declared.node_type.NodeType.the-variants.{Node}
 use Rattle.wing_node.specs.declared.node_type.NodeUnit.the-variants.{Db}
 use Rattle.wing_node.specs.declared.definition.Details.the-variants.{None}
-use Rattle.wing_node.specs.declared.definition.Parsed.{Parsed}
 use Rattle.wing_node.specs.declared.definition.Parsed.the-variants.{Good, Refused}
 
 -- 01's definition of 15 bytes
@@ -31,19 +30,19 @@ pub passes : definitionOf fifteen ≡ Good (record {
   «read_only» = true;
   details = None;
 })
-unfolding numberFrom numberIn holds beginsRow firstThat charLength charsFrom utf8 typeOf unitOf size content right fault valueOf begins readAt reads after definitionOf detailsAt times
+unfolding numberFrom numberIn holds begins firstThat charLength charsFrom utf8 typeOf unitOf size content right fault valueOf contentAt readAt reads after definitionOf detailsAt times
 passes = refl
 
 pub short : definitionOf (take 14 fifteen) ≡ Refused 4
-unfolding numberFrom numberIn holds beginsRow firstThat charLength charsFrom utf8 typeOf unitOf size content right fault valueOf begins readAt reads after definitionOf detailsAt times
+unfolding numberFrom numberIn holds begins firstThat charLength charsFrom utf8 typeOf unitOf size content right fault valueOf contentAt readAt reads after definitionOf detailsAt times
 short = refl
 
 -- the first failing field counts: a name that is not UTF-8 comes before fields that are missing
 pub wrong : definitionOf (0 ∷ 0 ∷ 0 ∷ 1 ∷ 0 ∷ 0 ∷ 0 ∷ 2 ∷ 0 ∷ 7 ∷ 1 ∷ 200 ∷ []) ≡ Refused 5
-unfolding numberFrom numberIn holds beginsRow firstThat charLength charsFrom utf8 typeOf unitOf size content right fault valueOf begins readAt reads after definitionOf detailsAt times
+unfolding numberFrom numberIn holds begins firstThat charLength charsFrom utf8 typeOf unitOf size content right fault valueOf contentAt readAt reads after definitionOf detailsAt times
 wrong = refl
 
 -- in a field the length comes before UTF-8
 pub past-end : definitionOf (0 ∷ 0 ∷ 0 ∷ 1 ∷ 0 ∷ 0 ∷ 0 ∷ 2 ∷ 0 ∷ 7 ∷ 2 ∷ 200 ∷ []) ≡ Refused 4
-unfolding numberFrom numberIn holds beginsRow firstThat charLength charsFrom utf8 typeOf unitOf size content right fault valueOf begins readAt reads after definitionOf detailsAt times
+unfolding numberFrom numberIn holds begins firstThat charLength charsFrom utf8 typeOf unitOf size content right fault valueOf contentAt readAt reads after definitionOf detailsAt times
 past-end = refl

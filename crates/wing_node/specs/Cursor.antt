@@ -1,7 +1,7 @@
 -- Reading field by field: a field is a number of so many bytes, or a string, a length byte and then so many bytes of UTF-8.
 -- In the first part `s` is a list of bytes that begins with the field.
 use Prim.Native.Nat.{ℕ, _+_}
-use mathlib.Core.Bool.{Bool, true, false}
+use mathlib.Core.Bool.{Bool, true}
 use mathlib.Core.List.{List, [], _∷_}
 use lib.Dec.{ltb, eqb}
 use lib.ListN.{length, take, drop, getD}
@@ -42,9 +42,9 @@ valueOf (number w) s = big (take w s)
 valueOf string s = getD s 0 0
 
 -- where its bytes begin, of a field that stands at a place
-unfoldable pub begins : Field → ℕ → ℕ
-begins (number w) at = at
-begins string at = at + 1
+unfoldable pub contentAt : Field → ℕ → ℕ
+contentAt (number w) at = at
+contentAt string at = at + 1
 
 -- a cursor: the place reached, and the refusal met or 0
 abbrev pub cursor : ℕ → ℕ → Cursor
@@ -79,7 +79,7 @@ unfoldable pub readAt : Field → List ℕ → Cursor → FieldRead
 readAt f body c =
     if (eqb (c .refused) 0)
     (if (eqb (fault f (from body c)) 0)
-    (fieldRead (valueOf f (from body c)) (begins f (c .at)) (cursor (c .at + size f (from body c)) 0))
+    (fieldRead (valueOf f (from body c)) (contentAt f (c .at)) (cursor (c .at + size f (from body c)) 0))
     (nothing (stopped c (fault f (from body c)))))
     (nothing c)
 

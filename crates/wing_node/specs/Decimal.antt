@@ -30,9 +30,9 @@ unfoldable pub lastDigits : ℕ → ℕ → List ℕ
 lastDigits k n = map ascii (digitsIn 10 k n)
 
 -- the number that digits in ASCII spell
-unfoldable pub numberOf : List ℕ → ℕ
-numberOf s = numberIn 10 (map (λ a. a - 0x30) s)
+unfoldable pub numberSpelled : List ℕ → ℕ
+numberSpelled s = numberIn 10 (map (λ a. a - 0x30) s)
 
 -- the integer that a text spells: the number of its digits, negated after a minus sign
 unfoldable pub integerOf : List ℕ → ℤ
-integerOf s = if (eqb (getD s 0 0) 0x2d) (negℤ (pos (numberOf (drop 1 s)))) (pos (numberOf s))
+integerOf s = if (eqb (getD s 0 0) 0x2d) (negℤ (pos (numberSpelled (drop 1 s)))) (pos (numberSpelled s))

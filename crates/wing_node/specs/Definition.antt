@@ -1,6 +1,5 @@
 -- A definition: which fields stand in a body in which order, and what they say.
 use Prim.Native.Nat.{ℕ, zero, suc, _/_, _%_}
-use mathlib.Core.Bool.{Bool, true, false}
 use mathlib.Core.List.{List, [], _∷_, _++_, map}
 use lib.Dec.{eqb}
 use lib.ListN.{getD}
@@ -91,24 +90,24 @@ abbrev pub spanOf : FieldRead → Span
 spanOf r = record { start = r .start; len = r .value }
 
 -- the number of a field among the names
-abbrev pub order : FieldName → ℕ
-order ParentId = 0
-order Id = 1
-order Index = 2
-order Name = 3
-order LongName = 4
-order Flags = 5
-order Min = 6
-order Max = 7
-order Steps = 8
-order Count = 9
-order MaxLen = 10
+abbrev pub nameNumber : FieldName → ℕ
+nameNumber ParentId = 0
+nameNumber Id = 1
+nameNumber Index = 2
+nameNumber Name = 3
+nameNumber LongName = 4
+nameNumber Flags = 5
+nameNumber Min = 6
+nameNumber Max = 7
+nameNumber Steps = 8
+nameNumber Count = 9
+nameNumber MaxLen = 10
 
 -- the field of a name among those that were read: nothing if it is not among them
 abbrev pub look : List FieldName → List FieldRead → FieldName → FieldRead
 look [] rs k = nothing start
 look (j ∷ js) [] k = nothing start
-look (j ∷ js) (r ∷ rs) k = if (eqb (order j) (order k)) r (look js rs k)
+look (j ∷ js) (r ∷ rs) k = if (eqb (nameNumber j) (nameNumber k)) r (look js rs k)
 
 -- the fields of these names, read one after the other from a cursor on
 abbrev pub named : List FieldName → List ℕ → Cursor → FieldName → FieldRead

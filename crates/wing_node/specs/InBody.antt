@@ -6,7 +6,7 @@ use lib.ListN.{drop}
 use Rattle.wing_node.specs.Bool.{if}
 use Rattle.wing_node.specs.Cursor.{Field, number, string, size, content, valueOf}
 use Rattle.wing_node.specs.Types.{typeOf, hasItems}
-use Rattle.wing_node.specs.Definition.{FieldName, Flags, Count, order, form, header, added, itemsOf}
+use Rattle.wing_node.specs.Definition.{FieldName, Flags, Count, nameNumber, form, header, added, itemsOf}
 use Rattle.wing_node.specs.Standing.{extent, beyond}
 use Rattle.wing_node.specs.Items.{walk}
 use Rattle.wing_node.specs.Answers.{ItemValues, none, strings, float, DefinitionValues, valuesBy}
@@ -17,12 +17,12 @@ use Rattle.wing_node.specs.declared.items.Walk.{Walk}
 -- the number that the field of a name holds, of fields of these names in a row; 0 where it is not among them
 unfoldable pub numberNamed : List FieldName → FieldName → List ℕ → ℕ
 numberNamed [] k s = 0
-numberNamed (j ∷ js) k s = if (eqb (order j) (order k)) (valueOf (form j) s) (numberNamed js k (drop (size (form j) s) s))
+numberNamed (j ∷ js) k s = if (eqb (nameNumber j) (nameNumber k)) (valueOf (form j) s) (numberNamed js k (drop (size (form j) s) s))
 
 -- the bytes that it holds
 unfoldable pub bytesNamed : List FieldName → FieldName → List ℕ → List ℕ
 bytesNamed [] k s = []
-bytesNamed (j ∷ js) k s = if (eqb (order j) (order k)) (content (form j) s) (bytesNamed js k (drop (size (form j) s) s))
+bytesNamed (j ∷ js) k s = if (eqb (nameNumber j) (nameNumber k)) (content (form j) s) (bytesNamed js k (drop (size (form j) s) s))
 
 -- 01: type = flags div 16 mod 16
 abbrev pub typeIn : List ℕ → NodeType

@@ -1,6 +1,5 @@
 -- The items of a definition, one after the other and by number.
 use Prim.Native.Nat.{ℕ, _-_}
-use mathlib.Core.Bool.{Bool, true, false}
 use mathlib.Core.List.{List}
 use lib.Dec.{eqb, leb}
 use Rattle.wing_node.specs.Bool.{if}
@@ -9,7 +8,7 @@ use Rattle.wing_node.specs.Types.{hasItems}
 use Rattle.wing_node.specs.Definition.{itemAt, itemsOf, definitionOf}
 use Rattle.wing_node.specs.declared.node_type.NodeType.{NodeType}
 use Rattle.wing_node.specs.declared.definition.Item.{Item}
-use Rattle.wing_node.specs.declared.definition.Item.the-variants.{None, Strings, Float, Refused}
+use Rattle.wing_node.specs.declared.definition.Item.the-variants.{None, Refused}
 use Rattle.wing_node.specs.declared.definition.ItemRead.{ItemRead}
 use Rattle.wing_node.specs.declared.definition.Details.{Details}
 use Rattle.wing_node.specs.declared.definition.Details.the-variants.{None as noDetails, Floats, Integers, Items, String as maxLen}

@@ -28,7 +28,7 @@ Fits string v = utf8 v ≡ true
 
 -- each fits its form
 pub data FitsAll : List Field → List (List ℕ) → Type 0 where
-  none : FitsAll [] []
+  empty : FitsAll [] []
   more : {f : Field} {v : List ℕ} {fs : List Field} {vs : List (List ℕ)} → Fits f v → FitsAll fs vs → FitsAll (f ∷ fs) (v ∷ vs)
 
 -- its number
@@ -42,12 +42,12 @@ contents [] body c = []
 contents (f ∷ fs) body c = content f (from body c) ∷ contents fs body (readAt f body c .next)
 
 -- what a field that was read held, from what the reading says: a number's bytes, a string's place and length
-abbrev pub held : List ℕ → Field → FieldRead → List ℕ
-held body (number w) r = bytesOf w (r .value)
-held body string r = take (r .value) (drop (r .start) body)
+abbrev pub contentRead : List ℕ → Field → FieldRead → List ℕ
+contentRead body (number w) r = bytesOf w (r .value)
+contentRead body string r = take (r .value) (drop (r .start) body)
 
 -- what fields held, told by what was read of them
-abbrev pub heldAll : List ℕ → List Field → List FieldRead → List (List ℕ)
-heldAll body [] rs = []
-heldAll body (f ∷ fs) [] = []
-heldAll body (f ∷ fs) (r ∷ rs) = held body f r ∷ heldAll body fs rs
+abbrev pub contentsRead : List ℕ → List Field → List FieldRead → List (List ℕ)
+contentsRead body [] rs = []
+contentsRead body (f ∷ fs) [] = []
+contentsRead body (f ∷ fs) (r ∷ rs) = contentRead body f r ∷ contentsRead body fs rs

@@ -45,7 +45,7 @@ beginSays body = begunResult (beginOf body)
 -- beginning a walk
 pub record Beginning (body : List ℕ) : Type 0 where
   -- 01: beginning on a body that the parser refuses gives its 4 or 5
-  pub turned : (n : ℕ) → (beginSays body ≡ refused n) ↔ (parserSays body ≡ refused n)
+  pub refusals : (n : ℕ) → (beginSays body ≡ refused n) ↔ (parserSays body ≡ refused n)
   -- 01: it begins at the first item
   pub begun : Takes body → beginSays body ≡ ok (walkIn body)
 
@@ -94,7 +94,7 @@ numberSays body n = itemResult body (itemNumbered body n)
 -- the item of a number
 pub record ByNumber (body : List ℕ) (n : ℕ) : Type 0 where
   -- 01: a body that the parser refuses gives its 4 or 5 before 14; 14: item number not below its count
-  pub turned : (k : ℕ) → (numberSays body n ≡ refused k) ↔ ((parserSays body ≡ refused k) ⊎ (Takes body × (countIn body ≤ n) × (k ≡ 14)))
+  pub refusals : (k : ℕ) → (numberSays body n ≡ refused k) ↔ ((parserSays body ≡ refused k) ⊎ (Takes body × (countIn body ≤ n) × (k ≡ 14)))
   -- else an item
   pub given : Takes body → n < countIn body → IsItem (numberSays body n)
   -- and it says what the item of that number holds

@@ -1,6 +1,5 @@
 -- Signed numbers by their bits: two's complement at k + 1 bits.
 use Prim.Native.Nat.{ℕ, suc, _+_, _-_, _^_, _<_}
-use mathlib.Core.Bool.{Bool, true, false}
 use lib.Dec.{ltb}
 use lib.IntN.{ℤ, pos, negsuc}
 use lib.Signed.{mag}

@@ -29,7 +29,7 @@ beyond fs s = drop (extent fs s) s
 
 -- each field is whole, and its string is UTF-8, where the one before it ends
 pub data Stand : List Field → List ℕ → Type 0 where
-  none : {s : List ℕ} → Stand [] s
+  empty : {s : List ℕ} → Stand [] s
   more : {f : Field} {fs : List Field} {s : List ℕ} → Whole f s → right f s ≡ true → Stand fs (drop (size f s) s) → Stand (f ∷ fs) s
 
 -- 01: the first failing field counts. Some fields stand, and the next one fails where they end

@@ -45,7 +45,7 @@ pub data Matches : List Range → List ℕ → Type 0 where
 
 -- UTF8-octets: characters one after the other
 pub data Octets : List ℕ → Type 0 where
-  none : Octets []
+  empty : Octets []
   char : {row : List Range} {c s : List ℕ} → List·Memᴰ row chars → Matches row c → Octets s → Octets (c ++ s)
 
 -- the same grammar as tests that compute, from here on

@@ -16,10 +16,10 @@ pub data NodeValue : Type 0 where
   string : List ℕ → NodeValue
 
 -- what a Value and the bytes beside it stand for; a length over 256 reaches no further than the 256 bytes
-unfoldable pub meant : Value → List ℕ → NodeValue
-meant (Integer x) s = integer x
-meant (Float bits) s = float bits
-meant (String n) s = string (take n s)
+unfoldable pub nodeValue : Value → List ℕ → NodeValue
+nodeValue (Integer x) s = integer x
+nodeValue (Float bits) s = float bits
+nodeValue (String n) s = string (take n s)
 
 -- 01: the integer getter gives 0 for other kinds
 unfoldable pub intIn : Value → ℤ
@@ -29,16 +29,16 @@ intIn (String n) = pos 0
 
 -- a string, or none
 pub data MaybeString : Type 0 where
-  none : MaybeString
+  noString : MaybeString
   some : List ℕ → MaybeString
 
 -- 01: the string getter gives the string, an integer's decimal, and none for a float
 unfoldable pub stringIn : NodeValue → MaybeString
 stringIn (integer x) = some (decimal x)
-stringIn (float bits) = none
+stringIn (float bits) = noString
 stringIn (string s) = some s
 
 -- the getter's answer: the length, with the bytes in an array of 256, zero-filled
 unfoldable pub answerOf : MaybeString → StringRead
-answerOf none = record { answer = None; bytes = replicate 256 0 }
+answerOf noString = record { answer = None; bytes = replicate 256 0 }
 answerOf (some s) = record { answer = found (length s); bytes = s ++ replicate (256 - length s) 0 }

@@ -24,54 +24,54 @@ inRow [] = []
 inRow (p ∷ ps) = p .0 ∷ p .1 ∷ inRow ps
 
 -- 01: short and long string, or 4 bytes of float bits and a string
-abbrev pub itemHeld : NodeType → Pair → ItemValues
-itemHeld Node p = none
-itemHeld LinearFloat p = none
-itemHeld LogarithmicFloat p = none
-itemHeld FaderLevel p = none
-itemHeld Integer p = none
-itemHeld StringEnum p = strings (p .0) (p .1)
-itemHeld FloatEnum p = float (big (p .0)) (p .1)
-itemHeld String p = none
+abbrev pub pairValues : NodeType → Pair → ItemValues
+pairValues Node p = none
+pairValues LinearFloat p = none
+pairValues LogarithmicFloat p = none
+pairValues FaderLevel p = none
+pairValues Integer p = none
+pairValues StringEnum p = strings (p .0) (p .1)
+pairValues FloatEnum p = float (big (p .0)) (p .1)
+pairValues String p = none
 
--- `held` gives the bytes that the field of each name holds: the number that they make
+-- `bytes` gives the bytes that the field of each name holds: the number that they make
 abbrev pub numbersOf : (FieldName → List ℕ) → FieldName → ℕ
-numbersOf held k = numberOf (form k) (held k)
+numbersOf bytes k = numberOf (form k) (bytes k)
 
 -- 01: type = flags div 16 mod 16
 abbrev pub kindOf : (FieldName → List ℕ) → NodeType
-kindOf held = typeOf (numbersOf held Flags / 16 % 16)
+kindOf bytes = typeOf (numbersOf bytes Flags / 16 % 16)
 
 -- the fields before the items
 abbrev pub namesOf : (FieldName → List ℕ) → List FieldName
-namesOf held = header ++ added (kindOf held)
+namesOf bytes = header ++ added (kindOf bytes)
 
 -- they, one after the other
 abbrev pub frontOf : (FieldName → List ℕ) → List ℕ
-frontOf held = laidAll (map form (namesOf held)) (map held (namesOf held))
+frontOf bytes = laidAll (map form (namesOf bytes)) (map bytes (namesOf bytes))
 
 -- 01: types without items have count 0
 abbrev pub countOf : (FieldName → List ℕ) → ℕ
-countOf held = if (hasItems (kindOf held)) (numbersOf held Count) 0
+countOf bytes = if (hasItems (kindOf bytes)) (numbersOf bytes Count) 0
 
 -- the items, as many as the count says
 abbrev pub listOf : (FieldName → List ℕ) → List Pair → List ℕ
-listOf held pairs = laidAll (itemsOf (kindOf held) (countOf held)) (inRow pairs)
+listOf bytes pairs = laidAll (itemsOf (kindOf bytes) (countOf bytes)) (inRow pairs)
 
 -- the whole; bytes may follow
 abbrev pub bodyOf : (FieldName → List ℕ) → List Pair → List ℕ → List ℕ
-bodyOf held pairs rest = frontOf held ++ (listOf held pairs ++ rest)
+bodyOf bytes pairs rest = frontOf bytes ++ (listOf bytes pairs ++ rest)
 
 -- each field fits its form
-pub record Fit (held : FieldName → List ℕ) (pairs : List Pair) : Type 0 where
-  pub fields : FitsAll (map form (namesOf held)) (map held (namesOf held))
-  pub items : FitsAll (itemsOf (kindOf held) (countOf held)) (inRow pairs)
+pub record Fit (bytes : FieldName → List ℕ) (pairs : List Pair) : Type 0 where
+  pub fields : FitsAll (map form (namesOf bytes)) (map bytes (namesOf bytes))
+  pub items : FitsAll (itemsOf (kindOf bytes) (countOf bytes)) (inRow pairs)
 
 -- what is written reads back as the same fields, those that the type lacks left out
 pub record ReadsBack : Type 0 where
   -- the parser takes it and says what each field holds
-  pub definition : (held : FieldName → List ℕ) (pairs : List Pair) (rest : List ℕ) → Fit held pairs →
-      parserSays (bodyOf held pairs rest) ≡ ok (valuesBy (numbersOf held) held (length (frontOf held)))
+  pub definition : (bytes : FieldName → List ℕ) (pairs : List Pair) (rest : List ℕ) → Fit bytes pairs →
+      parserSays (bodyOf bytes pairs rest) ≡ ok (valuesBy (numbersOf bytes) bytes (length (frontOf bytes)))
   -- and the item of each number says what the pair of that number holds
-  pub items : (held : FieldName → List ℕ) (pairs : List Pair) (rest : List ℕ) → Fit held pairs → (n : ℕ) → n < countOf held →
-      numberSays (bodyOf held pairs rest) n ≡ ok (itemHeld (kindOf held) (getD pairs n ([], [])))
+  pub items : (bytes : FieldName → List ℕ) (pairs : List Pair) (rest : List ℕ) → Fit bytes pairs → (n : ℕ) → n < countOf bytes →
+      numberSays (bodyOf bytes pairs rest) n ≡ ok (pairValues (kindOf bytes) (getD pairs n ([], [])))

@@ -1,7 +1,7 @@
 // Number fields in lent bytes: big-endian, 16 and 32 bits, unsigned and signed.
 // A field that is not whole reads as 0, and writing one that has no room leaves the bytes as they were.
 ghost use mathlib.Core.Path.{_≡_};
-ghost use Prim.Native.Nat.{_-_};
+ghost use Prim.Native.Nat.{_-_, min};
 ghost use lib.ListN.{length};
 ghost use Rattle.wing_node.specs.Signed.{signed, unsigned};
 ghost use Rattle.wing_node.specs.Field.{big, bytesOf, fieldAt, put, putAt};
@@ -12,6 +12,13 @@ pub fn left(s: &[u8], at: usize) -> usize
     ensures { λ r. ⌜ r ≡ length (now (s .entry)) - at ⌝ }
 {
     if at < s.len() { s.len() - at } else { 0 }
+}
+
+// The smaller of two lengths.
+pub fn least(a: usize, b: usize) -> usize
+    ensures { λ r. ⌜ r ≡ min a b ⌝ }
+{
+    if a < b { a } else { b }
 }
 
 fn number_16(a: u8, b: u8) -> u16
@@ -90,13 +97,6 @@ pub fn u32_at(s: &[u8], at: usize) -> u32
     number_32(s[at], s[at + 1], s[at + 2], s[at + 3])
 }
 
-// The same of 16 bits, signed.
-pub fn i16_at(s: &[u8], at: usize) -> i16
-    ensures { λ r. ⌜ r ≡ signed 15 (fieldAt 2 (now (s .entry)) at) ⌝ }
-{
-    to_i16(u16_at(s, at))
-}
-
 // The same of 32 bits, signed.
 pub fn i32_at(s: &[u8], at: usize) -> i32
     ensures { λ r. ⌜ r ≡ signed 31 (fieldAt 4 (now (s .entry)) at) ⌝ }
@@ -128,13 +128,6 @@ pub fn put_u32(out: &mut [u8], at: usize, n: u32) -> bool
     out[at + 2] = (n / 256 % 256) as u8;
     out[at + 3] = (n % 256) as u8;
     true
-}
-
-// The same of 16 bits, signed.
-pub fn put_i16(out: &mut [u8], at: usize, x: i16) -> bool
-    ensures { λ r. ⌜ put r (now (out .exit)) ≡ putAt (bytesOf 2 (unsigned 15 x)) at (now (out .entry)) ⌝ }
-{
-    put_u16(out, at, of_i16(x))
 }
 
 // The same of 32 bits, signed.

@@ -56,7 +56,7 @@ fn second_high(lead: u8) -> u8
 }
 
 // Whether a byte from low to high stands at i.
-fn held(s: &[u8], i: usize, low: u8, high: u8) -> bool
+fn is_in_range(s: &[u8], i: usize, low: u8, high: u8) -> bool
     ensures { λ r. ⌜ r ≡ begins ((low to high) ∷ []) (drop i (now (s .entry))) ⌝ }
 {
     if i < s.len() {
@@ -74,7 +74,7 @@ fn tails(s: &[u8], i: usize, n: usize) -> bool
     let mut at = i;
     let mut left = n;
     while left > 0 {
-        if held(s, at, 0x80, 0xbf) {
+        if is_in_range(s, at, 0x80, 0xbf) {
             at += 1;
             left -= 1;
         } else {
@@ -94,7 +94,7 @@ fn char_length(s: &[u8], i: usize) -> usize
         if length < 2 {
             return length;
         }
-        if held(s, i + 1, second_low(lead), second_high(lead)) {
+        if is_in_range(s, i + 1, second_low(lead), second_high(lead)) {
             if tails(s, i + 2, length - 2) {
                 return length;
             }

@@ -6,7 +6,7 @@ ghost use lib.IntN.{natAbs};
 ghost use Rattle.wing_node.specs.Bytes.{placed, zeroed};
 ghost use Rattle.wing_node.specs.Decimal.{digits, lastDigits};
 ghost use Rattle.wing_node.specs.Decimal.{decimal as decimalOf};
-ghost use Rattle.wing_node.specs.Value.{meant, intIn, stringIn, answerOf, some};
+ghost use Rattle.wing_node.specs.Value.{nodeValue, intIn, stringIn, answerOf, some};
 
 // A node's value. A string's bytes stand beside it, in an array of 256; the number is its length.
 pub enum Value {
@@ -39,7 +39,7 @@ pub fn get_int(v: Value) -> i32
 
 // 01: the string getter gives the string, an integer's decimal, and none for a float.
 pub fn get_string(v: Value, bytes: [u8; 256]) -> StringRead
-    ensures { λ r. ⌜ r ≡ answerOf (stringIn (meant v bytes)) ⌝ }
+    ensures { λ r. ⌜ r ≡ answerOf (stringIn (nodeValue v bytes)) ⌝ }
 {
     match v {
         Value::Integer(x) => decimal(x),

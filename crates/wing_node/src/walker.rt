@@ -105,7 +105,7 @@ pub fn step<'a>(w: Walker<'a>) -> Stepped<'a>
     }
 }
 
-// begin for callers that keep plain numbers, as the borrow checker covers no caller that holds a walker.
+// Test support: begin for programs that cannot hold a walker, since the borrow checker covers none that does; on plain numbers.
 pub fn begin_over(body: &[u8]) -> Start
     ensures { λ r. ⌜ r ≡ startOf (beginOf (now (body .entry))) ⌝ }
 {
@@ -118,7 +118,7 @@ pub fn begin_over(body: &[u8]) -> Start
     }
 }
 
-// step likewise.
+// Test support: step likewise.
 pub fn step_over(body: &[u8], w: Walk) -> Step
     ensures { λ r. ⌜ r ≡ stepAt (now (body .entry)) (w .at) (w .left) (w .kind) ⌝ }
 {

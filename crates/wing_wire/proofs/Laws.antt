@@ -4,6 +4,7 @@ use mathlib.Core.Path.{_≡_, _∙_}
 use Prim.Native.Nat.{ℕ}
 use mathlib.Core.List.{[]}
 use lib.ListN.{replicate, length-replicate}
+use Rattle.wing_node.proofs.Branches.{and-left}
 use Rattle.wing_node.proofs.Characters.Grammar.{decides}
 use Rattle.wing_wire.specs.State.{soundEscape, soundToken, soundState}
 use Rattle.wing_wire.specs.Stream.{Fed, fedFrom, feedOf}
@@ -11,7 +12,6 @@ use Rattle.wing_wire.specs.DecoderLaws.{Handler, stateIn, NextLaws, Feed
 use Rattle.wing_wire.specs.WriterLaws.{WriterLaws}
 use Rattle.wing_wire.specs.declared.state.Pending.the-variants.{None}
 use Rattle.wing_wire.proofs.Reading.Overs.{length-over}
-use Rattle.wing_wire.proofs.Reading.Branches.{and-left}
 use Rattle.wing_wire.proofs.Reading.Pieces.{pending-same, feed-pieces}
 use Rattle.wing_wire.proofs.Reading.Steps.{next-in, next-more, next-takes, feed-ends, feed-again}
 use Rattle.wing_wire.proofs.Reading.Bounds.{advance-bounded}
@@ -38,7 +38,7 @@ feed-laws =
     record {
       ends = λ h x bytes p. feed-ends h (x .control) (x .store) (x .memo) bytes p;
       again = λ h x bytes p. feed-again h (x .control) (x .store) (x .memo) bytes p;
-      none = λ h x e. feed-none h x e;
+      empty = λ h x e. feed-none h x e;
       pieces = λ h x a b. feed-pieces h x a b;
       along = λ h k f e x bytes. feed-along h k f e x bytes;
       channel = λ h ch node s m n l. channel-set h ch node s m n l;

@@ -11,7 +11,6 @@ pub mod Pieces
 pub mod Inners
 pub mod Plains
 pub mod Steps
-pub mod Branches
 pub mod Bounds
 pub mod Sound
 pub mod Ranges

@@ -2,6 +2,7 @@
 use mathlib.Core.Path.{_≡_, refl}
 use mathlib.Core.List.{map}
 use Rattle.wing_node.specs.Utf8.{holds, begins, firstThat, charLength, charsFrom, utf8}
+use Rattle.wing_node.specs.Digits.{digitsIn, numberIn, numberFrom}
 use Rattle.wing_wire.specs.Token.{ruleIn, ruleOf, widthOf}
 use Rattle.wing_wire.specs.State.{zeros, soundPending, soundEscape, soundCounts, storedBy, soundToken, soundState, freshState}
 use Rattle.wing_wire.specs.Escape.{otherOf, escapedOf, plainOf, decodeOf}
@@ -10,7 +11,6 @@ use Rattle.wing_wire.specs.Stream.{settleOf, firstOf, followOf, runOf, a
 use Rattle.wing_wire.specs.Reader.{eventOf, stringBeside, bodyBeside, nextOf}
 use Rattle.wing_wire.specs.Units.{unitsOf}
 use Rattle.wing_wire.specs.Cases.{Case, unitsAre, channelIs, reads, setWrites, setEnds, packetReads, cases}
-use Rattle.wing_node.specs.Digits.{digitsIn, numberIn, numberFrom}
 use Rattle.wing_wire.specs.Write.{escaped}
 use Rattle.wing_wire.specs.Command.{integerBytes, valueBytes, idBytes, setBytes}
 use Rattle.wing_wire.specs.Meter.{readings, packetOf}

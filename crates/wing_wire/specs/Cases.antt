@@ -30,12 +30,12 @@ abbrev pub case : Outcome → Outcome → Case
 case got wanted = record { got = got; wanted = wanted }
 
 -- a unit that is appended to the body
-abbrev pub appended : ℕ → StreamUnit
-appended u = streamUnit u true
+abbrev pub appendedUnit : ℕ → StreamUnit
+appendedUnit u = streamUnit u true
 
 -- a unit of which nothing is appended
-abbrev pub bare : ℕ → StreamUnit
-bare u = streamUnit u false
+abbrev pub bareUnit : ℕ → StreamUnit
+bareUnit u = streamUnit u false
 
 -- the units that bytes give; feed-units (proofs/Reading/ByUnits.antt) says that a feed takes exactly these
 unfoldable pub unitsAre : List ℕ → List StreamUnit → Case
@@ -67,15 +67,15 @@ packetReads p id rs = case (packet (packetOf p (pos 0 ∷ pos 0 ∷ []))) (packe
 unfoldable pub cases : List Case
 cases =
     -- fresh: df 41 → 41
-    unitsAre (0xdf ∷ 0x41 ∷ []) (appended 0x41 ∷ []) ∷
+    unitsAre (0xdf ∷ 0x41 ∷ []) (appendedUnit 0x41 ∷ []) ∷
     -- df d1 df 41 → df, 41
-    unitsAre (0xdf ∷ 0xd1 ∷ 0xdf ∷ 0x41 ∷ []) (appended 0xdf ∷ appended 0x41 ∷ []) ∷
+    unitsAre (0xdf ∷ 0xd1 ∷ 0xdf ∷ 0x41 ∷ []) (appendedUnit 0xdf ∷ appendedUnit 0x41 ∷ []) ∷
     -- df df de → df, df, one appended
-    unitsAre (0xdf ∷ 0xdf ∷ 0xde ∷ []) (bare 0xdf ∷ appended 0xdf ∷ []) ∷
+    unitsAre (0xdf ∷ 0xdf ∷ 0xde ∷ []) (bareUnit 0xdf ∷ appendedUnit 0xdf ∷ []) ∷
     -- df dd → channel 13
     channelIs (0xdf ∷ 0xdd ∷ []) (pos 13) ∷
     -- df de → unit df
-    unitsAre (0xdf ∷ 0xde ∷ []) (appended 0xdf ∷ []) ∷
+    unitsAre (0xdf ∷ 0xde ∷ []) (appendedUnit 0xdf ∷ []) ∷
     -- 3f → 63
     reads (0x3f ∷ []) (value (integer (pos 63))) ∷
     -- 40 → none

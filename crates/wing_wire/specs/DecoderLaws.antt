@@ -70,7 +70,7 @@ pub record FeedLaws : Type 1 where
       })
       (drop (nextIn x bytes .taken) bytes)
   -- no bytes, where nothing is pending, change nothing
-  pub none : {M : Type 0} (h : Handler M) (x : Fed M) → x .control .escape .pending ≡ None → feedOf h x [] ≡ x
+  pub empty : {M : Type 0} (h : Handler M) (x : Fed M) → x .control .escape .pending ≡ None → feedOf h x [] ≡ x
   -- bytes in two pieces, at any split, are the bytes at once
   pub pieces : {M : Type 0} (h : Handler M) (x : Fed M) (a b : List ℕ) → feedOf h x (a ++ b) ≡ feedOf h (feedOf h x a) b
   -- a map between what two handlers make, which agrees with them at each answer, agrees with them over the feed; the decoder is the same in both

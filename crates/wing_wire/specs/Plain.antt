@@ -91,30 +91,30 @@ abbrev pub isFree : Answered → Bool
 isFree t = if (isMore (t .answer)) (isPlain (t .control .escape)) false
 
 -- what a step leaves, and the place of the byte after it
-pub record StepAt : Type 0 where
+pub record SteppedEffect : Type 0 where
   pub effect : StepEffect
   pub at : ℕ
 
 -- the same by its parts
-abbrev pub stepAt : StepEffect → ℕ → StepAt
-stepAt h n = record { effect = h; at = n }
+abbrev pub steppedEffect : StepEffect → ℕ → SteppedEffect
+steppedEffect h n = record { effect = h; at = n }
 
 -- the same of one unit
-abbrev pub stepped : Stepped → List ℕ → StepAt
-stepped r s = stepAt (stepEffect (r .answered) s) (r .at)
+abbrev pub stepped : Stepped → List ℕ → SteppedEffect
+stepped r s = steppedEffect (stepEffect (r .answered) s) (r .at)
 
 -- the control and the store after such a run
-unfoldable pub aheadOf : Control → List ℕ → ℕ → List ℕ → StepAt
+unfoldable pub aheadOf : Control → List ℕ → ℕ → List ℕ → SteppedEffect
 aheadOf c s n bs =
-    stepAt (noAnswer (control (c .escape) (c .node) (tokenAhead (c .token) s n bs .ahead .token)) (tokenAhead (c .token) s n bs .store))
+    steppedEffect (noAnswer (control (c .escape) (c .node) (tokenAhead (c .token) s n bs .ahead .token)) (tokenAhead (c .token) s n bs .store))
     (tokenAhead (c .token) s n bs .ahead .at)
 
 -- the inner units, where nothing is escaped or pending
-unfoldable pub onAhead : StepEffect → List ℕ → ℕ → StepAt
-onAhead h bytes n = if (isFree (h .answered)) (aheadOf (h .answered .control) (h .store) n (drop n bytes)) (stepAt h n)
+unfoldable pub onAhead : StepEffect → List ℕ → ℕ → SteppedEffect
+onAhead h bytes n = if (isFree (h .answered)) (aheadOf (h .answered .control) (h .store) n (drop n bytes)) (steppedEffect h n)
 
 -- one unit, and the inner units after it
-unfoldable pub onceOf : Control → List ℕ → List ℕ → ℕ → StepAt
+unfoldable pub onceOf : Control → List ℕ → List ℕ → ℕ → SteppedEffect
 onceOf c s bytes n =
     onAhead (givenOf (decodeNextOf (c .escape) bytes n .unit) (decodeNextOf (c .escape) bytes n .escape) c s) bytes (decodeNextOf (c .escape) bytes n .at)
 

@@ -2,9 +2,10 @@
 use Prim.Native.Nat.{ℕ, _≤_, _<_}
 use mathlib.Core.Bool.{true, false}
 use mathlib.Core.Path.{_≡_}
-use mathlib.Core.List.{List, [], _∷_, _++_}
+use mathlib.Core.List.{List, [], _∷_}
 use lib.IntN.{ℤ}
 use lib.ListN.{length}
+use Rattle.wing_node.specs.Bytes.{joined}
 use Rattle.wing_node.specs.Signed.{InBits}
 use Rattle.wing_node.specs.Utf8.{utf8}
 use Rattle.wing_node.specs.Value.{NodeValue, integer, float, string}
@@ -41,11 +42,6 @@ RoundTrip = (ch node id : ℤ) (s : List ℕ) (v : NodeValue) → InBits 31 id �
 abbrev pub fedRest : {M : Type 0} → ℤ → ℤ → List ℕ → M → Fed M
 fedRest ch node s m = record { control = restState ch node s .control; store = s; memo = m }
 
--- pieces one after the other
-abbrev pub joint : List (List ℕ) → List ℕ
-joint [] = []
-joint (p ∷ ps) = p ++ joint ps
-
 -- for a handler of events
 module _ {M : Type 0} (h : ℤ → Event → M → M) where
   -- feeds one after the other
@@ -56,4 +52,4 @@ module _ {M : Type 0} (h : ℤ → Event → M → M) where
   -- the same for the bytes arriving in any pieces: the value is handed on once, at its node
   abbrev pub RoundTripPieces : Type 0
   RoundTripPieces = (ch node id : ℤ) (s : List ℕ) (v : NodeValue) (m : M) (ps : List (List ℕ)) → InBits 31 id → Settable v → length s ≡ bodyLimit →
-      soundState (restState ch node s) ≡ true → joint ps ≡ setBytes id v → feeds (fedRest ch node s m) ps ≡ fedRest ch id s (h id (value v) m)
+      soundState (restState ch node s) ≡ true → joined ps ≡ setBytes id v → feeds (fedRest ch node s m) ps ≡ fedRest ch id s (h id (value v) m)

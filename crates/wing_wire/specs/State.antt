@@ -6,7 +6,7 @@ use lib.Dec.{ltb, leb, eqb}
 use lib.IntN.{ℤ, pos, negsuc}
 use lib.Signed.{leZ}
 use lib.ListN.{drop, replicate}
-use Rattle.wing_node.specs.Bool.{if}
+use Rattle.wing_node.specs.Bool.{if, and}
 use Rattle.wing_wire.specs.Token.{widthOf}
 use Rattle.wing_wire.specs.declared.token.Class.{Class}
 use Rattle.wing_wire.specs.declared.state.Pending.{Pending}
@@ -29,6 +29,10 @@ escape escaped channel pending = record { escaped = escaped; channel = channel; 
 abbrev pub control : Escape → ℤ → Token → Control
 control e node token = record { escape = e; node = node; token = token }
 
+-- a state by its parts
+abbrev pub stateOf : Control → List ℕ → State
+stateOf c s = record { control = c; store = s }
+
 -- 01: a fresh state is unescaped, channel −1, nothing pending, current node 0, between tokens
 abbrev pub freshControl : Control
 freshControl = control (escape false (negsuc 0) None) (pos 0) Between
@@ -36,11 +40,6 @@ freshControl = control (escape false (negsuc 0) None) (pos 0) Between
 -- 01: a fresh state; no unit is stored
 unfoldable pub freshState : State
 freshState = record { control = freshControl; store = replicate bodyLimit 0 }
-
--- both tests
-abbrev pub and : Bool → Bool → Bool
-and true b = b
-and false b = false
 
 -- all of the bytes are 0
 unfoldable pub zeros : List ℕ → Bool

@@ -1,6 +1,5 @@
 // The next call: one event or refusal from a lent piece of the stream, the state by value.
 ghost use mathlib.Core.Path.{_≡_};
-ghost use Prim.Native.Nat.{min};
 ghost use lib.ListN.{take};
 ghost use Rattle.wing_wire.specs.State.{bodyLimit};
 ghost use Rattle.wing_wire.specs.Stream.{advanceOf};
@@ -10,6 +9,7 @@ use crate::state::is_sound;
 use crate::stream::advance;
 use crate::stream::release;
 use crate::unit::Answer;
+use wing_node::field::least;
 
 // The answer, the bytes taken, the state after it, and the string or body, zero-filled.
 // 01: a value belongs to the current node, which is state.control.node.
@@ -19,12 +19,6 @@ pub struct Reply {
     pub state: State,
     pub string: [u8; 256],
     pub body: [u8; State::BODY_LIMIT],
-}
-
-fn least(a: usize, b: usize) -> usize
-    ensures { λ r. ⌜ r ≡ min a b ⌝ }
-{
-    if a < b { a } else { b }
 }
 
 // The first n bytes of s to the front of out, as far as both reach.

@@ -8,10 +8,11 @@ use native.Mathlib.Omega.{arith}
 use borrow.Author.Tests.{lt-ltb, le-ltb}
 use lib.IntN.{ℤ}
 use lib.ListN.{length, length-append}
+use Rattle.wing_node.specs.Bytes.{joined}
 use Rattle.wing_node.specs.Bool.{if}
 use Rattle.wing_wire.specs.Reader.{Event, more, value, body, end, refused}
 use Rattle.wing_wire.specs.State.{freshState}
-use Rattle.wing_mirror.specs.Rows.{joined, rising, In, All}
+use Rattle.wing_mirror.specs.Rows.{rising, In, All}
 use Rattle.wing_mirror.specs.Record.{Entry, entry}
 use Rattle.wing_mirror.specs.Table.{placesAllowed}
 use Rattle.wing_mirror.specs.Counts.{zeroCounts}

@@ -8,6 +8,8 @@ use borrow.Author.Tests.{leb-true}
 use lib.Dec.{leb}
 use lib.IntN.{ℤ, pos, negsuc}
 use lib.ListN.{length, replicate, length-replicate}
+use Rattle.wing_node.specs.Bytes.{joined}
+use Rattle.wing_node.proofs.Branches.{if-both}
 use Rattle.wing_node.specs.Utf8.{utf8}
 use Rattle.wing_node.specs.Value.{NodeValue, integer, float, string}
 use Rattle.wing_wire.specs.State.{bodyLimit, zeros, soundPending, soundEscape, soundCounts, storedBy, soundToken, soundState, freshState}
@@ -16,11 +18,10 @@ use Rattle.wing_wire.specs.Reader.{value, eventOf}
 use Rattle.wing_wire.specs.RoundTrip.{Settable, restState}
 use Rattle.wing_wire.specs.declared.state.State.{State}
 use Rattle.wing_wire.proofs.Laws.{decoder-laws}
-use Rattle.wing_mirror.specs.Rows.{joined, All}
+use Rattle.wing_mirror.specs.Rows.{All}
 use Rattle.wing_mirror.specs.Record.{Entry, storable, Typed}
 use Rattle.wing_mirror.specs.Machine.{StreamEvent, streamEvent, appendEvent, decodeAll, stateAfter, events}
 use Rattle.wing_mirror.specs.Recall.{setOf}
-use Rattle.wing_mirror.proofs.Records.Usables.{both}
 use Rattle.wing_mirror.proofs.Histories.Maps.{ValidEntry}
 
 -- the events of bytes that come in two pieces are those of each, one after the other
@@ -48,7 +49,7 @@ settable : (v : NodeValue) → Typed v → storable v ≡ true → Settable v
 unfolding storable
 settable (integer x) t h = t
 settable (float bits) t h = omega arith
-settable (string s) t h = let b = both (leb (length s) 256) (utf8 s) h in (leb-true (length s) 256 (b .0), b .1)
+settable (string s) t h = let b = if-both (leb (length s) 256) (utf8 s) h in (leb-true (length s) 256 (b .0), b .1)
 
 -- on channel 1, unescaped, between tokens, nothing pending and nothing stored
 abbrev channelOne : ℤ → State
@@ -69,7 +70,7 @@ entryEvent e = streamEvent (e .id) (value (e .value))
 
 -- a set order is its value at its node
 set-event : (node : ℤ) (e : Entry) → ValidEntry e → decodeAll (channelOne node) (setOf e) ≡ record { control = channelOne (e .id) .control; store = channelOne (e .id) .store; memo = entryEvent e ∷ [] }
-unfolding decodeAll
+unfolding decodeAll joined
 set-event node e h =
     decoder-laws .feed .order (λ n x rs. rs ++ (streamEvent n x ∷ [])) (pos 1) node (e .id) (replicate bodyLimit 0) (e .value) [] (setOf e ∷ []) (h .node) (settable (e .value) (h .typed) (h .text))
     (length-replicate {A = ℕ} bodyLimit 0) (channel-one-sound node) (append-nil (setOf e))
@@ -80,7 +81,7 @@ unfolding joined
 set-events [] node h = no-bytes
   where
     no-bytes : events (channelOne node) [] ≡ []
-    no-bytes = unfold decodeAll in ap (λ (x : Fed (List StreamEvent)). x .memo) (decoder-laws .feed .none appendEvent (record { control = channelOne node .control; store = channelOne node .store; memo = [] }) refl)
+    no-bytes = unfold decodeAll in ap (λ (x : Fed (List StreamEvent)). x .memo) (decoder-laws .feed .empty appendEvent (record { control = channelOne node .control; store = channelOne node .store; memo = [] }) refl)
 set-events (e ∷ es) node h =
     onward (channelOne node) (setOf e) (joined (map setOf es)) _ (set-event node e (h .0)) ∙ ap (λ (l : List StreamEvent). entryEvent e ∷ l) (set-events es (e .id) (h .1))
 

@@ -13,7 +13,7 @@ use Rattle.wing_node.specs.Field.{big}
 use Rattle.wing_node.specs.Signed.{signed, InBits}
 use Rattle.wing_node.specs.Value.{integer, float, string}
 use Rattle.wing_node.proofs.Numerals.Numbers.{Digits, digits-take, digits-drop, number-below}
-use Rattle.wing_node.proofs.Branches.{branch}
+use Rattle.wing_node.proofs.Branches.{branch, if-both}
 use Rattle.wing_node.proofs.Numerals.Signs.{unsigned-signed, signed-in}
 use Rattle.wing_wire.specs.Range.{AreBytes, noBytes, byteThen}
 use Rattle.wing_mirror.specs.Rows.{Table, places, records, rising, All}
@@ -24,7 +24,7 @@ use Rattle.wing_mirror.proofs.Tables.Images.{Stands, rising-map, all-al
 use Rattle.wing_mirror.proofs.Records.Ids.{rising-ids}
 use Rattle.wing_mirror.proofs.Histories.Maps.{ValidEntry}
 use Rattle.wing_mirror.proofs.Records.Trips.{read-storable, record-back}
-use Rattle.wing_mirror.proofs.Records.Usables.{both, room, formed, up}
+use Rattle.wing_mirror.proofs.Records.Usables.{room, formed, up}
 
 -- bytes as digits of base 256
 are-digits : (s : List ℕ) → AreBytes s → Digits 256 s
@@ -70,7 +70,7 @@ pub all-rows : (n : ℕ) (buffer : List ℕ) → width * n ≤ length buffer →
 unfolding records every
 all-rows zero buffer h b e = tt
 all-rows (suc n) buffer h b e =
-    let f = both (wellFormed (take width buffer)) (every wellFormed (records width n (drop width buffer))) e in (
+    let f = if-both (wellFormed (take width buffer)) (every wellFormed (records width n (drop width buffer))) e in (
       record { wide = length-take-le width buffer (omega arith); bytes = digits-take 256 width buffer b; form = f .0 },
       all-rows n (drop width buffer) (omega (arith, length-drop width buffer)) (digits-drop 256 width buffer b) (f .1),
     )

@@ -9,6 +9,7 @@ use borrow.Author.Tests.{le-leb, leb-true}
 use lib.Dec.{leb}
 use lib.IntN.{ℤ, pos, negsuc}
 use lib.ListN.{length, take, drop, replicate, length-replicate}
+use Rattle.wing_node.proofs.Branches.{if-both}
 use Rattle.wing_node.specs.Digits.{digitsIn}
 use Rattle.wing_node.specs.Field.{big, bytesOf}
 use Rattle.wing_node.specs.Signed.{unsigned, InBits}
@@ -19,7 +20,6 @@ use Rattle.wing_wire.specs.State.{zeros}
 use Rattle.wing_wire.specs.Reader.{over, filled}
 use Rattle.wing_wire.proofs.Laws.{decoder-laws}
 use Rattle.wing_mirror.specs.Record.{Entry, kindOf, payloadOf, recordOf, flipped, rankOf, keyOf, stringKept, wellKept, wellFormed, storable}
-use Rattle.wing_mirror.proofs.Records.Usables.{both}
 
 length-filled : (p : List ℕ) → length (filled 256 p) ≡ 256
 length-filled p = decoder-laws .filledSize 256 p
@@ -69,10 +69,10 @@ value-kept (integer x) h = ap (λ (n : ℕ). wellKept 0 n (filled 256 (bytesOf 4
 value-kept (float bits) h = ap (λ (n : ℕ). wellKept 1 n (filled 256 (bytesOf 4 bits))) (number-length bits) ∙ number-kept 1 bits (omega arith)
 value-kept (string s) h =
     ap (λ (n : ℕ). wellKept 2 n (filled 256 s)) (number-digits 256 2 (length s) (omega arith) (omega (arith, few)))
-    ∙ kept-string s few (both (leb (length s) 256) (utf8 s) h .1)
+    ∙ kept-string s few (if-both (leb (length s) 256) (utf8 s) h .1)
   where
     few : length s ≤ 256
-    few = leb-true (length s) 256 (both (leb (length s) 256) (utf8 s) h .0)
+    few = leb-true (length s) 256 (if-both (leb (length s) 256) (utf8 s) h .0)
 
 pub record-form : (e : Entry) → storable (e .value) ≡ true → wellFormed (recordOf e) ≡ true
 unfolding wellFormed recordOf digitsIn

@@ -9,11 +9,12 @@ use borrow.Author.Tests.{lt-ltb, ltb-true, leb-true, eq-eqb}
 use lib.Dec.{ltb, leb}
 use lib.IntN.{ℤ}
 use lib.ListN.{length, getD, replicate, length-replicate}
+use Rattle.wing_node.proofs.Branches.{if-both}
 use Rattle.wing_node.specs.Bool.{if}
 use Rattle.wing_node.specs.Result.{Result, ok, refused}
 use Rattle.wing_node.specs.Signed.{InBits}
 use Rattle.wing_node.specs.Utf8.{utf8}
-use Rattle.wing_node.specs.Value.{NodeValue, integer, float, string, meant}
+use Rattle.wing_node.specs.Value.{NodeValue, integer, float, string, nodeValue}
 use Rattle.wing_wire.specs.Range.{AreBytes}
 use Rattle.wing_mirror.specs.Rows.{Table, found, nothing, holds, below, numberOf, All}
 use Rattle.wing_mirror.specs.Record.{Entry, entry, rankOf, keyOf, entryIn, storable}
@@ -24,7 +25,7 @@ use Rattle.wing_mirror.specs.Lookups.{RecordOf, Lookups}
 use Rattle.wing_mirror.proofs.Tables.Chunks.{length-records}
 use Rattle.wing_mirror.proofs.Tables.Numbers.{placed, found-at}
 use Rattle.wing_mirror.proofs.Records.Ids.{same-id, same-rank}
-use Rattle.wing_mirror.proofs.Records.Usables.{both, up}
+use Rattle.wing_mirror.proofs.Records.Usables.{up}
 use Rattle.wing_mirror.proofs.Records.Formed.{take-over}
 use Rattle.wing_mirror.proofs.Records.Entries.{Row, row-valid, row-stands, each}
 
@@ -34,11 +35,11 @@ rank-one i j h k e = same-id i j (same-rank i j h k ∙ eq-eqb (rankOf i) (rankO
 
 -- what a read of an entry's record says is the entry
 value-read : (id : ℤ) (v : NodeValue) → storable v ≡ true → recordResult (readOf (entry id v)) ≡ ok (entry id v)
-unfolding entryResult readOf valueOf bytesBeside meant storable
+unfolding entryResult readOf valueOf bytesBeside nodeValue storable
 value-read id (integer x) h = refl
 value-read id (float bits) h = refl
 value-read id (string s) h =
-    let l : length s ≤ 256 = leb-true (length s) 256 (both (leb (length s) 256) (utf8 s) h .0) in
+    let l : length s ≤ 256 = leb-true (length s) 256 (if-both (leb (length s) 256) (utf8 s) h .0) in
     ap (λ (x : List ℕ). ok (entry id (string x))) (take-over s (replicate 256 0) (omega (arith, length-replicate {A = ℕ} 256 0)))
 
 -- an element of a list all of which have it

@@ -1,20 +1,19 @@
 -- A body that was read and is written anew has the same bytes exactly when its flags are canonical and nothing follows its last field: for every type.
-use mathlib.Core.Path.{_≡_, refl, _∙_, ap, sym}
-use mathlib.Core.List.{List, [], _∷_, _++_, map, append-assoc, append-nil}
-use Prim.Native.Nat.{ℕ, _+_, _*_, _/_, _%_, _<_, _^_}
+use mathlib.Core.Path.{_≡_, _∙_, ap, sym}
+use mathlib.Core.List.{List, [], _++_, map, append-assoc, append-nil}
+use Prim.Native.Nat.{ℕ, _+_, _/_, _%_, _<_, _^_}
 use native.Mathlib.Omega.{arith}
-use lib.ListN.{length, take, getD, set}
-use lib.Seq.{length-take-le}
+use lib.ListN.{length, getD, set}
 use Rattle.wing_node.specs.Field.{big, bytesOf}
-use Rattle.wing_node.specs.Cursor.{Field, number, string, size, content, valueOf, start, from, readAt, reads, after}
+use Rattle.wing_node.specs.Cursor.{Field, number, string, content, start, from, readAt, reads, after}
 use Rattle.wing_node.specs.Definition.{Flags, form, named, past, header, added, itemsOf, kindFrom, definitionOf, fieldsIn, Count}
-use Rattle.wing_node.specs.Laid.{laid, laidAll, contents, heldAll}
+use Rattle.wing_node.specs.Laid.{laid, laidAll, contents, contentsRead}
 use Rattle.wing_node.specs.declared.cursor.Cursor.{Cursor}
 use Rattle.wing_node.specs.declared.definition.Parsed.the-variants.{Good}
 use Rattle.wing_node.specs.declared.definition.Definition.{Definition}
 use Rattle.wing_node.proofs.Numerals.Numbers.{Digits, length-digitsIn, number-digits}
 use Rattle.wing_node.proofs.Bodies.Flags.{small, rewritten, Canonical, kept, only, small-below, apart}
-use Rattle.wing_node.proofs.Bodies.Whole.{laid-anew, held-good, flags-read}
+use Rattle.wing_node.proofs.Bodies.Whole.{laid-anew, read-good, flags-read}
 
 -- one field among six differs
 six : (p i x n l f f' t rest body : List ℕ) → length f' ≡ length f → body ≡ (p ++ (i ++ (x ++ (n ++ (l ++ (f ++ t)))))) ++ rest →
@@ -29,7 +28,7 @@ six p i x n l f f' t rest body e h = (
 abbrev pub anew : List ℕ → List ℕ
 anew body =
     laidAll (fieldsIn body)
-    (set (heldAll body (fieldsIn body) (reads (fieldsIn body) body start)) 5 (bytesOf 2 (rewritten (named header body start Flags .value))))
+    (set (contentsRead body (fieldsIn body) (reads (fieldsIn body) body start)) 5 (bytesOf 2 (rewritten (named header body start Flags .value))))
 
 rewritten-fits : (f : ℕ) → rewritten f < 256 ^ 2
 rewritten-fits f =
@@ -42,7 +41,7 @@ module _ (body : List ℕ) (d : Definition) (b : Digits 256 body) (h : definitio
   flags = named header body start Flags .value
 
   anew-contents : anew body ≡ laidAll (fieldsIn body) (set (contents (fieldsIn body) body start) 5 (bytesOf 2 (rewritten flags)))
-  anew-contents = rw (← held-good body d b h)
+  anew-contents = rw (← read-good body d b h)
 
   pub same-body : (anew body ≡ body → Canonical flags × (from body (after (fieldsIn body) body start) ≡ [])) ×
       (Canonical flags → from body (after (fieldsIn body) body start) ≡ [] → anew body ≡ body)
@@ -58,7 +57,7 @@ module _ (body : List ℕ) (d : Definition) (b : Digits 256 body) (h : definitio
       let part : Field → Cursor → List ℕ = λ f c. laid f (content f (from body c)) in
       let f = part (number 2) c5 in
       let f' = laid (number 2) (bytesOf 2 (rewritten flags)) in
-      let was : f ≡ bytesOf 2 flags = ap (λ (vs : List (List ℕ)). getD vs 5 []) (held-good body d b h) in
+      let was : f ≡ bytesOf 2 flags = ap (λ (vs : List (List ℕ)). getD vs 5 []) (read-good body d b h) in
       let long : length f' ≡ length f = length-digitsIn 256 2 (rewritten flags) ∙ sym (ap length was ∙ length-digitsIn 256 2 flags) in
       let both =
       six (part (number 4) start) (part (number 4) c1) (part (number 2) c2) (part string c3) (part string c4) f f'

@@ -1,9 +1,9 @@
 -- Lists of fields: in a row, after a refusal, and item by item.
-use mathlib.Core.Path.{_≡_, refl, _∙_, ap, sym}
+use mathlib.Core.Path.{_≡_, refl, _∙_, ap}
 use mathlib.Core.List.{List, [], _∷_, _++_}
 use Prim.Native.Nat.{ℕ, zero, suc, _+_, _-_, _≤_, _<_}
 use native.Mathlib.Omega.{arith}
-use Rattle.wing_node.specs.Cursor.{Field, nothing, readAt, after}
+use Rattle.wing_node.specs.Cursor.{Field, readAt, after}
 use Rattle.wing_node.specs.Definition.{times, itemOf, itemsOf, itemAt}
 use Rattle.wing_node.specs.declared.cursor.Cursor.{Cursor}
 use Rattle.wing_node.specs.declared.node_type.NodeType.{NodeType}

@@ -10,8 +10,8 @@ use lib.Seq.{drop-drop}
 use borrow.Author.Tests.{eqb-true}
 use Rattle.wing_node.specs.Bool.{if}
 use Rattle.wing_node.specs.Types.{typeOf}
-use Rattle.wing_node.specs.Cursor.{Field, number, string, size, content, valueOf, begins, cursor, start, fieldRead, reads, after}
-use Rattle.wing_node.specs.Definition.{FieldName, ParentId, Id, Index, Name, LongName, Flags, Min, Max, Steps, Count, MaxLen, order, form, named, past, header, added, itemsOf, spanOf, kindFrom, detailsAt, fieldsIn}
+use Rattle.wing_node.specs.Cursor.{Field, string, size, content, valueOf, contentAt, cursor, start, fieldRead, reads, after}
+use Rattle.wing_node.specs.Definition.{FieldName, ParentId, Id, Index, Name, LongName, Flags, Min, Max, Steps, Count, MaxLen, nameNumber, form, named, past, header, added, itemsOf, spanOf, kindFrom, detailsAt, fieldsIn}
 use Rattle.wing_node.specs.Standing.{extent, beyond, Stand, more}
 use Rattle.wing_node.specs.Answers.{bytesAt}
 use Rattle.wing_node.specs.InBody.{numberNamed, bytesNamed, typeIn, countIn, allFields}
@@ -25,7 +25,7 @@ use Rattle.wing_node.proofs.Bodies.Standing.{one-read, onward, passes, 
 known : ℕ → FieldName
 known n = getD (ParentId ∷ Id ∷ Index ∷ Name ∷ LongName ∷ Flags ∷ Min ∷ Max ∷ Steps ∷ Count ∷ []) n MaxLen
 
-known-order : (k : FieldName) → known (order k) ≡ k
+known-order : (k : FieldName) → known (nameNumber k) ≡ k
 unfolding known
 known-order ParentId = refl
 known-order Id = refl
@@ -39,13 +39,13 @@ known-order Steps = refl
 known-order Count = refl
 known-order MaxLen = refl
 
-pub one-name : (j k : FieldName) → order j ≡ order k → j ≡ k
+pub one-name : (j k : FieldName) → nameNumber j ≡ nameNumber k → j ≡ k
 one-name j k e = sym (known-order j) ∙ ap known e ∙ known-order k
 
 -- whether a name is among these
 abbrev pub has : List FieldName → FieldName → Bool
 has [] k = false
-has (j ∷ js) k = if (eqb (order j) (order k)) true (has js k)
+has (j ∷ js) k = if (eqb (nameNumber j) (nameNumber k)) true (has js k)
 
 -- what the field of a name was read as is what it holds there
 pick : (b : Bool) (r r' : FieldRead) (n n' : ℕ) → r .value ≡ n → r' .value ≡ n' → (if {A = FieldRead} b r r') .value ≡ if b n n'
@@ -59,7 +59,7 @@ named-number [] k body at h = refl
 named-number (j ∷ js) k body at (more w r h) =
     let n = size (form j) (drop at body) in
     let rest : named js body (cursor (at + n) 0) k .value ≡ numberNamed js k (drop (at + n) body) = named-number js k body (at + n) (onward (form j) (map form js) body at h) in
-    rw (one-read (form j) body at w r, drop-drop) (pick (eqb (order j) (order k)) _ _ _ _ refl rest)
+    rw (one-read (form j) body at w r, drop-drop) (pick (eqb (nameNumber j) (nameNumber k)) _ _ _ _ refl rest)
 
 pick-bytes : (body : List ℕ) (b : Bool) (r r' : FieldRead) (s s' : List ℕ) → (b ≡ true → bytesAt body (spanOf r) ≡ s) → bytesAt body (spanOf r') ≡ s' →
     bytesAt body (spanOf (if b r r')) ≡ if b s s'
@@ -67,8 +67,8 @@ pick-bytes body true r r' s s' e e' = e refl
 pick-bytes body false r r' s s' e e' = e'
 
 pub string-bytes : (f : Field) (body : List ℕ) (at : ℕ) (c : Cursor) → f ≡ string →
-    bytesAt body (spanOf (fieldRead (valueOf f (drop at body)) (begins f at) c)) ≡ content f (drop at body)
-unfolding valueOf begins content
+    bytesAt body (spanOf (fieldRead (valueOf f (drop at body)) (contentAt f at) c)) ≡ content f (drop at body)
+unfolding valueOf contentAt content
 string-bytes f body at c e = rw (e, drop-drop)
 
 pub named-bytes : (ks : List FieldName) (k : FieldName) (body : List ℕ) (at : ℕ) → form k ≡ string → Stand (map form ks) (drop at body) →
@@ -79,13 +79,13 @@ named-bytes (j ∷ js) k body at e (more w r h) =
     let n = size (form j) (drop at body) in
     let rest : bytesAt body (spanOf (named js body (cursor (at + n) 0) k)) ≡ bytesNamed js k (drop (at + n) body) = named-bytes js k body (at + n) e (onward (form j) (map form js) body at h) in
     rw (one-read (form j) body at w r, drop-drop)
-    (pick-bytes body (eqb (order j) (order k)) _ _ _ _ (λ t. string-bytes (form j) body at (cursor (at + n) 0) (ap form (one-name j k (eqb-true _ _ t)) ∙ e)) rest)
+    (pick-bytes body (eqb (nameNumber j) (nameNumber k)) _ _ _ _ (λ t. string-bytes (form j) body at (cursor (at + n) 0) (ap form (one-name j k (eqb-true _ _ t)) ∙ e)) rest)
 
 -- a name that is not among the first is looked for after them
 pub number-later : (ks js : List FieldName) (k : FieldName) (s : List ℕ) → has ks k ≡ false → numberNamed (ks ++ js) k s ≡ numberNamed js k (beyond (map form ks) s)
 unfolding numberNamed extent
 number-later [] js k s h = refl
-number-later (i ∷ is) js k s h = go (eqb (order i) (order k)) h (number-later is js k (drop (size (form i) s) s))
+number-later (i ∷ is) js k s h = go (eqb (nameNumber i) (nameNumber k)) h (number-later is js k (drop (size (form i) s) s))
   where
     go : (b : Bool) → if b true (has is k) ≡ false → (has is k ≡ false → numberNamed (is ++ js) k (drop (size (form i) s) s) ≡ numberNamed js k (beyond (map form is) (drop (size (form i) s) s))) →
         if b (valueOf (form i) s) (numberNamed (is ++ js) k (drop (size (form i) s) s)) ≡ numberNamed js k (drop (size (form i) s + extent (map form is) (drop (size (form i) s) s)) s)

@@ -13,13 +13,13 @@ use Rattle.wing_node.specs.Result.{ok}
 use Rattle.wing_node.specs.Utf8.{utf8}
 use Rattle.wing_node.specs.Types.{typeOf, hasItems}
 use Rattle.wing_node.specs.Cursor.{Field, number, string, size, content, right, valueOf}
-use Rattle.wing_node.specs.Definition.{FieldName, ParentId, Id, Index, Name, LongName, Flags, Min, Max, Steps, Count, MaxLen, order, form, header, added, times, itemsOf}
-use Rattle.wing_node.specs.Laid.{laid, laidAll, Fits, FitsAll, none, more, numberOf}
-use Rattle.wing_node.specs.Standing.{Whole, extent, beyond, Stand, none as noneStand, more as moreStand}
+use Rattle.wing_node.specs.Definition.{FieldName, ParentId, Id, Index, Name, LongName, Flags, Min, Max, Steps, Count, MaxLen, nameNumber, form, header, added, times, itemsOf}
+use Rattle.wing_node.specs.Laid.{laid, laidAll, Fits, FitsAll, empty, more, numberOf}
+use Rattle.wing_node.specs.Standing.{Whole, extent, beyond, Stand, empty as emptyStand, more as moreStand}
 use Rattle.wing_node.specs.Answers.{valuesBy, detailsBy}
 use Rattle.wing_node.specs.InBody.{numberNamed, bytesNamed, typeIn, countIn, allFields, firstIn, itemIn}
 use Rattle.wing_node.specs.Parsing.{parserSays, numberSays}
-use Rattle.wing_node.specs.Written.{Pair, inRow, itemHeld, numbersOf, kindOf, namesOf, frontOf, countOf, listOf, bodyOf, Fit}
+use Rattle.wing_node.specs.Written.{Pair, inRow, pairValues, numbersOf, kindOf, namesOf, frontOf, countOf, listOf, bodyOf, Fit}
 use Rattle.wing_node.specs.declared.node_type.NodeType.{NodeType}
 use Rattle.wing_node.specs.declared.node_type.NodeType.the-variants.{Node, LinearFloat, LogarithmicFloat, FaderLevel, Integer, StringEnum, FloatEnum, String}
 use Rattle.wing_node.proofs.Bodies.Standing.{stand-join, beyond-parts}
@@ -58,13 +58,13 @@ laid-content string v rest h = take-append-seam v rest
 -- fields in a row
 pub laid-stand : {fs : List Field} {vs : List (List ℕ)} (rest : List ℕ) → FitsAll fs vs → Stand fs (laidAll fs vs ++ rest)
 unfolding laidAll
-laid-stand rest none = noneStand
+laid-stand rest empty = emptyStand
 laid-stand rest (more {f} {v} {fs} {vs} h hs) =
     rw append-assoc (moreStand {f = f} {fs = fs} (laid-whole f v (laidAll fs vs ++ rest) h) (laid-right f v (laidAll fs vs ++ rest) h) (rw (laid-drop f v (laidAll fs vs ++ rest) h) (laid-stand rest hs)))
 
 pub laid-extent : {fs : List Field} {vs : List (List ℕ)} (rest : List ℕ) → FitsAll fs vs → extent fs (laidAll fs vs ++ rest) ≡ length (laidAll fs vs)
 unfolding laidAll extent
-laid-extent rest none = refl
+laid-extent rest empty = refl
 laid-extent rest (more {f} {v} {fs} {vs} h hs) =
     let tail = laidAll fs vs ++ rest in
     rw (append-assoc, laid-drop f v tail h, laid-size f v tail h, laid-extent rest hs) (sym (length-append (laid f v) (laidAll fs vs)))
@@ -77,24 +77,24 @@ choose : {A : Type 0} (b among : Bool) (x y z : A) → if b true among ≡ true 
 choose true among x y z h p q = p refl
 choose false among x y z h p q = q h
 
-module _ (held : FieldName → List ℕ) where
-  pub number-laid : (ks : List FieldName) (k : FieldName) (rest : List ℕ) → has ks k ≡ true → FitsAll (map form ks) (map held ks) →
-      numberNamed ks k (laidAll (map form ks) (map held ks) ++ rest) ≡ numbersOf held k
+module _ (bytes : FieldName → List ℕ) where
+  pub number-laid : (ks : List FieldName) (k : FieldName) (rest : List ℕ) → has ks k ≡ true → FitsAll (map form ks) (map bytes ks) →
+      numberNamed ks k (laidAll (map form ks) (map bytes ks) ++ rest) ≡ numbersOf bytes k
   unfolding numberNamed laidAll
-  number-laid [] k rest h none = absurd (let z : _≡_ {A = ℕ} 0 1 = cc in omega arith)
+  number-laid [] k rest h empty = absurd (let z : _≡_ {A = ℕ} 0 1 = cc in omega arith)
   number-laid (j ∷ js) k rest h (more fit fits) =
-      let tail = laidAll (map form js) (map held js) ++ rest in
-      rw (append-assoc, laid-drop (form j) (held j) tail fit)
-      (choose (eqb (order j) (order k)) (has js k) _ _ _ h (λ e. laid-value (form j) (held j) tail fit ∙ ap (numbersOf held) (one-name j k (eqb-true _ _ e))) (λ i. number-laid js k rest i fits))
+      let tail = laidAll (map form js) (map bytes js) ++ rest in
+      rw (append-assoc, laid-drop (form j) (bytes j) tail fit)
+      (choose (eqb (nameNumber j) (nameNumber k)) (has js k) _ _ _ h (λ e. laid-value (form j) (bytes j) tail fit ∙ ap (numbersOf bytes) (one-name j k (eqb-true _ _ e))) (λ i. number-laid js k rest i fits))
 
-  pub bytes-laid : (ks : List FieldName) (k : FieldName) (rest : List ℕ) → has ks k ≡ true → FitsAll (map form ks) (map held ks) →
-      bytesNamed ks k (laidAll (map form ks) (map held ks) ++ rest) ≡ held k
+  pub bytes-laid : (ks : List FieldName) (k : FieldName) (rest : List ℕ) → has ks k ≡ true → FitsAll (map form ks) (map bytes ks) →
+      bytesNamed ks k (laidAll (map form ks) (map bytes ks) ++ rest) ≡ bytes k
   unfolding bytesNamed laidAll
-  bytes-laid [] k rest h none = absurd (let z : _≡_ {A = ℕ} 0 1 = cc in omega arith)
+  bytes-laid [] k rest h empty = absurd (let z : _≡_ {A = ℕ} 0 1 = cc in omega arith)
   bytes-laid (j ∷ js) k rest h (more fit fits) =
-      let tail = laidAll (map form js) (map held js) ++ rest in
-      rw (append-assoc, laid-drop (form j) (held j) tail fit)
-      (choose (eqb (order j) (order k)) (has js k) _ _ _ h (λ e. laid-content (form j) (held j) tail fit ∙ ap held (one-name j k (eqb-true _ _ e))) (λ i. bytes-laid js k rest i fits))
+      let tail = laidAll (map form js) (map bytes js) ++ rest in
+      rw (append-assoc, laid-drop (form j) (bytes j) tail fit)
+      (choose (eqb (nameNumber j) (nameNumber k)) (has js k) _ _ _ h (λ e. laid-content (form j) (bytes j) tail fit ∙ ap bytes (one-name j k (eqb-true _ _ e))) (λ i. bytes-laid js k rest i fits))
 
 -- what a type adds, by numbers that are the same for its own fields
 details-alike : (t : NodeType) (v v' : FieldName → ℕ) (first : ℕ) → ((k : FieldName) → has (header ++ added t) k ≡ true → v k ≡ v' k) → detailsBy t v first ≡ detailsBy t v' first
@@ -118,47 +118,47 @@ counted StringEnum h = refl
 counted FloatEnum h = refl
 counted String h = h
 
-module _ (held : FieldName → List ℕ) (pairs : List Pair) (rest : List ℕ) (fit : Fit held pairs) where
+module _ (bytes : FieldName → List ℕ) (pairs : List Pair) (rest : List ℕ) (fit : Fit bytes pairs) where
   abbrev body : List ℕ
-  body = bodyOf held pairs rest
+  body = bodyOf bytes pairs rest
 
   abbrev after-front : List ℕ
-  after-front = listOf held pairs ++ rest
+  after-front = listOf bytes pairs ++ rest
 
-  same-kind : typeIn body ≡ kindOf held
+  same-kind : typeIn body ≡ kindOf bytes
   unfolding numberNamed
-  same-kind = ap (λ n. typeOf (n / 16 % 16)) (number-laid held (namesOf held) Flags after-front refl (fit .fields))
+  same-kind = ap (λ n. typeOf (n / 16 % 16)) (number-laid bytes (namesOf bytes) Flags after-front refl (fit .fields))
 
-  same-number : (k : FieldName) → has (namesOf held) k ≡ true → numberNamed (namesOf held) k body ≡ numbersOf held k
-  same-number k h = number-laid held (namesOf held) k after-front h (fit .fields)
+  same-number : (k : FieldName) → has (namesOf bytes) k ≡ true → numberNamed (namesOf bytes) k body ≡ numbersOf bytes k
+  same-number k h = number-laid bytes (namesOf bytes) k after-front h (fit .fields)
 
-  same-count : countIn body ≡ countOf held
-  same-count = ap (λ t. numberNamed (header ++ added t) Count body) same-kind ∙ go (hasItems (kindOf held)) refl
+  same-count : countIn body ≡ countOf bytes
+  same-count = ap (λ t. numberNamed (header ++ added t) Count body) same-kind ∙ go (hasItems (kindOf bytes)) refl
     where
-      go : (b : Bool) → hasItems (kindOf held) ≡ b → numberNamed (namesOf held) Count body ≡ if b (numbersOf held Count) 0
-      go true e = same-number Count (counted (kindOf held) e)
-      go false e = number-later header (added (kindOf held)) Count body refl ∙ no-count (kindOf held) (beyond (map form header) body) e
+      go : (b : Bool) → hasItems (kindOf bytes) ≡ b → numberNamed (namesOf bytes) Count body ≡ if b (numbersOf bytes Count) 0
+      go true e = same-number Count (counted (kindOf bytes) e)
+      go false e = number-later header (added (kindOf bytes)) Count body refl ∙ no-count (kindOf bytes) (beyond (map form header) body) e
 
   all-stand : Stand (allFields body) body
   all-stand =
       rw (same-count, same-kind)
-      (stand-join (map form (namesOf held)) (itemsOf (kindOf held) (countOf held)) body (laid-stand after-front (fit .fields))
+      (stand-join (map form (namesOf bytes)) (itemsOf (kindOf bytes) (countOf bytes)) body (laid-stand after-front (fit .fields))
       (rw (laid-beyond after-front (fit .fields)) (laid-stand rest (fit .items))))
 
-  same-first : firstIn body ≡ length (frontOf held)
+  same-first : firstIn body ≡ length (frontOf bytes)
   same-first = ap (λ t. extent (map form (header ++ added t)) body) same-kind ∙ laid-extent after-front (fit .fields)
 
-  values-alike : (v : FieldName → ℕ) (bytes : FieldName → List ℕ) (first : ℕ) → ((k : FieldName) → has (namesOf held) k ≡ true → v k ≡ numbersOf held k) →
-      ((k : FieldName) → has (namesOf held) k ≡ true → bytes k ≡ held k) → valuesBy v bytes first ≡ valuesBy (numbersOf held) held first
-  values-alike v bytes first h g =
-      rw (h ParentId refl, h Id refl, h Index refl, h Flags refl, g Name refl, g LongName refl, details-alike (kindOf held) v (numbersOf held) first h)
+  values-alike : (v : FieldName → ℕ) (found : FieldName → List ℕ) (first : ℕ) → ((k : FieldName) → has (namesOf bytes) k ≡ true → v k ≡ numbersOf bytes k) →
+      ((k : FieldName) → has (namesOf bytes) k ≡ true → found k ≡ bytes k) → valuesBy v found first ≡ valuesBy (numbersOf bytes) bytes first
+  values-alike v found first h g =
+      rw (h ParentId refl, h Id refl, h Index refl, h Flags refl, g Name refl, g LongName refl, details-alike (kindOf bytes) v (numbersOf bytes) first h)
 
-  pub definition-back : parserSays body ≡ ok (valuesBy (numbersOf held) held (length (frontOf held)))
+  pub definition-back : parserSays body ≡ ok (valuesBy (numbersOf bytes) bytes (length (frontOf bytes)))
   definition-back =
       said body all-stand ∙ ap ok
       (ap (λ t. valuesBy (λ k. numberNamed (header ++ added t) k body) (λ k. bytesNamed (header ++ added t) k body) (firstIn body)) same-kind ∙
-      values-alike _ _ (firstIn body) same-number (λ k h. bytes-laid held (namesOf held) k after-front h (fit .fields)) ∙
-      ap (valuesBy (numbersOf held) held) same-first)
+      values-alike _ _ (firstIn body) same-number (λ k h. bytes-laid bytes (namesOf bytes) k after-front h (fit .fields)) ∙
+      ap (valuesBy (numbersOf bytes) bytes) same-first)
 
 -- the pair of a number stands where the items of lower numbers end
 record There (f : Field) (s : List ℕ) (p : Pair) : Type 0 where
@@ -179,7 +179,7 @@ pair-there f (suc count) (suc n) (p ∷ pairs) rest l (more a (more b hs)) =
     let s = (laid f (p .0) ++ (laid string (p .1) ++ laidAll (times count I) (inRow pairs))) ++ rest in
     let whole : s ≡ laidAll I (p .0 ∷ p .1 ∷ []) ++ others = simp append-assoc in
     let past : beyond (I ++ times n I) s ≡ beyond (times n I) others =
-    ap (beyond (I ++ times n I)) whole ∙ beyond-parts I (times n I) (laidAll I (p .0 ∷ p .1 ∷ []) ++ others) ∙ ap (beyond (times n I)) (laid-beyond others (more a (more b none))) in
+    ap (beyond (I ++ times n I)) whole ∙ beyond-parts I (times n I) (laidAll I (p .0 ∷ p .1 ∷ []) ++ others) ∙ ap (beyond (times n I)) (laid-beyond others (more a (more b empty))) in
     subst (λ t. There f t (getD pairs n ([], []))) (sym past) (pair-there f count n pairs rest (omega arith) hs)
 
 first-content : (f : Field) (s : List ℕ) (p : Pair) → There f s p → content f s ≡ p .0
@@ -196,7 +196,7 @@ second-content f s p h =
     rw (h .here, e, laid-drop f (p .0) others (h .first)) (laid-content string (p .1) (h .tail) (h .second))
 
 item-laid : (t : NodeType) (count n : ℕ) (pairs : List Pair) (rest : List ℕ) → n < count → FitsAll (itemsOf t count) (inRow pairs) →
-    itemIn t (beyond (itemsOf t n) (laidAll (itemsOf t count) (inRow pairs) ++ rest)) ≡ itemHeld t (getD pairs n ([], []))
+    itemIn t (beyond (itemsOf t n) (laidAll (itemsOf t count) (inRow pairs) ++ rest)) ≡ pairValues t (getD pairs n ([], []))
 unfolding numberOf
 item-laid Node count n pairs rest l h = refl
 item-laid LinearFloat count n pairs rest l h = refl
@@ -213,11 +213,11 @@ item-laid FloatEnum count n pairs rest l h =
     rw (first-value (number 4) _ p there, second-content (number 4) _ p there)
 item-laid String count n pairs rest l h = refl
 
-module _ (held : FieldName → List ℕ) (pairs : List Pair) (rest : List ℕ) (fit : Fit held pairs) where
-  pub items-back : (n : ℕ) → n < countOf held → numberSays (bodyOf held pairs rest) n ≡ ok (itemHeld (kindOf held) (getD pairs n ([], [])))
+module _ (bytes : FieldName → List ℕ) (pairs : List Pair) (rest : List ℕ) (fit : Fit bytes pairs) where
+  pub items-back : (n : ℕ) → n < countOf bytes → numberSays (bodyOf bytes pairs rest) n ≡ ok (pairValues (kindOf bytes) (getD pairs n ([], [])))
   items-back n l =
-      let body = bodyOf held pairs rest in
-      let c : n < countIn body = rw (same-count held pairs rest fit) l in
-      let d : drop (firstIn body) body ≡ listOf held pairs ++ rest = ap (λ m. drop m body) (same-first held pairs rest fit) ∙ drop-append-seam (frontOf held) (listOf held pairs ++ rest) in
-      by-number body n .said (taken body .1 (all-stand held pairs rest fit)) c ∙
-      ap ok (rw (d, same-kind held pairs rest fit) (item-laid (kindOf held) (countOf held) n pairs rest l (fit .items)))
+      let body = bodyOf bytes pairs rest in
+      let c : n < countIn body = rw (same-count bytes pairs rest fit) l in
+      let d : drop (firstIn body) body ≡ listOf bytes pairs ++ rest = ap (λ m. drop m body) (same-first bytes pairs rest fit) ∙ drop-append-seam (frontOf bytes) (listOf bytes pairs ++ rest) in
+      by-number body n .said (taken body .1 (all-stand bytes pairs rest fit)) c ∙
+      ap ok (rw (d, same-kind bytes pairs rest fit) (item-laid (kindOf bytes) (countOf bytes) n pairs rest l (fit .items)))

@@ -6,7 +6,6 @@ use mathlib.Core.List.{List, _++_, map}
 use Prim.Native.Nat.{ℕ, zero, suc}
 use native.Mathlib.Omega.{arith}
 use borrow.Author.Tests.{ne-eqb}
-use Rattle.wing_node.specs.Bool.{if}
 use Rattle.wing_node.specs.Result.{ok, refused}
 use Rattle.wing_node.specs.Cursor.{cursor, start, after}
 use Rattle.wing_node.specs.Definition.{FieldName, ParentId, Id, Index, Name, LongName, Flags, Min, Max, Steps, Count, MaxLen, form, named, past, header, added, itemsOf, kindFrom, detailsFrom, detailsAt, definitionFrom, parsedFrom, definitionOf}

@@ -10,8 +10,8 @@ use lib.Dec.{ltb}
 use borrow.Author.Tests.{eq-eqb, ne-eqb, ltb-false}
 use Rattle.wing_node.specs.Bool.{if}
 use Rattle.wing_node.specs.Field.{bytesOf}
-use Rattle.wing_node.specs.Cursor.{Field, number, string, size, content, right, fault, valueOf, begins, from, cursor, fieldRead, readAt, reads, after}
-use Rattle.wing_node.specs.Laid.{held, heldAll, laid, laidAll, contents}
+use Rattle.wing_node.specs.Cursor.{Field, number, string, size, content, right, fault, valueOf, contentAt, from, cursor, fieldRead, readAt, reads, after}
+use Rattle.wing_node.specs.Laid.{contentRead, contentsRead, laid, laidAll, contents}
 use Rattle.wing_node.specs.declared.cursor.Cursor.{Cursor}
 use Rattle.wing_node.specs.declared.cursor.FieldRead.{FieldRead}
 use Rattle.wing_node.proofs.Bodies.Cases.{read-refused}
@@ -64,33 +64,33 @@ laid-reads (f ∷ fs) body c h =
     (z, field ∙ ap (λ l. laid f (content f (from body c)) ++ l) (rest ∙ others .1) ∙ sym (append-assoc (laid f (content f (from body c))) (laidAll fs (contents fs body next)) (from body (after fs body next))))
 
 -- what fields held is told by their readings: a body of bytes is laid anew from the numbers, places and lengths that were read
-held-content : (f : Field) (body : List ℕ) (c : Cursor) → Digits 256 body → size f (from body c) ≤ length (from body c) →
-    content f (from body c) ≡ held body f (fieldRead (valueOf f (from body c)) (begins f (c .at)) (cursor 0 0))
-unfolding content valueOf begins size
-held-content (number w) body c b h = sym (digits-number 256 w _ (length-take-le w (from body c) h) (digits-take 256 w (from body c) (digits-drop 256 (c .at) body b)))
-held-content string body c b h = ap (take (getD (from body c) 0 0)) (drop-drop 1 (c .at) body)
+read-content : (f : Field) (body : List ℕ) (c : Cursor) → Digits 256 body → size f (from body c) ≤ length (from body c) →
+    content f (from body c) ≡ contentRead body f (fieldRead (valueOf f (from body c)) (contentAt f (c .at)) (cursor 0 0))
+unfolding content valueOf contentAt size
+read-content (number w) body c b h = sym (digits-number 256 w _ (length-take-le w (from body c) h) (digits-take 256 w (from body c) (digits-drop 256 (c .at) body b)))
+read-content string body c b h = ap (take (getD (from body c) 0 0)) (drop-drop 1 (c .at) body)
 
 said : (f : Field) (body : List ℕ) (c : Cursor) → c .refused ≡ 0 → fault f (from body c) ≡ 0 →
-    readAt f body c ≡ fieldRead (valueOf f (from body c)) (begins f (c .at)) (cursor (c .at + size f (from body c)) 0)
+    readAt f body c ≡ fieldRead (valueOf f (from body c)) (contentAt f (c .at)) (cursor (c .at + size f (from body c)) 0)
 unfolding readAt
 said f body c z e = simp (eq-eqb _ _ z, eq-eqb _ _ e)
 
-same-held : (body : List ℕ) (f : Field) (r r' : FieldRead) → r .value ≡ r' .value → r .start ≡ r' .start → held body f r ≡ held body f r'
-same-held body (number w) r r' e e' = ap (bytesOf w) e
-same-held body string r r' e e' = rw (e, e')
+same-read : (body : List ℕ) (f : Field) (r r' : FieldRead) → r .value ≡ r' .value → r .start ≡ r' .start → contentRead body f r ≡ contentRead body f r'
+same-read body (number w) r r' e e' = ap (bytesOf w) e
+same-read body string r r' e e' = rw (e, e')
 
-pub contents-held : (fs : List Field) (body : List ℕ) (c : Cursor) → Digits 256 body → after fs body c .refused ≡ 0 →
-    contents fs body c ≡ heldAll body fs (reads fs body c)
+pub contents-read : (fs : List Field) (body : List ℕ) (c : Cursor) → Digits 256 body → after fs body c .refused ≡ 0 →
+    contents fs body c ≡ contentsRead body fs (reads fs body c)
 unfolding after contents reads
-contents-held [] body c b h = refl
-contents-held (f ∷ fs) body c b h =
+contents-read [] body c b h = refl
+contents-read (f ∷ fs) body c b h =
     let next = readAt f body c .next in
-    let rest = contents-held fs body next b h in
+    let rest = contents-read fs body next b h in
     let good = laid-reads fs body next h .0 in
     let z = clear f body c (c .refused) refl good in
     let e = faultless f body c (fault f (from body c)) z refl good in
-    let one = held-content f body c b (there f (from body c) e) ∙
-    same-held body f _ (readAt f body c) (ap (λ (r : FieldRead). r .value) (sym (said f body c z e))) (ap (λ (r : FieldRead). r .start) (sym (said f body c z e))) in
+    let one = read-content f body c b (there f (from body c) e) ∙
+    same-read body f _ (readAt f body c) (ap (λ (r : FieldRead). r .value) (sym (said f body c z e))) (ap (λ (r : FieldRead). r .start) (sym (said f body c z e))) in
     rw (one, rest)
 
 -- the number of a field that was not refused

@@ -10,16 +10,16 @@ use lib.ListN.{length, drop, length-drop}
 use lib.Seq.{drop-drop}
 use borrow.Author.Tests.{eq-eqb, ne-eqb, le-ltb, ltb-true, ltb-false}
 use Rattle.wing_node.specs.Bool.{if}
-use Rattle.wing_node.specs.Cursor.{Field, number, size, right, fault, valueOf, begins, cursor, from, fieldRead, readAt, reads, after}
+use Rattle.wing_node.specs.Cursor.{Field, number, size, right, fault, valueOf, contentAt, cursor, from, fieldRead, readAt, after}
 use Rattle.wing_node.specs.Definition.{times}
-use Rattle.wing_node.specs.Standing.{Whole, PastEnd, NotUtf8, extent, beyond, Stand, none, more, StopsAt}
+use Rattle.wing_node.specs.Standing.{Whole, PastEnd, NotUtf8, extent, beyond, Stand, empty, more, StopsAt}
 use Rattle.wing_node.specs.declared.cursor.Cursor.{Cursor}
 use Rattle.wing_node.proofs.Bodies.Cases.{read-there}
 use Rattle.wing_node.proofs.Bodies.Fields.{after-append, after-refused}
 
 -- a field that stands is read, and the cursor goes past it
 pub one-read : (f : Field) (body : List ℕ) (at : ℕ) → Whole f (drop at body) → right f (drop at body) ≡ true →
-    readAt f body (cursor at 0) ≡ fieldRead (valueOf f (drop at body)) (begins f at) (cursor (at + size f (drop at body)) 0)
+    readAt f body (cursor at 0) ≡ fieldRead (valueOf f (drop at body)) (contentAt f at) (cursor (at + size f (drop at body)) 0)
 one-read f body at w r =
     let e : length (drop at body) ≡ length body - at = length-drop at body in
     let h : size f (drop at body) ≤ length body - at = omega arith in
@@ -32,7 +32,7 @@ onward f fs body at h = rw drop-drop at h
 -- fields that stand are passed
 pub passes : (fs : List Field) (body : List ℕ) (at : ℕ) → Stand fs (drop at body) → after fs body (cursor at 0) ≡ cursor (at + extent fs (drop at body)) 0
 unfolding after extent
-passes [] body at none = let e : at + 0 ≡ at = omega arith in rw e
+passes [] body at empty = let e : at + 0 ≡ at = omega arith in rw e
 passes (f ∷ fs) body at (more w r h) =
     let n = size f (drop at body) in
     let rest : after fs body (cursor (at + n) 0) ≡ cursor (at + n + extent fs (drop (at + n) body)) 0 = passes fs body (at + n) (onward f fs body at h) in
@@ -78,7 +78,7 @@ Found fs s = Stand fs s ⊎ (StopsAt PastEnd fs s ⊎ StopsAt NotUtf8 fs s)
 -- the first field fails
 at-once : {Fails : Field → List ℕ → Type 0} (f : Field) (fs : List Field) (s : List ℕ) → Fails f s → StopsAt Fails (f ∷ fs) s
 unfolding extent
-at-once f fs s h = record { stood = []; next = f; others = fs; row = refl; stand = none; fails = h }
+at-once f fs s h = record { stood = []; next = f; others = fs; row = refl; stand = empty; fails = h }
 
 -- it stands, and a later one fails
 later : {Fails : Field → List ℕ → Type 0} (f : Field) (fs : List Field) (s : List ℕ) → Whole f s → right f s ≡ true →
@@ -95,7 +95,7 @@ later f fs s w r h =
     }
 
 pub find : (fs : List Field) (s : List ℕ) → Found fs s
-find [] s = inl none
+find [] s = inl empty
 find (f ∷ fs) s = go (ltb (length s) (size f s)) (right f s) refl refl (find fs (drop (size f s) s))
   where
     rest : Whole f s → right f s ≡ true → Found fs (drop (size f s) s) → Found (f ∷ fs) s
@@ -151,7 +151,7 @@ module _ (fs : List Field) (body : List ℕ) (at : ℕ) where
 -- a row in two parts
 pub stand-parts : (fs gs : List Field) (s : List ℕ) → Stand (fs ++ gs) s → Stand fs s × Stand gs (beyond fs s)
 unfolding extent
-stand-parts [] gs s h = (none, h)
+stand-parts [] gs s h = (empty, h)
 stand-parts (f ∷ fs) gs s (more w r h) =
     let p = stand-parts fs gs (drop (size f s) s) h in
     (more w r (p .0), rw drop-drop at (p .1))
@@ -166,7 +166,7 @@ extent-parts (f ∷ fs) gs s =
 
 pub stand-join : (fs gs : List Field) (s : List ℕ) → Stand fs s → Stand gs (beyond fs s) → Stand (fs ++ gs) s
 unfolding extent
-stand-join [] gs s none k = k
+stand-join [] gs s empty k = k
 stand-join (f ∷ fs) gs s (more w r h) k = more w r (stand-join fs gs (drop (size f s) s) h (rw drop-drop k))
 
 pub beyond-parts : (fs gs : List Field) (s : List ℕ) → beyond (fs ++ gs) s ≡ beyond gs (beyond fs s)
@@ -176,7 +176,7 @@ beyond-parts fs gs s = rw (extent-parts fs gs s) (sym (drop-drop (extent gs (bey
 pub times-stand : (fs : List Field) (count n : ℕ) (s : List ℕ) → n < count → Stand (times count fs) s → Stand (times n fs) s × Stand fs (beyond (times n fs) s)
 unfolding times extent
 times-stand fs zero n s l h = absurd (omega arith)
-times-stand fs (suc count) zero s l h = (none, stand-parts fs (times count fs) s h .0)
+times-stand fs (suc count) zero s l h = (empty, stand-parts fs (times count fs) s h .0)
 times-stand fs (suc count) (suc n) s l h =
     let p = stand-parts fs (times count fs) s h in
     let q = times-stand fs count n (beyond fs s) (omega arith) (p .1) in

@@ -14,8 +14,8 @@ use Rattle.wing_node.specs.Result.{Result, ok, refused}
 use Rattle.wing_node.specs.Types.{hasItems}
 use Rattle.wing_node.specs.Cursor.{Field, number, string, size, content, right, cursor, reads, after}
 use Rattle.wing_node.specs.Definition.{spanOf, nth, itemOf, itemFrom, itemAt}
-use Rattle.wing_node.specs.Items.{walk, stayed, stepAt}
-use Rattle.wing_node.specs.Standing.{Whole, PastEnd, NotUtf8, extent, beyond, Stand, none, more, StopsAt}
+use Rattle.wing_node.specs.Items.{stayed, stepAt}
+use Rattle.wing_node.specs.Standing.{Whole, extent, beyond, Stand, more}
 use Rattle.wing_node.specs.Answers.{bytesAt, ItemValues, none as noItem, strings, float, itemResult}
 use Rattle.wing_node.specs.InBody.{itemIn}
 use Rattle.wing_node.specs.Parsing.{stepOf, stepSays, Left, IsItem, Stepping}
@@ -118,8 +118,8 @@ module _ (body : List ℕ) (w : Walk) where
   unfolding stepAt itemAt
   moves l h = simp (ne-eqb _ _ (l .0), l .1, passes (itemOf (w .kind)) body (w .at) h)
 
-  gives : Left w → Stand (itemOf (w .kind)) there → IsItem (stepSays body w)
-  gives l h = rw (moves l h) (is-item (w .kind) body (w .at) (l .1))
+  gives-item : Left w → Stand (itemOf (w .kind)) there → IsItem (stepSays body w)
+  gives-item l h = rw (moves l h) (is-item (w .kind) body (w .at) (l .1))
 
   -- what a step comes to
   data Outcome : Type 0 where
@@ -132,7 +132,7 @@ module _ (body : List ℕ) (w : Walk) where
     where
       go : Ended ⊎ Left w → (n : ℕ) → came ≡ n → Outcome
       go (inl e) n c = nothing e (ended e)
-      go (inr l) zero c = let h = stands (itemOf (w .kind)) body (w .at) .0 c in item l h (gives l h)
+      go (inr l) zero c = let h = stands (itemOf (w .kind)) body (w .at) .0 c in item l h (gives-item l h)
       go (inr l) (suc n) c = stop n l c (stopped n l c)
 
   abbrev marked : ℕ
@@ -162,7 +162,7 @@ module _ (body : List ℕ) (w : Walk) where
   stays not (stop n l c q) = ap (λ (s : Step). s .next) q
 
   four-or-five : (n : ℕ) → marked ≡ 2 + n → (came ≡ 0) ⊎ ((came ≡ 4) ⊎ (came ≡ 5)) → (n ≡ 4) ⊎ (n ≡ 5)
-  four-or-five n e (inl z) = absurd (omega (arith, item-mark (stepSays body w) (gives (only-stop n e outcome .0) (stands (itemOf (w .kind)) body (w .at) .0 z))))
+  four-or-five n e (inl z) = absurd (omega (arith, item-mark (stepSays body w) (gives-item (only-stop n e outcome .0) (stands (itemOf (w .kind)) body (w .at) .0 z))))
   four-or-five n e (inr (inl z)) = inl (omega (arith, only-stop n e outcome .1))
   four-or-five n e (inr (inr z)) = inr (omega (arith, only-stop n e outcome .1))
 
@@ -177,7 +177,7 @@ module _ (body : List ℕ) (w : Walk) where
         pastEnd = (λ e. (part 4 e .0, ends-past K body (w .at) .0 (part 4 e .1)), λ h. ap says (stopped 3 (h .0) (ends-past K body (w .at) .1 (h .1))));
         notUtf8 = (λ e. (part 5 e .0, ends-wrong K body (w .at) .0 (part 5 e .1)), λ h. ap says (stopped 4 (h .0) (ends-wrong K body (w .at) .1 (h .1))));
         numbers = λ n e. four-or-five n (ap mark e) (ends-so K body (w .at));
-        given = (both, λ h. gives (h .0) (h .1));
+        given = (both, λ h. gives-item (h .0) (h .1));
         said = λ i. ap says (moves (both i .0) (both i .1)) ∙ item-said (w .kind) body (w .at) (both i .1);
         moved = λ i. ap (λ (s : Step). s .next) (moves (both i .0) (both i .1));
         stays = λ not. stays not outcome;

@@ -12,7 +12,6 @@ use borrow.Author.Tests.{le-leb, lt-leb, leb-true, leb-false}
 use Rattle.wing_node.specs.Bool.{if}
 use Rattle.wing_node.specs.Result.{Result, ok, refused}
 use Rattle.wing_node.specs.Types.{hasItems}
-use Rattle.wing_node.specs.Cursor.{after}
 use Rattle.wing_node.specs.Definition.{FieldName, Count, form, header, added, times, itemOf, itemsOf, definitionOf}
 use Rattle.wing_node.specs.Items.{walk, walkFrom, beginFrom, beginOf, numberedFrom, numberedIn, itemNumbered}
 use Rattle.wing_node.specs.Standing.{extent, beyond, Stand}
@@ -28,7 +27,7 @@ use Rattle.wing_node.specs.declared.items.Walk.{Walk}
 use Rattle.wing_node.specs.declared.items.Step.{Step}
 use Rattle.wing_node.specs.declared.items.Begun.the-variants.{Good as Begun·Good}
 use Rattle.wing_node.proofs.Bodies.Standing.{passes, stand-parts, extent-parts, times-stand}
-use Rattle.wing_node.proofs.Bodies.InBody.{has, number-later, same-type}
+use Rattle.wing_node.proofs.Bodies.InBody.{number-later, same-type}
 use Rattle.wing_node.proofs.Bodies.Parsing.{taken, parsing, header-stands, details-said, parsed-good}
 use Rattle.wing_node.proofs.Bodies.Steps.{moves, stepping, mark, item-mark}
 
@@ -71,7 +70,7 @@ module _ (body : List ℕ) where
 
   pub beginning : Beginning body
   unfolding beginOf
-  beginning = record { turned = λ n. begun-refused body (definitionOf body) n; begun = λ k. ap begunResult (begun-at k) }
+  beginning = record { refusals = λ n. begun-refused body (definitionOf body) n; begun = λ k. ap begunResult (begun-at k) }
 
   -- a body without a count has nothing to walk
   with-items : (n : ℕ) → n < countIn body → hasItems (typeIn body) ≡ true
@@ -143,14 +142,14 @@ module _ (body : List ℕ) (h : Stand (allFields body) body) (n : ℕ) (l : n < 
   walked-at =
       ap (stepSays body) (ap (walked n body) first-walk ∙ walked-to (typeIn body) body n (countIn body) (firstIn body) (with-items body n l) (omega arith) items) ∙ sym (ap (itemResult body) numbered-at)
 
-  gives : IsItem (stepSays body there)
-  gives = stepping body there .given .1 (left-there, rw same-place at (parts .1))
+  gives-item : IsItem (stepSays body there)
+  gives-item = stepping body there .given .1 (left-there, rw same-place at (parts .1))
 
   numbered-item : IsItem (numberSays body n)
-  numbered-item = rw numbered-at gives
+  numbered-item = rw numbered-at gives-item
 
   numbered-said : itemResult body (itemNumbered body n) ≡ ok (itemInBody body n)
-  numbered-said = ap (itemResult body) numbered-at ∙ stepping body there .said gives ∙ ap (λ s. ok (itemIn (typeIn body) s)) (sym same-place)
+  numbered-said = ap (itemResult body) numbered-at ∙ stepping body there .said gives-item ∙ ap (λ s. ok (itemIn (typeIn body) s)) (sym same-place)
 
 module _ (body : List ℕ) where
   numbered-past : (n : ℕ) → Takes body → countIn body ≤ n → itemNumbered body n ≡ Refused 14
@@ -169,8 +168,8 @@ module _ (body : List ℕ) where
   abbrev Why : ℕ → ℕ → Type 0
   Why n k = (parserSays body ≡ refused k) ⊎ (Takes body × (countIn body ≤ n) × (k ≡ 14))
 
-  numbered-turned : (n k : ℕ) → numberSays body n ≡ refused k → Why n k
-  numbered-turned n k e = go (parserSays body) refl
+  numbered-refusals : (n k : ℕ) → numberSays body n ≡ refused k → Why n k
+  numbered-refusals n k e = go (parserSays body) refl
     where
       over : Takes body → (b : Bool) → leb (countIn body) n ≡ b → Why n k
       over g true q =
@@ -189,7 +188,7 @@ module _ (body : List ℕ) where
   pub by-number : (n : ℕ) → ByNumber body n
   by-number n =
       record {
-        turned = λ k. (numbered-turned n k, numbered-told n k);
+        refusals = λ k. (numbered-refusals n k, numbered-told n k);
         given = λ g l. numbered-item body (taken body .0 g) n l;
         said = λ g l. numbered-said body (taken body .0 g) n l;
       }

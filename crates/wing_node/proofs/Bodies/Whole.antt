@@ -12,14 +12,14 @@ use Rattle.wing_node.specs.Bool.{if}
 use Rattle.wing_node.specs.Field.{big}
 use Rattle.wing_node.specs.Cursor.{number, content, valueOf, start, from, readAt, reads, after}
 use Rattle.wing_node.specs.Definition.{ParentId, Id, Index, Name, LongName, Flags, Count, form, named, past, header, added, itemsOf, kindFrom, detailsAt, definitionOf, fieldsIn}
-use Rattle.wing_node.specs.Laid.{laid, laidAll, contents, heldAll}
+use Rattle.wing_node.specs.Laid.{laidAll, contents, contentsRead}
 use Rattle.wing_node.specs.Written.{ReadsBack}
 use Rattle.wing_node.specs.declared.cursor.Cursor.{Cursor}
 use Rattle.wing_node.specs.declared.definition.Parsed.the-variants.{Good, Refused}
 use Rattle.wing_node.specs.declared.definition.Definition.{Definition}
 use Rattle.wing_node.proofs.Bodies.InBody.{end-of}
 use Rattle.wing_node.proofs.Bodies.Laid.{definition-back, items-back}
-use Rattle.wing_node.proofs.Bodies.Round.{laid-reads, contents-held, value-read}
+use Rattle.wing_node.proofs.Bodies.Round.{laid-reads, contents-read, value-read}
 use Rattle.wing_node.proofs.Numerals.Numbers.{Digits}
 
 taken : (b : Bool) (d e : Definition) (n : ℕ) → if b (Good d) (Refused n) ≡ Good e → b ≡ true
@@ -39,9 +39,9 @@ pub laid-anew : (body : List ℕ) (d : Definition) → definitionOf body ≡ Goo
 laid-anew body d h = laid-reads (fieldsIn body) body start (good-end body d h) .1
 
 -- what the fields held is what the reading says: numbers, places and lengths
-pub held-good : (body : List ℕ) (d : Definition) → Digits 256 body → definitionOf body ≡ Good d →
-    contents (fieldsIn body) body start ≡ heldAll body (fieldsIn body) (reads (fieldsIn body) body start)
-held-good body d b h = contents-held (fieldsIn body) body start b (good-end body d h)
+pub read-good : (body : List ℕ) (d : Definition) → Digits 256 body → definitionOf body ≡ Good d →
+    contents (fieldsIn body) body start ≡ contentsRead body (fieldsIn body) (reads (fieldsIn body) body start)
+read-good body d b h = contents-read (fieldsIn body) body start b (good-end body d h)
 
 -- the flags that were read
 pub flags-read : (body : List ℕ) (d : Definition) → definitionOf body ≡ Good d →

@@ -9,10 +9,11 @@ use borrow.Author.Tests.{le-leb, eq-eqb, ne-eqb}
 use lib.Dec.{ltb, eqb, leb·zero}
 use lib.ListN.{length, drop, getD, replicate, length-drop, drop-of-length-le}
 use lib.Seq.{drop-cons, drop-drop}
+use Rattle.wing_node.proofs.Branches.{if-both}
 use Rattle.wing_node.specs.Bool.{if}
 use Rattle.wing_node.specs.Utf8.{Range, _to_, chars, holds, begins, firstThat, rowOf, leadLength, second, utf8Tail, charLength, charsFrom, utf8}
 use Rattle.wing_node.proofs.Characters.Rows.{first-passes, first-narrow}
-use Rattle.wing_node.proofs.Characters.Fronts.{if-both, if-if, holds-limits, begins-cons, begins-lead, begins-length, begins-inside, begins-at, begins-again}
+use Rattle.wing_node.proofs.Characters.Fronts.{if-if, holds-limits, begins-cons, begins-lead, begins-length, begins-inside, begins-at, begins-again}
 use Rattle.wing_node.proofs.Characters.LeadBytes.{leads, rest, lead}
 
 pub char-length-le : (s : List ℕ) → charLength s ≤ length s

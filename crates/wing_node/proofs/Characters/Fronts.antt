@@ -8,14 +8,11 @@ use borrow.Author.Tests.{le-leb, leb-true}
 use lib.Dec.{leb}
 use lib.ListN.{length, take, drop, getD, replicate, length-drop, length-replicate}
 use lib.Seq.{drop-cons, drop-drop}
+use Rattle.wing_node.proofs.Branches.{if-both}
 use Rattle.wing_node.specs.Bool.{if}
 use Rattle.wing_node.specs.Utf8.{Range, Matches, end, byte, holds, begins}
 
 -- a test that passes in two steps passes in each
-pub if-both : (p q : Bool) → if p q false ≡ true → (p ≡ true) × (q ≡ true)
-if-both true q e = (refl, e)
-if-both false q e = absurd (true≢false (sym e))
-
 pub holds-limits : (r : Range) (b : ℕ) → holds r b ≡ true → (r .low ≤ b) × (b ≤ r .high)
 unfolding holds
 holds-limits r b e = let p = if-both (leb (r .low) b) (leb b (r .high)) e in (leb-true _ _ (p .0), leb-true _ _ (p .1))

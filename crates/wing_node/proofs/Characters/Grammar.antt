@@ -8,11 +8,12 @@ use native.Mathlib.Omega.{arith}
 use lib.Dec.{T, ltb, eqb, leb→le, eqb·suc-zero}
 use lib.ListN.{length, drop, take-append-drop}
 use lib.Seq.{drop-at, drop-nil}
-use Rattle.wing_node.specs.Bool.{if}
-use Rattle.wing_node.specs.Utf8.{Range, chars, Matches, byte, Octets, none, char, holds, begins, firstThat, rowOf, leadLength, charLength, charsFrom, utf8, Decides}
-use Rattle.wing_node.proofs.Below.{both, both-left, both-right}
+use Rattle.wing_node.proofs.Branches.{if-both}
+use Rattle.wing_node.specs.Bool.{if, and}
+use Rattle.wing_node.specs.Utf8.{Range, chars, Matches, Octets, empty, char, holds, begins, firstThat, rowOf, leadLength, charLength, charsFrom, utf8, Decides}
+use Rattle.wing_node.proofs.Below.{and-T-left, and-T-right}
 use Rattle.wing_node.proofs.Characters.Rows.{first-passes, first-member, first-only}
-use Rattle.wing_node.proofs.Characters.Fronts.{if-both, holds-limits, begins-lead, begins-matches, matches-begins, matches-length}
+use Rattle.wing_node.proofs.Characters.Fronts.{holds-limits, begins-lead, begins-matches, matches-begins, matches-length}
 use Rattle.wing_node.proofs.Characters.LeadBytes.{leads, lead}
 use Rattle.wing_node.proofs.Characters.Chars.{by-row, utf8-cons}
 
@@ -20,18 +21,18 @@ use Rattle.wing_node.proofs.Characters.Chars.{by-row, utf8-cons}
 abbrev bytes : List (List Range) → Bool
 bytes [] = true
 bytes ([] ∷ rows) = false
-bytes ((r ∷ rs) ∷ rows) = both (ltb (r .high) 256) (bytes rows)
+bytes ((r ∷ rs) ∷ rows) = and (ltb (r .high) 256) (bytes rows)
 
 lead-byte : (rows : List (List Range)) (row : List Range) (b : ℕ) → T (bytes rows) → List·Memᴰ row rows → leads b row ≡ true → b < 256
 unfolding begins
 lead-byte [] row b t m p = absurd (List·Memᴰ·not-nil m)
 lead-byte ([] ∷ rows) row b t m p = absurd t
-lead-byte ((r ∷ rs) ∷ rows) row b t m p = go (List·Memᴰ·cases-cons m) (lead-byte rows row b (both-right (ltb (r .high) 256) (bytes rows) t))
+lead-byte ((r ∷ rs) ∷ rows) row b t m p = go (List·Memᴰ·cases-cons m) (lead-byte rows row b (and-T-right (ltb (r .high) 256) (bytes rows) t))
   where
     go : (row ≡ r ∷ rs) ⊎ List·Memᴰ row rows → (List·Memᴰ row rows → leads b row ≡ true → b < 256) → b < 256
     go (inl e) ih =
         let l = holds-limits r b (if-both (holds r b) true (ap (leads b) (sym e) ∙ p) .0) .1 in
-        let k = leb→le (suc (r .high)) 256 (both-left (ltb (r .high) 256) (bytes rows) t) in
+        let k = leb→le (suc (r .high)) 256 (and-T-left (ltb (r .high) 256) (bytes rows) t) in
         omega arith
     go (inr m) ih = ih m p
 
@@ -51,7 +52,7 @@ after row (b ∷ bs) s m c e =
 
 whole : {s : List ℕ} → Octets s → utf8 s ≡ true
 unfolding utf8 charsFrom
-whole none = refl
+whole empty = refl
 whole (char m c o) = after _ _ _ m c (whole o)
 
 front : (row : List Range) (s : List ℕ) → List·Memᴰ row chars → begins row s ≡ true → Octets (drop (length row) s) → Octets s
@@ -59,7 +60,7 @@ front row s m e o = rw (take-append-drop (length row) s) at (char m (begins-matc
 
 right : (k : ℕ) (s : List ℕ) → charsFrom k s ≡ true → Octets (drop k s)
 unfolding charsFrom charLength begins
-right k [] e = rw (drop-nil k) none
+right k [] e = rw (drop-nil k) empty
 right (suc k) (b ∷ s) e = right k s e
 right zero (b ∷ s) e = go (firstThat f chars) refl e (λ k. right k s)
   where

@@ -7,9 +7,9 @@ use lib.Count.{leadingZeros}
 use lib.Dec.{T, eqb, ltb, eqb→eq}
 use lib.ListN.{take, drop, replicate}
 use borrow.Author.Tests.{ne-eqb}
-use Rattle.wing_node.specs.Bool.{if}
+use Rattle.wing_node.specs.Bool.{if, and}
 use Rattle.wing_node.specs.Utf8.{Range, utf8Tail, chars, holds, begins, firstThat, rowOf, leadLength, onesIn, class, classLength, ClassesHold, second}
-use Rattle.wing_node.proofs.Below.{both, both-left, both-right, below}
+use Rattle.wing_node.proofs.Below.{and-T-left, and-T-right, below}
 use Rattle.wing_node.proofs.Characters.Rows.{alone, same, same-eq}
 
 abbrev pub leads : ℕ → List Range → Bool
@@ -45,9 +45,9 @@ pub record Lead (b : ℕ) : Type 0 where
 
 agrees : ℕ → Bool
 agrees b =
-    both (alone (leads b) chars) (both (same (drop 1 (rowOf b)) (rest b))
-    (both (eqb (leadingZeros 8 (255 - b)) (class b)) (both (classed b)
-    (both (eqb (byOnes (class b) b) (leadLength b)) (both (eqb (lowOf b) (second b .low)) (eqb (highOf b) (second b .high)))))))
+    and (alone (leads b) chars) (and (same (drop 1 (rowOf b)) (rest b))
+    (and (eqb (leadingZeros 8 (255 - b)) (class b)) (and (classed b)
+    (and (eqb (byOnes (class b) b) (leadLength b)) (and (eqb (lowOf b) (second b .low)) (eqb (highOf b) (second b .high)))))))
 
 computed : (b : ℕ) → b < 256 → T (agrees b)
 unfolding agrees leadingZeros holds begins firstThat rowOf leadLength onesIn class second
@@ -57,19 +57,19 @@ pub lead : (b : ℕ) → b < 256 → Lead b
 unfolding agrees
 lead b h =
     let t = computed b h in
-    let u = both-right (alone (leads b) chars) _ t in
-    let v = both-right (same (drop 1 (rowOf b)) (rest b)) _ u in
-    let w = both-right (eqb (leadingZeros 8 (255 - b)) (class b)) _ v in
-    let x = both-right (classed b) _ w in
-    let y = both-right (eqb (byOnes (class b) b) (leadLength b)) _ x in
+    let u = and-T-right (alone (leads b) chars) _ t in
+    let v = and-T-right (same (drop 1 (rowOf b)) (rest b)) _ u in
+    let w = and-T-right (eqb (leadingZeros 8 (255 - b)) (class b)) _ v in
+    let x = and-T-right (classed b) _ w in
+    let y = and-T-right (eqb (byOnes (class b) b) (leadLength b)) _ x in
     record {
-      one = both-left (alone (leads b) chars) _ t;
-      follows = same-eq (drop 1 (rowOf b)) (rest b) (both-left (same (drop 1 (rowOf b)) (rest b)) _ u);
-      ones = eqb→eq _ _ (both-left (eqb (leadingZeros 8 (255 - b)) (class b)) _ v);
-      right = both-left (classed b) _ w;
-      long = eqb→eq _ _ (both-left (eqb (byOnes (class b) b) (leadLength b)) _ x);
-      lowest = eqb→eq _ _ (both-left (eqb (lowOf b) (second b .low)) _ y);
-      highest = eqb→eq _ _ (both-right (eqb (lowOf b) (second b .low)) _ y);
+      one = and-T-left (alone (leads b) chars) _ t;
+      follows = same-eq (drop 1 (rowOf b)) (rest b) (and-T-left (same (drop 1 (rowOf b)) (rest b)) _ u);
+      ones = eqb→eq _ _ (and-T-left (eqb (leadingZeros 8 (255 - b)) (class b)) _ v);
+      right = and-T-left (classed b) _ w;
+      long = eqb→eq _ _ (and-T-left (eqb (byOnes (class b) b) (leadLength b)) _ x);
+      lowest = eqb→eq _ _ (and-T-left (eqb (lowOf b) (second b .low)) _ y);
+      highest = eqb→eq _ _ (and-T-right (eqb (lowOf b) (second b .low)) _ y);
     }
 
 pub classes-hold : ClassesHold

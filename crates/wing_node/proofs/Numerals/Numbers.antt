@@ -3,9 +3,9 @@ use mathlib.Core.Path.{_≡_, refl, _∙_, ap, sym}
 use mathlib.Core.List.{List, [], _∷_, _++_}
 use Prim.Native.Nat.{ℕ, zero, suc, _+_, _*_, _/_, _%_, _^_, _≤_, _<_}
 use native.Mathlib.Omega.{arith}
-use native.Mathlib.Nat.{pow-zero, pow-suc, mod-lt, mod-eq-of-lt, div-eq-of-lt, div-add-mod', div-lt-iff-lt-mul, mul-add-div-right, mul-add-mod-self-right, mul-le-mul-right, add-mul, one-mul}
+use native.Mathlib.Nat.{pow-zero, pow-suc, mod-eq-of-lt, div-eq-of-lt, div-add-mod', div-lt-iff-lt-mul, mul-add-div-right, mul-add-mod-self-right, mul-le-mul-right, add-mul, one-mul}
 use lib.ListN.{length, take, drop, getD, length-append}
-use lib.Seq.{take-suc, take-all, length-take-le, getD-take, getD-drop}
+use lib.Seq.{take-suc, take-all, length-take-le, getD-drop}
 use Rattle.wing_node.specs.Digits.{numberFrom, numberIn, digitsIn}
 
 pub length-digitsIn : (base w n : ℕ) → length (digitsIn base w n) ≡ w

@@ -29,8 +29,8 @@ module _ (w : Width) (wide : bits w ≡ hbits w + 1) where
 
 module _ (w : Width) (double : 2 ^ bits w ≡ 2 ^ hbits w + 2 ^ hbits w) (x : ℤ) (fits : SFits w x) where
   -- the bits of a number below 0, turned over, are those of its magnitude
-  pub turned : ltZ x (pos 0) ≡ true → toZ w (2 ^ bits w - 1 - ofZ w x) ≡ pos (mag x)
-  turned t = go x (fits .sfits) t
+  pub complement : ltZ x (pos 0) ≡ true → toZ w (2 ^ bits w - 1 - ofZ w x) ≡ pos (mag x)
+  complement t = go x (fits .sfits) t
     where
       go : (y : ℤ) → mag y < 2 ^ hbits w → ltZ y (pos 0) ≡ true → toZ w (2 ^ bits w - 1 - ofZ w y) ≡ pos (mag y)
       go (pos n) f t = let h : n < 0 = ltb-true n 0 t in absurd (omega arith)

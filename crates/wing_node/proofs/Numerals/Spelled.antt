@@ -7,11 +7,11 @@ use native.Mathlib.Omega.{arith}
 use native.Mathlib.Nat.{pow-suc}
 use borrow.Author.Tests.{ltb-true, ltb-false, lt-ltb, le-ltb, ne-eqb}
 use lib.Dec.{ltb}
-use lib.IntN.{ℤ, pos, negsuc, natAbs}
+use lib.IntN.{ℤ, pos, negsuc}
 use lib.ListN.{length, getD, length-append, List·getD-append, length-map}
 use Rattle.wing_node.specs.Bool.{if}
 use Rattle.wing_node.specs.Digits.{numberIn, numberFrom, digitsIn}
-use Rattle.wing_node.specs.Decimal.{ascii, digitsUpTo, digits, decimal, lastDigits, numberOf, integerOf}
+use Rattle.wing_node.specs.Decimal.{ascii, digitsUpTo, digits, decimal, lastDigits, numberSpelled, integerOf}
 use Rattle.wing_node.proofs.Numerals.Numbers.{Digits, number-snoc, number-below, length-digitsIn}
 
 same-if : (t : Bool) (x y z : List ℕ) → (t ≡ false → y ≡ z) → if t x y ≡ if t x z
@@ -56,21 +56,21 @@ map-snoc : (f : ℕ → ℕ) (s : List ℕ) (a : ℕ) → map f (s ++ (a ∷ [])
 map-snoc f [] a = refl
 map-snoc f (b ∷ s) a = ap (λ (l : List ℕ). f b ∷ l) (map-snoc f s a)
 
-numberOf-snoc : (s : List ℕ) (a : ℕ) → numberOf (s ++ (a ∷ [])) ≡ numberOf s * 10 + (a - 0x30)
-unfolding numberOf
-numberOf-snoc s a =
+numberSpelled-snoc : (s : List ℕ) (a : ℕ) → numberSpelled (s ++ (a ∷ [])) ≡ numberSpelled s * 10 + (a - 0x30)
+unfolding numberSpelled
+numberSpelled-snoc s a =
     ap (numberIn 10) (map-snoc (λ b. b - 0x30) s a) ∙ number-snoc 10 (map (λ b. b - 0x30) s) (a - 0x30)
 
-numberOf-one : (a : ℕ) → numberOf (a ∷ []) ≡ a - 0x30
-unfolding numberOf numberIn numberFrom
-numberOf-one a = omega arith
+numberSpelled-one : (a : ℕ) → numberSpelled (a ∷ []) ≡ a - 0x30
+unfolding numberSpelled numberIn numberFrom
+numberSpelled-one a = omega arith
 
 -- the digits of a number read as the number
-pub number-read : (n : ℕ) → numberOf (digits n) ≡ n
+pub number-read : (n : ℕ) → numberSpelled (digits n) ≡ n
 number-read =
-    by-digits (λ n. numberOf (digits n) ≡ n)
-    (λ n h. ap numberOf (digits-small n h) ∙ numberOf-one (ascii n) ∙ omega arith)
-    (λ n h e. ap numberOf (digits-more n h) ∙ numberOf-snoc (digits (n / 10)) (ascii (n % 10)) ∙ omega (arith, e))
+    by-digits (λ n. numberSpelled (digits n) ≡ n)
+    (λ n h. ap numberSpelled (digits-small n h) ∙ numberSpelled-one (ascii n) ∙ omega arith)
+    (λ n h e. ap numberSpelled (digits-more n h) ∙ numberSpelled-snoc (digits (n / 10)) (ascii (n % 10)) ∙ omega (arith, e))
 
 pub length-more : (n : ℕ) → 10 ≤ n → length (digits n) ≡ suc (length (digits (n / 10)))
 length-more n h = ap length (digits-more n h) ∙ length-append (digits (n / 10)) (ascii (n % 10) ∷ []) ∙ omega arith
@@ -136,8 +136,8 @@ read-back (pos n) =
 read-back (negsuc n) = rw (number-read (suc n))
 
 -- the shortest: no list of digits that spells a number has fewer than its decimal
-pub shortest : (s : List ℕ) → 0 < length s → Digits 10 (map (λ a. a - 0x30) s) → length (digits (numberOf s)) ≤ length s
-unfolding numberOf
+pub shortest : (s : List ℕ) → 0 < length s → Digits 10 (map (λ a. a - 0x30) s) → length (digits (numberSpelled s)) ≤ length s
+unfolding numberSpelled
 shortest [] p b = absurd (omega arith)
 shortest (a ∷ s) p b =
     let ds = map (λ c. c - 0x30) (a ∷ s) in

@@ -8,6 +8,7 @@ use lib.IntN.{ℤ}
 use lib.ListN.{length, drop}
 use lib.Seq.{take-append-seam}
 use borrow.Author.Tests.{leb-true}
+use Rattle.wing_node.proofs.Branches.{branch}
 use Rattle.wing_node.specs.Signed.{InBits}
 use Rattle.wing_node.specs.Utf8.{utf8}
 use Rattle.wing_node.specs.Value.{NodeValue, string}
@@ -20,7 +21,6 @@ use Rattle.wing_wire.specs.RoundTrip.{Settable, restState}
 use Rattle.wing_wire.specs.SetOrders.{AtRest, ReadBack, ReadsAsSet}
 use Rattle.wing_wire.specs.declared.state.State.{State}
 use Rattle.wing_wire.specs.declared.write.Written.{Written}
-use Rattle.wing_wire.proofs.Reading.Branches.{branch}
 use Rattle.wing_wire.proofs.BothWays.RoundTrip.{round-trip}
 
 -- a state at rest by its parts

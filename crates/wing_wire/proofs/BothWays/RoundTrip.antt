@@ -9,6 +9,7 @@ use lib.IntN.{ℤ, pos, negsuc, natAbs}
 use lib.ListN.{length, take, getD}
 use lib.Seq.{drop-length, sets, length-sets, take-all, take-suc, length-take-le}
 use borrow.Author.Tests.{leb-true, lt-leb, le-leb, ne-eqb}
+use Rattle.wing_node.specs.Bytes.{joined}
 use Rattle.wing_node.specs.Bool.{if}
 use Rattle.wing_node.specs.Digits.{digitsIn}
 use Rattle.wing_node.specs.Field.{bytesOf}
@@ -17,7 +18,7 @@ use Rattle.wing_node.specs.Utf8.{utf8}
 use Rattle.wing_node.specs.Value.{NodeValue, integer, float, string}
 use Rattle.wing_node.proofs.Characters.Grammar.{decides}
 use Rattle.wing_node.proofs.Numerals.Signs.{signed-unsigned}
-use Rattle.wing_node.proofs.Characters.Fronts.{if-both}
+use Rattle.wing_node.proofs.Branches.{if-both, and-right}
 use Rattle.wing_wire.specs.Write.{escaped, field}
 use Rattle.wing_wire.specs.Command.{from_to_, integerBytes, floatBytes, lengthBytes, stringBytes, valueBytes, idBytes, setBytes}
 use Rattle.wing_wire.specs.Token.{rule, ruleIn, ruleOf}
@@ -26,7 +27,7 @@ use Rattle.wing_wire.specs.Unit.{singleOf, isString, tokenOf, numberOf, 
 use Rattle.wing_wire.specs.Stream.{answered, StepEffect, stepEffect, isMore, afterUnit, settleOf, Run, runOf, advanceOf, released, Fed, fedFrom, feedOf}
 use Rattle.wing_wire.specs.Reader.{Event, value, eventOf, nextOf}
 use Rattle.wing_wire.specs.Range.{Within}
-use Rattle.wing_wire.specs.RoundTrip.{Settable, RoundTrip, joint, feeds, fedRest, RoundTripPieces}
+use Rattle.wing_wire.specs.RoundTrip.{Settable, RoundTrip, feeds, fedRest, RoundTripPieces}
 use Rattle.wing_wire.specs.declared.token.Class.{Class}
 use Rattle.wing_wire.specs.declared.token.Class.the-variants.{Integer as anInteger, String as aString, Length, Int16, Int32, Float as aFloat, Node}
 use Rattle.wing_wire.specs.declared.state.Pending.the-variants.{None}
@@ -38,7 +39,6 @@ use Rattle.wing_wire.proofs.Writing.Lays.{escaped-append}
 use Rattle.wing_wire.proofs.Writing.Sizes.{set-int-le, set-float-le, set-string-le}
 use Rattle.wing_wire.proofs.Reading.Pieces.{at, pending-same, feed-not-pending, feed-pieces}
 use Rattle.wing_wire.proofs.Reading.Steps.{fed, feed-again}
-use Rattle.wing_wire.proofs.Reading.Branches.{and-right}
 use Rattle.wing_wire.proofs.Reading.Beside.{event-beside}
 use Rattle.wing_wire.proofs.BothWays.Trips.{width, width-append, ready, waits, number-whole, string-whole, begin-run, single-run}
 
@@ -101,10 +101,10 @@ value-escaped (integer x) h = go (from_to_ (pos 0) (pos 63) x) refl
     go : (q : Bool) → from_to_ (pos 0) (pos 63) x ≡ q →
         if q (natAbs x ∷ []) (if (from_to_ (negsuc 32767) (pos 32767) x) (0xd3 ∷ field 2 (unsigned 15 x)) (0xd4 ∷ field 4 (unsigned 31 x))) ≡
         escaped (if q (natAbs x ∷ []) (if (from_to_ (negsuc 32767) (pos 32767) x) (0xd3 ∷ bytesOf 2 (unsigned 15 x)) (0xd4 ∷ bytesOf 4 (unsigned 31 x))))
-    go true e = let b = small-bounds x e .1 in sym (plain (natAbs x) [] (λ z. omega arith) ∙ none (natAbs x))
+    go true e = let b = small-bounds x e .1 in sym (plain (natAbs x) [] (λ z. omega arith) ∙ alone (natAbs x))
       where
-        none : (b : ℕ) → b ∷ escaped [] ≡ b ∷ []
-        none b = refl
+        alone : (b : ℕ) → b ∷ escaped [] ≡ b ∷ []
+        alone b = refl
     go false e = wide (from_to_ (negsuc 32767) (pos 32767) x)
 value-escaped (float bits) h = sym (plain 0xd5 (bytesOf 4 bits) (λ z. omega arith))
 value-escaped (string t) h =
@@ -327,10 +327,10 @@ module _ {M : Type 0} (h : ℤ → Event → M → M) where
   abbrev handed : ℤ → Answer → List ℕ → M → M
   handed node a s m = h node (eventOf a s s) m
 
-  pieces : (x : Fed M) (ps : List (List ℕ)) → x .control .escape .pending ≡ None → feeds h x ps ≡ feedOf handed x (joint ps)
-  unfolding feedOf fedFrom
+  pieces : (x : Fed M) (ps : List (List ℕ)) → x .control .escape .pending ≡ None → feeds h x ps ≡ feedOf handed x (joined ps)
+  unfolding feedOf fedFrom joined
   pieces x [] e = sym (pending-same handed x e)
-  pieces x (p ∷ ps) e = pieces (feedOf handed x p) ps (feed-not-pending handed x p) ∙ sym (feed-pieces handed x p (joint ps))
+  pieces x (p ∷ ps) e = pieces (feedOf handed x p) ps (feed-not-pending handed x p) ∙ sym (feed-pieces handed x p (joined ps))
 
   -- the same for the bytes arriving in any pieces
   pub round-trip-pieces : RoundTripPieces h

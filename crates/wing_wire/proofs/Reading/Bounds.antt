@@ -9,6 +9,7 @@ use borrow.Author.Tests.{leb-true, ltb-true}
 use lib.Dec.{leb, ltb, eqb}
 use lib.IntN.{ℤ}
 use lib.ListN.{length, take, drop, set, replicate, length-set, length-append, length-replicate, take-append-drop}
+use Rattle.wing_node.proofs.Branches.{branch}
 use Rattle.wing_node.specs.Bool.{if}
 use Rattle.wing_node.specs.Utf8.{utf8, charsFrom}
 use Rattle.wing_wire.specs.State.{bodyLimit}
@@ -30,7 +31,6 @@ use Rattle.wing_wire.specs.declared.escape.Unit.{Unit as Unitʷ}
 use Rattle.wing_wire.specs.declared.escape.Unit.the-variants.{Nothing, Bare, Appended}
 use Rattle.wing_wire.specs.declared.unit.Taken.{Taken}
 use Rattle.wing_wire.proofs.Reading.Pieces.{at, stays, run-on}
-use Rattle.wing_wire.proofs.Reading.Branches.{branch}
 
 -- ---- the table: no string wants more than 256 units, no number more than its width
 

@@ -11,10 +11,9 @@ use lib.Seq.{drop-append-seam, sets, sets-eq, take-at}
 use lib.Dec.{ltb, leb, eqb}
 use borrow.Author.Tests.{ltb-true, eqb-true}
 use Rattle.wing_node.specs.Bool.{if}
-use Rattle.wing_node.proofs.Characters.Fronts.{if-both}
+use Rattle.wing_node.proofs.Branches.{if-both, and-left, and-right}
 use Rattle.wing_wire.specs.State.{bodyLimit, zeros}
 use Rattle.wing_wire.specs.Unit.{cleared, keeps}
-use Rattle.wing_wire.proofs.Reading.Branches.{and-left, and-right}
 
 cleared-suc : (i : ℕ) (d : List ℕ) → set (cleared i d) i 0 ≡ cleared (suc i) d
 cleared-suc zero [] = refl

@@ -5,8 +5,8 @@ use mathlib.Core.List.{List, [], _∷_, _++_}
 use Prim.Native.Nat.{ℕ, zero, suc, _+_, _-_, _<_}
 use lib.Dec.{T, eqb, ltb, eqb→eq, ltb→lt}
 use lib.ListN.{getD, replicate}
-use Rattle.wing_node.specs.Bool.{if}
-use Rattle.wing_node.proofs.Below.{both, both-left, both-right, below}
+use Rattle.wing_node.specs.Bool.{if, and}
+use Rattle.wing_node.proofs.Below.{and-T-left, and-T-right, below}
 use Rattle.wing_wire.specs.Token.{rule, classes, classOf, classNumber, ruleIn, ruleOf}
 use Rattle.wing_wire.specs.declared.token.Class.{Class}
 use Rattle.wing_wire.specs.declared.token.Class.the-variants.{NoEvent, Integer, String, Length, Int16, Int32, Float, Node, End, Count, ZeroCount}
@@ -65,15 +65,15 @@ earlyOf t =
     (entryOf t))))))
 
 sameRule : Rule → Rule → Bool
-sameRule a b = both (eqb (classNumber (a .class)) (classNumber (b .class))) (eqb (a .wants) (b .wants))
+sameRule a b = and (eqb (classNumber (a .class)) (classNumber (b .class))) (eqb (a .wants) (b .wants))
 
 same-rule : (a b : Rule) → T (sameRule a b) → a ≡ b
 unfolding sameRule
 same-rule a b t =
     let p = eqb (classNumber (a .class)) (classNumber (b .class)) in
     let q = eqb (a .wants) (b .wants) in
-    let c : a .class ≡ b .class = same-class _ _ (eqb→eq _ _ (both-left p q t)) in
-    let w : a .wants ≡ b .wants = eqb→eq _ _ (both-right p q t) in
+    let c : a .class ≡ b .class = same-class _ _ (eqb→eq _ _ (and-T-left p q t)) in
+    let w : a .wants ≡ b .wants = eqb→eq _ _ (and-T-right p q t) in
     ap (λ (x : Class). rule x (a .wants)) c ∙ ap (rule (b .class)) w
 
 -- the units wanted are a byte
@@ -81,26 +81,26 @@ isByte : ℕ → Bool
 isByte t = ltb (getD wantsColumn t 0) 256
 
 right : ℕ → Bool
-right t = both (sameRule (entryOf t) (ruleOf t)) (both (sameRule (earlyOf t) (ruleOf t)) (isByte t))
+right t = and (sameRule (entryOf t) (ruleOf t)) (and (sameRule (earlyOf t) (ruleOf t)) (isByte t))
 
 computed : (t : ℕ) → t < 256 → T (right t)
 unfolding right sameRule isByte entryOf earlyOf classColumn wantsColumn classNumber classOf ruleOf ruleIn
 computed = below right 256 tt
 
 module _ (t : ℕ) (h : t < 256) where
-  others : T (both (sameRule (earlyOf t) (ruleOf t)) (isByte t))
+  others : T (and (sameRule (earlyOf t) (ruleOf t)) (isByte t))
   unfolding right
-  others = both-right (sameRule (entryOf t) (ruleOf t)) _ (computed t h)
+  others = and-T-right (sameRule (entryOf t) (ruleOf t)) _ (computed t h)
 
   -- the columns are 01's table
   pub entry-right : entryOf t ≡ ruleOf t
   unfolding right
-  entry-right = same-rule _ _ (both-left (sameRule (entryOf t) (ruleOf t)) _ (computed t h))
+  entry-right = same-rule _ _ (and-T-left (sameRule (entryOf t) (ruleOf t)) _ (computed t h))
 
   -- and so is what is answered before them
   pub early-right : earlyOf t ≡ ruleOf t
-  early-right = same-rule _ _ (both-left (sameRule (earlyOf t) (ruleOf t)) _ others)
+  early-right = same-rule _ _ (and-T-left (sameRule (earlyOf t) (ruleOf t)) _ others)
 
   pub wants-byte : getD wantsColumn t 0 < 256
   unfolding isByte
-  wants-byte = ltb→lt _ _ (both-right (sameRule (earlyOf t) (ruleOf t)) _ others)
+  wants-byte = ltb→lt _ _ (and-T-right (sameRule (earlyOf t) (ruleOf t)) _ others)

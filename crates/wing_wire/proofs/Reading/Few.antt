@@ -8,6 +8,7 @@ use lib.Dec.{ltb, eqb}
 use lib.IntN.{ℤ, pos}
 use lib.Signed.{ltZ}
 use lib.ListN.{length, length-append}
+use Rattle.wing_node.proofs.Branches.{branch}
 use Rattle.wing_node.specs.Bool.{if}
 use Rattle.wing_wire.specs.State.{escape, soundPending, soundEscape}
 use Rattle.wing_wire.specs.Escape.{decodeOf, escapedOf, plainOf, otherOf}
@@ -22,7 +23,6 @@ use Rattle.wing_wire.specs.declared.escape.Unit.{Unit}
 use Rattle.wing_wire.specs.declared.escape.Unit.the-variants.{Nothing, Bare, Appended}
 use Rattle.wing_wire.specs.declared.escape.Decoded.{Decoded}
 use Rattle.wing_wire.proofs.Reading.Pieces.{clash, settle-not-pending}
-use Rattle.wing_wire.proofs.Reading.Branches.{branch}
 use Rattle.wing_wire.proofs.Reading.Sound.{escape-parts}
 
 -- what a byte gives and leaves weighs at most one more than what stood before it

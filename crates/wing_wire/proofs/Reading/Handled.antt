@@ -3,13 +3,13 @@ use Prim.Native.Nat.{ℕ}
 use mathlib.Core.Path.{_≡_}
 use lib.IntN.{ℤ}
 use mathlib.Core.List.{List, [], _∷_}
+use Rattle.wing_node.proofs.Branches.{branch}
 use Rattle.wing_node.specs.Signed.{InBits}
 use Rattle.wing_wire.specs.Stream.{StepEffect, isMore, settleOf, firstOf, Fed, handle, fedPending, fedByte, fedFrom, feedOf}
 use Rattle.wing_wire.specs.Range.{AreBytes, noBytes, byteThen, Within, StoreIn, InRange, AnswerIn}
 use Rattle.wing_wire.specs.declared.state.Pending.the-variants.{None}
 use Rattle.wing_wire.specs.declared.unit.Answer.{Answer}
 use Rattle.wing_wire.proofs.Reading.Pieces.{settle-not-pending}
-use Rattle.wing_wire.proofs.Reading.Branches.{branch}
 use Rattle.wing_wire.proofs.Reading.Sound.{Good, Kept, settle-good, first-good}
 use Rattle.wing_wire.proofs.Reading.Ranges.{StepEffectIn, after-in, settle-in, first-in}
 

@@ -7,6 +7,7 @@ use borrow.Author.Tests.{ltb-true}
 use lib.Dec.{ltb}
 use lib.ListN.{length, drop, getD}
 use lib.Seq.{drop-cons}
+use Rattle.wing_node.proofs.Branches.{branch}
 use Rattle.wing_wire.specs.Escape.{decodeOf, byteNext, pendingNext, decodeNextOf}
 use Rattle.wing_wire.specs.Units.{Units, units, byteUnits, settled, unitsOf, UnitsByStep}
 use Rattle.wing_wire.specs.declared.state.Pending.{Pending}
@@ -15,7 +16,6 @@ use Rattle.wing_wire.specs.declared.state.Escape.{Escape}
 use Rattle.wing_wire.specs.declared.escape.Unit.{Unit}
 use Rattle.wing_wire.specs.declared.escape.Unit.the-variants.{Appended}
 use Rattle.wing_wire.specs.declared.escape.NextUnit.{NextUnit}
-use Rattle.wing_wire.proofs.Reading.Branches.{branch}
 
 -- a unit, if there is one, and then those of more bytes
 abbrev before : Unit → Units → Units

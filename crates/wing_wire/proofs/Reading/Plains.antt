@@ -14,7 +14,7 @@ use Rattle.wing_wire.specs.State.{escape, control}
 use Rattle.wing_wire.specs.Escape.{decodeOf, plainOf, byteNext, pendingNext, decodeNextOf}
 use Rattle.wing_wire.specs.Unit.{unitEffect, awaits, shiftIn, numberUnit, stringUnit, unitOf}
 use Rattle.wing_wire.specs.Stream.{answered, StepEffect, stepEffect, noAnswer, isMore, afterUnit, settleOf, givenOf, firstOf, followOf, stepOf, Run, runOf}
-use Rattle.wing_wire.specs.Plain.{isPending, isNothing, isAppended, valueOf, isInner, tokenAt, numberAhead, AheadEffect, aheadEffect, stringAhead, tokenAhead, isPlain, isFree, StepAt, stepAt, aheadOf, onAhead, onceOf, isOn}
+use Rattle.wing_wire.specs.Plain.{isPending, isNothing, isAppended, valueOf, isInner, tokenAt, numberAhead, AheadEffect, aheadEffect, stringAhead, tokenAhead, isPlain, isFree, SteppedEffect, steppedEffect, aheadOf, onAhead, onceOf, isOn}
 use Rattle.wing_wire.specs.Units.{pendingCount}
 use Rattle.wing_wire.specs.declared.token.Class.{Class}
 use Rattle.wing_wire.specs.declared.state.Pending.{Pending}
@@ -172,15 +172,15 @@ token-up (InBody want left stored) s n bs = omega arith
 -- ---- one turn of the loop
 
 -- the run from a turn: what follows it, and the bytes left
-abbrev pub whole : List ℕ → StepAt → Run
+abbrev pub whole : List ℕ → SteppedEffect → Run
 whole bytes r = runOf (at (followOf (r .effect)) (r .at)) (drop (r .at) bytes)
 
 -- the inner units change nothing of the whole
-ahead-whole : (a : Answer) (c : Control) (s bytes : List ℕ) (n : ℕ) → whole bytes (stepAt (stepEffect (answered a c) s) n) ≡ whole bytes (onAhead (stepEffect (answered a c) s) bytes n)
+ahead-whole : (a : Answer) (c : Control) (s bytes : List ℕ) (n : ℕ) → whole bytes (steppedEffect (stepEffect (answered a c) s) n) ≡ whole bytes (onAhead (stepEffect (answered a c) s) bytes n)
 unfolding onAhead aheadOf
 ahead-whole More c s bytes n = go (isPlain (c .escape)) refl
   where
-    go : (t : Bool) → isPlain (c .escape) ≡ t → whole bytes (stepAt (noAnswer c s) n) ≡ whole bytes (if t (aheadOf c s n (drop n bytes)) (stepAt (noAnswer c s) n))
+    go : (t : Bool) → isPlain (c .escape) ≡ t → whole bytes (steppedEffect (noAnswer c s) n) ≡ whole bytes (if t (aheadOf c s n (drop n bytes)) (steppedEffect (noAnswer c s) n))
     go true p =
         let g = tokenAhead (c .token) s n (drop n bytes) in
         let after = control (c .escape) (c .node) (g .ahead .token) in
@@ -206,13 +206,13 @@ settled c s u e = rw e
 
 -- nor does the next unit
 next-whole : (a : Answer) (c : Control) (s bytes : List ℕ) (n : ℕ) → isOn (answered a c) n (length bytes) ≡ true →
-    whole bytes (stepAt (stepEffect (answered a c) s) n) ≡
-    whole bytes (stepAt (givenOf (decodeNextOf (c .escape) bytes n .unit) (decodeNextOf (c .escape) bytes n .escape) c s) (decodeNextOf (c .escape) bytes n .at))
+    whole bytes (steppedEffect (stepEffect (answered a c) s) n) ≡
+    whole bytes (steppedEffect (givenOf (decodeNextOf (c .escape) bytes n .unit) (decodeNextOf (c .escape) bytes n .escape) c s) (decodeNextOf (c .escape) bytes n .at))
 unfolding decodeNextOf byteNext firstOf
 next-whole More c s bytes n on = go (c .escape .pending) refl on
   where
     go : (p : Pending) → c .escape .pending ≡ p → if (ltb n (length bytes)) true (isPending p) ≡ true →
-        whole bytes (stepAt (noAnswer c s) n) ≡ whole bytes (stepAt (givenOf (pendingNext p (c .escape) bytes n .unit) (pendingNext p (c .escape) bytes n .escape) c s) (pendingNext p (c .escape) bytes n .at))
+        whole bytes (steppedEffect (noAnswer c s) n) ≡ whole bytes (steppedEffect (givenOf (pendingNext p (c .escape) bytes n .unit) (pendingNext p (c .escape) bytes n .escape) c s) (pendingNext p (c .escape) bytes n .at))
     go None e on =
         let l : ltb n (length bytes) ≡ true = only-first (ltb n (length bytes)) on in
         rw l (ap (λ (o : StepEffect). runOf (at o n) (drop n bytes)) (plain-follow More c s e) ∙ turn (at (noAnswer c s) n) bytes n (ltb-true _ _ l) refl)
@@ -228,25 +228,25 @@ next-whole End c s bytes n on = absurd (clash on refl)
 next-whole (Refused x) c s bytes n on = absurd (clash on refl)
 
 -- a turn
-pub once-whole : (t : Answered) (s bytes : List ℕ) (n : ℕ) → isOn t n (length bytes) ≡ true → whole bytes (stepAt (stepEffect t s) n) ≡ whole bytes (onceOf (t .control) s bytes n)
+pub once-whole : (t : Answered) (s bytes : List ℕ) (n : ℕ) → isOn t n (length bytes) ≡ true → whole bytes (steppedEffect (stepEffect t s) n) ≡ whole bytes (onceOf (t .control) s bytes n)
 unfolding onceOf
 once-whole t s bytes n on =
     let g = decodeNextOf (t .control .escape) bytes n in
     let h = givenOf (g .unit) (g .escape) (t .control) s in
     next-whole (t .answer) (t .control) s bytes n on ∙ ahead-whole (h .answered .answer) (h .answered .control) (h .store) bytes (g .at)
 
-over : (a : Answer) (c : Control) (s bytes : List ℕ) (n : ℕ) → isMore a ≡ false → whole bytes (stepAt (stepEffect (answered a c) s) n) ≡ at (stepEffect (answered a c) s) n
+over : (a : Answer) (c : Control) (s bytes : List ℕ) (n : ℕ) → isMore a ≡ false → whole bytes (steppedEffect (stepEffect (answered a c) s) n) ≡ at (stepEffect (answered a c) s) n
 unfolding followOf
 over a c s bytes n e = rw e (stays (at (stepEffect (answered a c) s) n) (drop n bytes) e)
 
 -- the end: an answer, or no byte is left or pending
-pub whole-ends : (t : Answered) (s bytes : List ℕ) (n : ℕ) → isOn t n (length bytes) ≡ false → whole bytes (stepAt (stepEffect t s) n) ≡ at (stepEffect t s) n
+pub whole-ends : (t : Answered) (s bytes : List ℕ) (n : ℕ) → isOn t n (length bytes) ≡ false → whole bytes (steppedEffect (stepEffect t s) n) ≡ at (stepEffect t s) n
 whole-ends t s bytes n = by (t .answer) (t .control)
   where
-    by : (a : Answer) (c : Control) → isOn (answered a c) n (length bytes) ≡ false → whole bytes (stepAt (stepEffect (answered a c) s) n) ≡ at (stepEffect (answered a c) s) n
+    by : (a : Answer) (c : Control) → isOn (answered a c) n (length bytes) ≡ false → whole bytes (steppedEffect (stepEffect (answered a c) s) n) ≡ at (stepEffect (answered a c) s) n
     by More c off = go (c .escape .pending) (ltb n (length bytes)) refl refl off
       where
-        go : (p : Pending) (t : Bool) → c .escape .pending ≡ p → ltb n (length bytes) ≡ t → if t true (isPending p) ≡ false → whole bytes (stepAt (noAnswer c s) n) ≡ at (noAnswer c s) n
+        go : (p : Pending) (t : Bool) → c .escape .pending ≡ p → ltb n (length bytes) ≡ t → if t true (isPending p) ≡ false → whole bytes (steppedEffect (noAnswer c s) n) ≡ at (noAnswer c s) n
         go p true e l x = absurd (clash refl x)
         go None false e l x = ap (λ (o : StepEffect). runOf (at o n) (drop n bytes)) (plain-follow More c s e) ∙ ended (at (noAnswer c s) n) bytes n (ltb-false _ _ l)
         go (Byte u) false e l x = absurd (clash refl x)
@@ -263,7 +263,7 @@ ahead-escape : (h : StepEffect) (bytes : List ℕ) (n : ℕ) → onAhead h bytes
 unfolding onAhead aheadOf
 ahead-escape h bytes n = go (isFree (h .answered))
   where
-    go : (t : Bool) → if {A = StepAt} t (aheadOf (h .answered .control) (h .store) n (drop n bytes)) (stepAt h n) .effect .answered .control .escape ≡ h .answered .control .escape
+    go : (t : Bool) → if {A = SteppedEffect} t (aheadOf (h .answered .control) (h .store) n (drop n bytes)) (steppedEffect h n) .effect .answered .control .escape ≡ h .answered .control .escape
     go true = refl
     go false = refl
 
@@ -271,7 +271,7 @@ ahead-up : (h : StepEffect) (bytes : List ℕ) (n : ℕ) → n ≤ onAhead h byt
 unfolding onAhead aheadOf
 ahead-up h bytes n = go (isFree (h .answered))
   where
-    go : (t : Bool) → n ≤ if {A = StepAt} t (aheadOf (h .answered .control) (h .store) n (drop n bytes)) (stepAt h n) .at
+    go : (t : Bool) → n ≤ if {A = SteppedEffect} t (aheadOf (h .answered .control) (h .store) n (drop n bytes)) (steppedEffect h n) .at
     go true = token-up (h .answered .control .token) (h .store) n (drop n bytes)
     go false = omega arith
 

@@ -75,9 +75,9 @@ module _ {M : Type 0} (h : ℤ → Event → M → M) where
       let g = core-is-next s bytes a in
       record {
         more = λ e.
-            let none : isMore (o .answered .answer) ≡ true = ap isMore (g .answer ∙ e) in
-            feed-ends handed (s .control) (s .store) m bytes none ∙
-            rw (← g .control, ← g .store, released-more (o .answered .answer) (o .store) none);
+            let said-more : isMore (o .answered .answer) ≡ true = ap isMore (g .answer ∙ e) in
+            feed-ends handed (s .control) (s .store) m bytes said-more ∙
+            rw (← g .control, ← g .store, released-more (o .answered .answer) (o .store) said-more);
         again = λ e.
             let some : isMore (o .answered .answer) ≡ false = not-more (o .answered .answer) (λ q. e (sym (g .answer) ∙ q)) in
             feed-again handed (s .control) (s .store) m bytes some ∙ rw (← g .control, ← g .store, ← g .taken, ← g .event);

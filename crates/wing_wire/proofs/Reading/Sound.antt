@@ -11,10 +11,11 @@ use lib.IntN.{ℤ, pos, negsuc}
 use lib.Signed.{leZ, ltZ}
 use lib.ListN.{length, take, drop, getD, set, replicate}
 use lib.Seq.{drop-drop, drop-set-lt}
-use Rattle.wing_node.specs.Bool.{if}
+use Rattle.wing_node.proofs.Branches.{branch, and-left, and-right}
+use Rattle.wing_node.specs.Bool.{if, and}
 use Rattle.wing_node.specs.Utf8.{utf8}
 use Rattle.wing_wire.specs.Token.{ruleOf, widthOf}
-use Rattle.wing_wire.specs.State.{bodyLimit, and, zeros, escape, soundPending, soundEscape, underway, soundNumber, soundString, soundBody, soundCounts, storedBy, soundToken, soundState, freshState}
+use Rattle.wing_wire.specs.State.{bodyLimit, zeros, escape, soundPending, soundEscape, underway, soundNumber, soundString, soundBody, soundCounts, storedBy, soundToken, soundState, freshState}
 use Rattle.wing_wire.specs.Escape.{decoded, ended, decodeOf, escapedOf, plainOf, otherOf, byteNext, pendingNext, decodeNextOf, DecodeNextSound}
 use Rattle.wing_wire.specs.Unit.{completes, singleOf, isString, tokenOf, beginOf, countOf, numberOf, shiftIn, numberUnit, UnitEffect, cleared, stringDone, stringUnit, keeps, bodyDone, bodyNext, bodyUnit, unitOf}
 use Rattle.wing_wire.specs.Stream.{StepEffect, isMore, pendingOf, settleOf, givenOf, firstOf, followOf, stepOf, runOf, advanceOf, released, Fed, fedPending, fedByte, fedFrom, feedOf}
@@ -37,7 +38,6 @@ use Rattle.wing_wire.specs.declared.escape.NextUnit.{NextUnit}
 use Rattle.wing_wire.specs.declared.unit.Answer.{Answer}
 use Rattle.wing_wire.specs.declared.unit.Taken.{Taken}
 use Rattle.wing_wire.specs.declared.reader.Reply.{Reply}
-use Rattle.wing_wire.proofs.Reading.Branches.{branch, and-left, and-right}
 use Rattle.wing_wire.proofs.Reading.Bounds.{Fits, rule-fits, unit-bounded}
 use Rattle.wing_wire.proofs.Reading.Pieces.{at, clash, settle-not-pending, stays, run-on, released-more}
 use Rattle.wing_wire.proofs.Reading.Steps.{step-not-pending}
@@ -258,8 +258,8 @@ body-next-sound node want left stored s a b r z =
     branch (After s) (leb left 1) _ _
     (λ e.
     branch (After s) (leb want bodyLimit) _ _ (λ _. zero-cleared (length (take stored s)) (drop stored s) z) (λ q.
-    let none : stored ≤ 0 = rw q at r in
-    zero-after stored 0 s none z))
+    let empty : stored ≤ 0 = rw q at r in
+    zero-after stored 0 s empty z))
     (λ e.
     let more : 1 < left = leb-false _ _ e in
     record { some = omega arith; fits = omega arith; room = r; unused = z })

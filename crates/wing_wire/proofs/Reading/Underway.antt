@@ -4,8 +4,8 @@ use mathlib.Core.Path.{_≡_}
 use Prim.Native.Nat.{ℕ, _≤_}
 use lib.Dec.{leb}
 use borrow.Author.Tests.{leb-true}
+use Rattle.wing_node.proofs.Branches.{and-right}
 use Rattle.wing_wire.specs.State.{underway}
-use Rattle.wing_wire.proofs.Reading.Branches.{and-right}
 
 pub underway-le : (left want : ℕ) → underway left want ≡ true → left ≤ want
 unfolding underway

@@ -11,6 +11,7 @@ use lib.IntN.{ℤ, pos}
 use lib.ListN.{length, take, set}
 use lib.Seq.{sets}
 use borrow.Author.Tests.{eqb-true, eqb-false, leb-true, leb-false, lt-ltb, lt-leb, le-leb, ne-eqb, eq-eqb}
+use Rattle.wing_node.proofs.Branches.{branch}
 use Rattle.wing_node.specs.Bool.{if}
 use Rattle.wing_node.specs.Digits.{numberFrom, numberIn}
 use Rattle.wing_node.specs.Field.{big}
@@ -32,7 +33,6 @@ use Rattle.wing_wire.specs.declared.state.Token.{Token as Progress}
 use Rattle.wing_wire.specs.declared.state.Token.the-variants.{Between, Number, String as InString, Body as InBody}
 use Rattle.wing_wire.specs.declared.unit.Answer.{Answer}
 use Rattle.wing_wire.specs.declared.unit.Answer.the-variants.{String as aString, Refused}
-use Rattle.wing_wire.proofs.Reading.Branches.{branch}
 use Rattle.wing_wire.proofs.Reading.Clears.{front-read, front-cleared}
 use Rattle.wing_wire.proofs.Reading.ByUnits.{taken-append}
 

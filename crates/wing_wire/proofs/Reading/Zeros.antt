@@ -10,7 +10,8 @@ use lib.Bits.{bitOr, or-add-and, and-le-l, and-le-r}
 use lib.Dec.{eqb}
 use lib.ListN.{length, drop, getD, drop-of-length-le}
 use lib.Seq.{drop-cons}
-use Rattle.wing_wire.specs.State.{and, zeros}
+use Rattle.wing_node.specs.Bool.{and}
+use Rattle.wing_wire.specs.State.{zeros}
 
 -- two numbers joined by or are 0 if both are
 or-eqb : (a b : ℕ) → eqb (bitOr a b) 0 ≡ and (eqb a 0) (eqb b 0)

@@ -9,7 +9,7 @@ use lib.ListN.{length}
 use lib.IntN.{ℤ, pos, negsuc, natAbs}
 use lib.Signed.{mag, nonNeg}
 use borrow.Author.Tests.{leb-true, le-leb, lt-leb, ne-eqb}
-use Rattle.wing_node.proofs.Characters.Fronts.{if-both}
+use Rattle.wing_node.proofs.Branches.{if-both}
 use Rattle.wing_node.specs.Signed.{unsigned}
 use Rattle.wing_node.specs.Utf8.{utf8}
 use Rattle.wing_node.specs.Value.{string}

@@ -8,13 +8,13 @@ use native.Mathlib.Omega.{arith}
 use lib.Dec.{T, eqb, leb, ltb, leb→le}
 use lib.IntN.{ℤ, pos, negsuc, natAbs}
 use lib.ListN.{length, take, replicate, length-append, length-take}
-use Rattle.wing_node.specs.Bool.{if}
+use Rattle.wing_node.specs.Bool.{if, and}
 use Rattle.wing_node.specs.Digits.{digitsIn}
 use Rattle.wing_node.specs.Field.{bytesOf}
 use Rattle.wing_node.specs.Signed.{unsigned}
 use Rattle.wing_node.specs.Value.{integer, float, string}
-use Rattle.wing_node.specs.Utf8.{Range, chars, Matches, end, byte, Octets, none, char, holds, begins, firstThat, charLength, charsFrom, utf8}
-use Rattle.wing_node.proofs.Below.{both, both-left, both-right}
+use Rattle.wing_node.specs.Utf8.{Range, chars, Matches, end, byte, Octets, empty, char, holds, begins, firstThat, charLength, charsFrom, utf8}
+use Rattle.wing_node.proofs.Below.{and-T-left, and-T-right}
 use Rattle.wing_node.proofs.Characters.Fronts.{matches-length}
 use borrow.Author.Tests.{ltb-true, ltb-false, ne-eqb}
 use Rattle.wing_wire.proofs.Writing.Lays.{escaped-append}
@@ -98,14 +98,14 @@ row-le (byte {r} {b} {rs} {s} low high m) = byte-le r b (rowSize rs) s high (row
 -- no row of the grammar grows by more than half
 fair : List (List Range) → Bool
 fair [] = true
-fair (row ∷ rows) = both (leb (2 * rowSize row) (3 * length row)) (fair rows)
+fair (row ∷ rows) = and (leb (2 * rowSize row) (3 * length row)) (fair rows)
 
 fair-row : (rows : List (List Range)) (row : List Range) → T (fair rows) → List·Memᴰ row rows → 2 * rowSize row ≤ 3 * length row
 unfolding rowSize fair
 fair-row [] row t m = absurd (List·Memᴰ·not-nil m)
 fair-row (x ∷ rows) row t m =
-    let here = leb→le (2 * rowSize x) (3 * length x) (both-left (leb (2 * rowSize x) (3 * length x)) (fair rows) t) in
-    go (List·Memᴰ·cases-cons m) here (fair-row rows row (both-right (leb (2 * rowSize x) (3 * length x)) (fair rows) t))
+    let here = leb→le (2 * rowSize x) (3 * length x) (and-T-left (leb (2 * rowSize x) (3 * length x)) (fair rows) t) in
+    go (List·Memᴰ·cases-cons m) here (fair-row rows row (and-T-right (leb (2 * rowSize x) (3 * length x)) (fair rows) t))
   where
     go : (row ≡ x) ⊎ List·Memᴰ row rows → 2 * rowSize x ≤ 3 * length x → (List·Memᴰ row rows → 2 * rowSize row ≤ 3 * length row) → 2 * rowSize row ≤ 3 * length row
     go (inl e) h ih = rw e h
@@ -114,7 +114,7 @@ fair-row (x ∷ rows) row t m =
 -- a UTF-8 string has a df for every other byte at most, since each leads a character of two bytes
 pub utf8-le : {s : List ℕ} → Octets s → 2 * length (escaped s) ≤ 3 * length s
 unfolding escaped fair rowSize
-utf8-le none = omega arith
+utf8-le empty = omega arith
 utf8-le (char {row} {c} {s} m c' o) =
     rw (escaped-append c s, length-append (escaped c) (escaped s), length-append c s)
     (omega (arith, fair-row chars row tt m, row-le c', matches-length c', utf8-le o))

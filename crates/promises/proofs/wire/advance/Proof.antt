@@ -2,10 +2,10 @@
 use mathlib.Core.Path.{sym, subst}
 use denote.Ref.{now}
 use borrow.Author.Needs.{needs}
+use Rattle.wing_wire.specs.State.{stateOf}
 use Rattle.wing_wire.specs.Stream.{Run}
 use Rattle.wing_wire.specs.Repeated.{CoreGives}
 use Rattle.wing_wire.proofs.Reading.Repeats.{core-is-next}
-use Rattle.promises.specs.Wire.{stateOf}
 use Rattle.promises.proofs.wire.advance.Statement.{statement}
 use Rattle.promises.proofs.wire.advance.Tie as tie
 

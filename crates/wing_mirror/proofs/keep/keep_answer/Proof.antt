@@ -9,7 +9,7 @@ use mir.Facts.{toZ-ofZ}
 use mir.Syntax.{w32}
 use mir.Val.{toZ, ofZ}
 use Rattle.wing_wire.specs.State.{bodyLimit}
-use Rattle.wing_node.specs.Value.{meant}
+use Rattle.wing_node.specs.Value.{nodeValue}
 use Rattle.wing_wire.specs.Reader.{eventOf}
 use Rattle.wing_mirror.specs.Mirror.{keepEvent}
 use Rattle.wing_mirror.specs.Tally.{tallyOf}
@@ -91,7 +91,7 @@ same-length : tie.Need-same-length
 same-length c = search needs
 
 returns-2 : tie.Need-returns-2
-unfolding eventOf meant
+unfolding eventOf nodeValue
 returns-2 c =
     let at-a = c .before .before .before .before .before .before in
     let entry = at-a .before .before .before .before .before in
@@ -103,7 +103,7 @@ same-length-2 : tie.Need-same-length-2
 same-length-2 c = search needs
 
 returns-3 : tie.Need-returns-3
-unfolding eventOf meant
+unfolding eventOf nodeValue
 returns-3 c =
     let at-a2 = c .before .before .before .before .before .before in
     let entry = at-a2 .before .before .before .before .before in
@@ -113,7 +113,7 @@ same-length-3 : tie.Need-same-length-3
 same-length-3 c = search needs
 
 returns-4 : tie.Need-returns-4
-unfolding eventOf meant
+unfolding eventOf nodeValue
 returns-4 c =
     let at-a3 = c .before .before .before .before .before .before in
     let entry = at-a3 .before .before .before .before .before in

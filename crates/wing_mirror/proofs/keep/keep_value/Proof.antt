@@ -3,7 +3,7 @@
 use mathlib.Core.Path.{_∙_, ap}
 use lib.IntN.{ℤ}
 use mir.Facts.{toZ-ofZ}
-use Rattle.wing_node.specs.Value.{meant}
+use Rattle.wing_node.specs.Value.{nodeValue}
 use Rattle.wing_mirror.specs.Record.{recordOf, entry}
 use Rattle.wing_mirror.specs.Table.{table}
 use Rattle.wing_mirror.proofs.Calls.Turns.{stored-kept, unplaced-kept}
@@ -36,7 +36,7 @@ returns c =
     let start = at-lay-record .before .before .before .before in
     let l = at-lay-record .lay-record in
     let p = at-put .put in
-    let v = meant (start .args .value) (start .args .string .now) in
+    let v = nodeValue (start .args .value) (start .args .string .now) in
     let e = l .ensures ∙ ap (λ (x : ℤ). recordOf (entry x v)) (toZ-ofZ (start .fits .node)) in
     rw (c .mark .ensures) (stored-kept (start .args .node) v (table (start .args .table .now) (start .args .t .count)) (start .args .t .counts) (l .last .0) (p .result) (p .last .0) e (p .ensures) (c .before .if1 .taken))
 
@@ -53,7 +53,7 @@ returns-2 c =
     let start = at-lay-record .before .before .before .before in
     let l = at-lay-record .lay-record in
     let p = at-put .put in
-    let v = meant (start .args .value) (start .args .string .now) in
+    let v = nodeValue (start .args .value) (start .args .string .now) in
     let e = l .ensures ∙ ap (λ (x : ℤ). recordOf (entry x v)) (toZ-ofZ (start .fits .node)) in
     rw (c .mark2 .ensures) (unplaced-kept (start .args .node) v (table (start .args .table .now) (start .args .t .count)) (start .args .t .counts) (l .last .0) (p .result) (p .last .0) e (p .ensures) (c .before .if1 .left))
 

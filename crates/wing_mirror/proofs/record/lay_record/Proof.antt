@@ -11,7 +11,7 @@ use lib.ListN.{take}
 use lib.Seq.{sets}
 use Rattle.wing_node.specs.Field.{bytesOf, putAt}
 use Rattle.wing_node.specs.Signed.{unsigned}
-use Rattle.wing_node.specs.Value.{NodeValue, integer, float, string, meant}
+use Rattle.wing_node.specs.Value.{NodeValue, integer, float, string, nodeValue}
 use Rattle.wing_mirror.specs.Record.{entry, kindOf, payloadOf, recordOf, laidFrom}
 use Rattle.wing_mirror.proofs.Tables.Laying.{field-sets, record-laid}
 use borrow.Author.Needs.{needs}
@@ -49,7 +49,7 @@ same-length : tie.Need-same-length
 same-length c = search needs
 
 returns : tie.Need-returns
-unfolding kindOf payloadOf meant
+unfolding kindOf payloadOf nodeValue
 returns c =
     let at-of-i32 = c .before .before .before in
     let at-value = at-of-i32 .before .before .before in
@@ -68,7 +68,7 @@ same-length-2 : tie.Need-same-length-2
 same-length-2 c = search needs
 
 returns-2 : tie.Need-returns-2
-unfolding kindOf payloadOf meant
+unfolding kindOf payloadOf nodeValue
 returns-2 c =
     let at-value2 = c .before .before .before .before .before in
     let at-put-i32 = at-value2 .before .before .before .before in
@@ -84,7 +84,7 @@ same-length-3 : tie.Need-same-length-3
 same-length-3 c = search needs
 
 returns-3 : tie.Need-returns-3
-unfolding kindOf payloadOf meant
+unfolding kindOf payloadOf nodeValue
 returns-3 c =
     let at-value3 = c .before .before .before .before .before in
     let at-put-i32 = at-value3 .before .before .before .before in

@@ -8,7 +8,7 @@ use mir.Val.{toZ, ofZ}
 use native.Mathlib.Omega.{arith}
 use lib.ListN.{take}
 use lib.Seq.{length-take-le}
-use Rattle.wing_node.specs.Value.{NodeValue, string, meant}
+use Rattle.wing_node.specs.Value.{NodeValue, string, nodeValue}
 use Rattle.wing_wire.specs.Write.{writeOf}
 use Rattle.wing_wire.specs.Command.{setBytes}
 use Rattle.wing_mirror.specs.Record.{storable}
@@ -48,7 +48,7 @@ same-length : tie.Need-same-length
 same-length c = search needs
 
 returns : tie.Need-returns
-unfolding meant
+unfolding nodeValue
 returns c =
     let at-value = c .before .before .before .before .before in
     let start = at-value .before .before .before .before in
@@ -62,7 +62,7 @@ same-length-2 : tie.Need-same-length-2
 same-length-2 c = search needs
 
 returns-2 : tie.Need-returns-2
-unfolding meant
+unfolding nodeValue
 returns-2 c =
     let at-value2 = c .before .before .before .before .before in
     let start = at-value2 .before .before .before .before in
@@ -74,7 +74,7 @@ same-length-3 : tie.Need-same-length-3
 same-length-3 c = search needs
 
 returns-3 : tie.Need-returns-3
-unfolding meant
+unfolding nodeValue
 returns-3 c =
     let at-least = c .before .before .before .before .before in
     let at-value3 = at-least .before .before in
@@ -82,7 +82,7 @@ returns-3 c =
     let a = entry .args in
     let v = at-value3 .value3 .given in
     let n = v .0 .0 in
-    let same : string (take n (a .string .now)) ≡ meant (a .value) (a .string .now) = simp (v .1) in
+    let same : string (take n (a .string .now)) ≡ nodeValue (a .value) (a .string .now) = simp (v .1) in
     let good : storable (string (take n (a .string .now))) ≡ true = rw same (entry .pre) in
     rw (toZ-ofZ (entry .fits .id)) at (c .before .before .set-string .ensures) ∙ string-sent (a .id) n (at-least .least .result) (a .string .now) (a .out .now) (at-least .least .ensures) good ∙ ap (λ (w : NodeValue). writeOf (setBytes (a .id) w) (a .out .now)) same
 

@@ -2,7 +2,7 @@
 use mathlib.Core.Path.{refl, sym, _∙_}
 use mir.Facts.{toZ-ofZ}
 use native.Mathlib.Omega.{arith}
-use Rattle.wing_node.specs.Value.{integer, meant}
+use Rattle.wing_node.specs.Value.{integer, nodeValue}
 use Rattle.wing_mirror.specs.Record.{storable}
 use Rattle.wing_mirror.specs.Table.{table}
 use Rattle.wing_mirror.proofs.Calls.Orders.{unusable}
@@ -17,7 +17,7 @@ slice-aggregate-set-value : tie.Need-slice-aggregate-set-value
 slice-aggregate-set-value c = search needs
 
 set-value-requires : tie.Need-set-value-requires
-unfolding storable meant
+unfolding storable nodeValue
 set-value-requires c κs = (sym (c .before .before .before .before .is-usable .ensures) ∙ c .before .before .before .if1 .taken, refl, omega arith)
 
 same-length : tie.Need-same-length
@@ -27,7 +27,7 @@ same-length-2 : tie.Need-same-length-2
 same-length-2 c = search needs
 
 returns : tie.Need-returns
-unfolding meant
+unfolding nodeValue
 returns c =
     let at-set-value = c .before .before .before .before in
     let entry = at-set-value .before .before .before .before .before .before .before .before .before in

@@ -5,7 +5,7 @@ use mir.Facts.{toZ-ofZ}
 use native.Mathlib.Omega.{arith}
 use lib.ListN.{length}
 use lib.Seq.{take-all}
-use Rattle.wing_node.specs.Value.{string, meant}
+use Rattle.wing_node.specs.Value.{string, nodeValue}
 use Rattle.wing_mirror.specs.Table.{table}
 use Rattle.wing_mirror.proofs.Calls.Orders.{storable-string, unusable, long-string, bad-string}
 use borrow.Author.Needs.{needs}
@@ -22,7 +22,7 @@ cast-t14 : tie.Need-cast-t14
 cast-t14 c = search needs
 
 set-value-requires : tie.Need-set-value-requires
-unfolding meant
+unfolding nodeValue
 set-value-requires c κs =
     let at-is-utf8 = c .before .before .before in
     let at-if2 = at-is-utf8 .before in
@@ -39,7 +39,7 @@ same-length-2 : tie.Need-same-length-2
 same-length-2 c = search needs
 
 returns : tie.Need-returns
-unfolding meant
+unfolding nodeValue
 returns c =
     let at-set-value = c .before .before .before .before in
     let at-is-usable = at-set-value .before .before .before .before .before .before .before in

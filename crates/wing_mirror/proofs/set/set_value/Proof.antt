@@ -1,7 +1,7 @@
 -- Both returns are the cases of `mirrorSet` by what `has_room` tells: `lay_record`, `send` and `keep_written` make what it writes and stores
 -- (`kept-so`), or there is no place (`no-room`).
 use mir.Facts.{toZ-ofZ}
-use Rattle.wing_node.specs.Value.{meant}
+use Rattle.wing_node.specs.Value.{nodeValue}
 use Rattle.wing_mirror.specs.Table.{table}
 use Rattle.wing_mirror.proofs.Calls.Orders.{no-room, kept-so}
 use borrow.Author.Needs.{needs}
@@ -44,7 +44,7 @@ returns c =
     let entry = at-lay-record .before .before .before .before .before in
     let a = entry .args in
     let z = toZ-ofZ (entry .fits .id) in
-    kept-so (a .id) (meant (a .value) (a .string .now)) (table (a .table .now) (a .count)) (a .out .now) (entry .pre .0) (entry .pre .1) (at-lay-record .lay-record .last .0) (rw z at (at-lay-record .lay-record .ensures)) (at-has-room .has-room .result) (at-has-room .has-room .ensures) (at-if1 .if1 .taken) (at-before .send .result) (at-before .send .last .0) (rw z at (at-before .send .ensures)) (c .before .before .keep-written .result) (c .before .before .keep-written .last .0) (c .before .before .keep-written .ensures)
+    kept-so (a .id) (nodeValue (a .value) (a .string .now)) (table (a .table .now) (a .count)) (a .out .now) (entry .pre .0) (entry .pre .1) (at-lay-record .lay-record .last .0) (rw z at (at-lay-record .lay-record .ensures)) (at-has-room .has-room .result) (at-has-room .has-room .ensures) (at-if1 .if1 .taken) (at-before .send .result) (at-before .send .last .0) (rw z at (at-before .send .ensures)) (c .before .before .keep-written .result) (c .before .before .keep-written .last .0) (c .before .before .keep-written .ensures)
 
 refused-requires : tie.Need-refused-requires
 refused-requires c κs = search needs
@@ -57,7 +57,7 @@ returns-2 c =
     let at-lay-record = c .before .before .before .before .before .before in
     let entry = at-lay-record .before .before .before .before .before in
     let a = entry .args in
-    rw (c .refused .ensures) (no-room (a .id) (meant (a .value) (a .string .now)) (table (a .table .now) (a .count)) (a .out .now) (entry .pre .0) (entry .pre .1) (at-lay-record .lay-record .last .0) (rw (toZ-ofZ (entry .fits .id)) at (at-lay-record .lay-record .ensures)) (c .before .before .has-room .result) (c .before .before .has-room .ensures) (c .before .if1 .left))
+    rw (c .refused .ensures) (no-room (a .id) (nodeValue (a .value) (a .string .now)) (table (a .table .now) (a .count)) (a .out .now) (entry .pre .0) (entry .pre .1) (at-lay-record .lay-record .last .0) (rw (toZ-ofZ (entry .fits .id)) at (at-lay-record .lay-record .ensures)) (c .before .before .has-room .result) (c .before .before .has-room .ensures) (c .before .if1 .left))
 
 pub set-value-spec : {M : Type 1} → statement M
 set-value-spec =

@@ -1,19 +1,14 @@
 -- Each return is a case of `readAt` (`read-refused`, `read-short`, `read-there`), and the number is what `u16_at` says of a whole field.
-use mathlib.Core.Path.{_≡_, sym, refl, _∙_, ap}
+use mathlib.Core.Path.{sym, refl, _∙_, ap}
 use Prim.Native.Nat.{_-_, _≤_}
 use native.Mathlib.Omega.{arith}
 use lib.ListN.{length}
-use Rattle.wing_node.specs.Cursor.{number, size, right, valueOf, begins, shortOf}
+use Rattle.wing_node.specs.Cursor.{number, size, right, valueOf, contentAt, shortOf}
 use Rattle.wing_node.proofs.Numerals.Placed.{field-whole}
 use Rattle.wing_node.proofs.Bodies.Cases.{read-refused, read-short, read-there}
 use borrow.Author.Needs.{needs}
 use Rattle.wing_node.proofs.cursor.read_16.Statement.{statement}
 use Rattle.wing_node.proofs.cursor.read_16.Tie as tie
-use Rattle.wing_node.proofs.cursor.read_16.Reads as reads
-use Rattle.wing_node.proofs.cursor.read_16.Lts as lts
-use Rattle.wing_node.proofs.cursor.refuse_short.Reads as refuse-short-reads
-use Rattle.wing_node.proofs.field.left.Reads as left-reads
-use Rattle.wing_node.proofs.field.u16_at.Reads as u16-at-reads
 
 refuse-short-requires : tie.Need-refuse-short-requires
 refuse-short-requires c κs = search needs
@@ -38,7 +33,7 @@ add-t6 : tie.Need-add-t6
 add-t6 c = search needs
 
 returns-3 : tie.Need-returns-3
-unfolding size right valueOf begins
+unfolding size right valueOf contentAt
 returns-3 c =
     let k = c .before .before .before .before .before .args .c in
     let body = c .before .before .before .before .before .args .body .now in

@@ -11,11 +11,6 @@ use Rattle.wing_node.proofs.Bodies.Cases.{read-refused, string-short, s
 use borrow.Author.Needs.{needs}
 use Rattle.wing_node.proofs.cursor.read_string.Statement.{statement}
 use Rattle.wing_node.proofs.cursor.read_string.Tie as tie
-use Rattle.wing_node.proofs.cursor.read_string.Reads as reads
-use Rattle.wing_node.proofs.cursor.read_string.Lts as lts
-use Rattle.wing_node.proofs.cursor.refuse.Reads as refuse-reads
-use Rattle.wing_node.proofs.field.left.Reads as left-reads
-use Rattle.wing_node.proofs.utf8.is_utf8.Reads as is-utf8-reads
 
 refuse-requires : tie.Need-refuse-requires
 refuse-requires c κs = search needs
@@ -66,28 +61,35 @@ is-utf8-requires : tie.Need-is-utf8-requires
 is-utf8-requires c κs = search needs
 
 cast-t18 : tie.Need-cast-t18
-cast-t18 c = omega (arith, c .before .before .before .before .shared-slice-known2 .given (c .before .before .before .before .before .before .before .before .before .args .c .at))
+cast-t18 c =
+    let at-shared-slice-known2 = c .before .before .before .before in
+    let start = at-shared-slice-known2 .before .before .before .before .before in
+    omega (arith, at-shared-slice-known2 .shared-slice-known2 .given (start .args .c .at))
 
 refuse-requires-4 : tie.Need-refuse-requires-4
 refuse-requires-4 c κs = search needs
 
 returns-4 : tie.Need-returns-4
 returns-4 c =
-    let body = c .before .before .before .before .before .before .before .before .before .args .body .now in
-    let k = c .before .before .before .before .before .before .before .before .before .args .c in
+    let at-if1 = c .before .before .before .before .before .before .before in
+    let start = at-if1 .before .before in
+    let body = start .args .body .now in
+    let k = start .args .c in
     let len = getD body (k .at) 0 in
     let e : k .at + 1 + len - (k .at + 1) ≡ len = omega arith in
     let u : utf8 (take len (drop (k .at + 1) body)) ≡ true = sym (rw e at (c .before .is-utf8 .ensures .0)) ∙ c .if4 .taken in
-    simp (string-there body k (c .before .before .before .before .before .before .before .if1 .left) (omega arith) u)
+    simp (string-there body k (at-if1 .if1 .left) (omega arith) u)
 
 returns-5 : tie.Need-returns-5
 returns-5 c =
-    let body = c .before .before .before .before .before .before .before .before .before .before .args .body .now in
-    let k = c .before .before .before .before .before .before .before .before .before .before .args .c in
+    let at-before = c .before .before .before .before .before .before .before .before in
+    let entry = at-before .before .before in
+    let body = entry .args .body .now in
+    let k = entry .args .c in
     let len = getD body (k .at) 0 in
     let e : k .at + 1 + len - (k .at + 1) ≡ len = omega arith in
     let u : utf8 (take len (drop (k .at + 1) body)) ≡ false = sym (rw e at (c .before .before .is-utf8 .ensures .0)) ∙ c .before .if4 .left in
-    c .refuse4 .ensures ∙ sym (string-wrong body k (c .before .before .before .before .before .before .before .before .if1 .left) (omega arith) u)
+    c .refuse4 .ensures ∙ sym (string-wrong body k (at-before .if1 .left) (omega arith) u)
 
 pub read-string-spec : {M : Type 1} → statement M
 read-string-spec =

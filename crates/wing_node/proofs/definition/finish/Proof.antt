@@ -2,8 +2,6 @@
 use borrow.Author.Tests.{eq-eqb, ne-eqb}
 use Rattle.wing_node.proofs.definition.finish.Statement.{statement}
 use Rattle.wing_node.proofs.definition.finish.Tie as tie
-use Rattle.wing_node.proofs.definition.finish.Reads as reads
-use Rattle.wing_node.proofs.definition.finish.Lts as lts
 
 returns : tie.Need-returns
 returns c = simp (ne-eqb _ _ (c .if1 .taken))

@@ -4,11 +4,6 @@ use Rattle.wing_node.specs.Definition.{itemAt}
 use borrow.Author.Needs.{needs}
 use Rattle.wing_node.proofs.definition.float_item.Statement.{statement}
 use Rattle.wing_node.proofs.definition.float_item.Tie as tie
-use Rattle.wing_node.proofs.definition.float_item.Reads as reads
-use Rattle.wing_node.proofs.definition.float_item.Lts as lts
-use Rattle.wing_node.proofs.cursor.read_32.Reads as read-32-reads
-use Rattle.wing_node.proofs.cursor.read_string.Reads as read-string-reads
-use Rattle.wing_node.proofs.definition.span_of.Reads as span-of-reads
 
 read-32-requires : tie.Need-read-32-requires
 read-32-requires c κs = search needs

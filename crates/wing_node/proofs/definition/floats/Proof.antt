@@ -7,10 +7,6 @@ use Rattle.wing_node.specs.Definition.{detailsAt, times}
 use borrow.Author.Needs.{needs}
 use Rattle.wing_node.proofs.definition.floats.Statement.{statement}
 use Rattle.wing_node.proofs.definition.floats.Tie as tie
-use Rattle.wing_node.proofs.definition.floats.Reads as reads
-use Rattle.wing_node.proofs.definition.floats.Lts as lts
-use Rattle.wing_node.proofs.cursor.read_32.Reads as read-32-reads
-use Rattle.wing_node.proofs.field.to_i32.Reads as to-i32-reads
 
 read-32-requires : tie.Need-read-32-requires
 read-32-requires c κs = search needs

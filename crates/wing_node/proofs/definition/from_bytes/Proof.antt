@@ -8,18 +8,6 @@ use Rattle.wing_node.specs.Definition.{definitionOf}
 use borrow.Author.Needs.{needs}
 use Rattle.wing_node.proofs.definition.from_bytes.Statement.{statement}
 use Rattle.wing_node.proofs.definition.from_bytes.Tie as tie
-use Rattle.wing_node.proofs.definition.from_bytes.Reads as reads
-use Rattle.wing_node.proofs.definition.from_bytes.Lts as lts
-use Rattle.wing_node.proofs.cursor.begin.Reads as begin-reads
-use Rattle.wing_node.proofs.cursor.read_16.Reads as read-16-reads
-use Rattle.wing_node.proofs.cursor.read_32.Reads as read-32-reads
-use Rattle.wing_node.proofs.cursor.read_string.Reads as read-string-reads
-use Rattle.wing_node.proofs.definition.finish.Reads as finish-reads
-use Rattle.wing_node.proofs.definition.read_details.Reads as read-details-reads
-use Rattle.wing_node.proofs.definition.span_of.Reads as span-of-reads
-use Rattle.wing_node.proofs.field.to_i32.Reads as to-i32-reads
-use Rattle.wing_node.proofs.node_type.type_of.Reads as type-of-reads
-use Rattle.wing_node.proofs.node_type.unit_of.Reads as unit-of-reads
 
 begin-requires : tie.Need-begin-requires
 begin-requires c κs = search needs
@@ -69,24 +57,36 @@ finish-requires c κs = search needs
 returns : tie.Need-returns
 unfolding definitionOf reads after
 returns c =
-    let back : toZ w32 (ofZ w32 (c .before .before .before .to-i32 .result)) ≡ c .before .before .before .to-i32 .result = search needs in
+    let at-to-i32 = c .before .before .before in
+    let back : toZ w32 (ofZ w32 (at-to-i32 .to-i32 .result)) ≡ at-to-i32 .to-i32 .result = search needs in
     let back2 : toZ w32 (ofZ w32 (c .before .before .to-i322 .result)) ≡ c .before .before .to-i322 .result = search needs in
+    let at-span-of2 = at-to-i32 .before in
+    let at-span-of = at-span-of2 .before in
+    let at-read-details = at-span-of .before .before in
+    let at-type-of = at-read-details .before in
+    let at-read-162 = at-type-of .before .before in
+    let at-read-string2 = at-read-162 .before .before in
+    let at-read-string = at-read-string2 .before .before in
+    let at-read-16 = at-read-string .before .before in
+    let at-read-322 = at-read-16 .before .before in
+    let at-read-32 = at-read-322 .before .before in
+    let at-begin = at-read-32 .before in
     c .finish .ensures ∙ rw (back, back2)
     (simp (
       c .before .unit-of .ensures,
       c .before .before .to-i322 .ensures,
-      c .before .before .before .to-i32 .ensures,
-      c .before .before .before .before .span-of2 .ensures,
-      c .before .before .before .before .before .span-of .ensures,
-      c .before .before .before .before .before .before .before .read-details .ensures,
-      c .before .before .before .before .before .before .before .before .type-of .ensures,
-      c .before .before .before .before .before .before .before .before .before .before .read-162 .ensures,
-      c .before .before .before .before .before .before .before .before .before .before .before .before .read-string2 .ensures,
-      c .before .before .before .before .before .before .before .before .before .before .before .before .before .before .read-string .ensures,
-      c .before .before .before .before .before .before .before .before .before .before .before .before .before .before .before .before .read-16 .ensures,
-      c .before .before .before .before .before .before .before .before .before .before .before .before .before .before .before .before .before .before .read-322 .ensures,
-      c .before .before .before .before .before .before .before .before .before .before .before .before .before .before .before .before .before .before .before .before .read-32 .ensures,
-      c .before .before .before .before .before .before .before .before .before .before .before .before .before .before .before .before .before .before .before .before .before .begin .ensures,
+      at-to-i32 .to-i32 .ensures,
+      at-span-of2 .span-of2 .ensures,
+      at-span-of .span-of .ensures,
+      at-read-details .read-details .ensures,
+      at-type-of .type-of .ensures,
+      at-read-162 .read-162 .ensures,
+      at-read-string2 .read-string2 .ensures,
+      at-read-string .read-string .ensures,
+      at-read-16 .read-16 .ensures,
+      at-read-322 .read-322 .ensures,
+      at-read-32 .read-32 .ensures,
+      at-begin .begin .ensures,
     ))
 
 pub from-bytes-spec : {M : Type 1} → statement M

@@ -3,10 +3,6 @@ use Rattle.wing_node.specs.Definition.{listedAt}
 use borrow.Author.Needs.{needs}
 use Rattle.wing_node.proofs.definition.listed.Statement.{statement}
 use Rattle.wing_node.proofs.definition.listed.Tie as tie
-use Rattle.wing_node.proofs.definition.listed.Reads as reads
-use Rattle.wing_node.proofs.definition.listed.Lts as lts
-use Rattle.wing_node.proofs.cursor.read_16.Reads as read-16-reads
-use Rattle.wing_node.proofs.definition.past_items.Reads as past-items-reads
 
 read-16-requires : tie.Need-read-16-requires
 read-16-requires c κs = search needs

@@ -4,9 +4,6 @@ use Rattle.wing_node.specs.Definition.{detailsAt, times}
 use borrow.Author.Needs.{needs}
 use Rattle.wing_node.proofs.definition.max_len.Statement.{statement}
 use Rattle.wing_node.proofs.definition.max_len.Tie as tie
-use Rattle.wing_node.proofs.definition.max_len.Reads as reads
-use Rattle.wing_node.proofs.definition.max_len.Lts as lts
-use Rattle.wing_node.proofs.cursor.read_16.Reads as read-16-reads
 
 read-16-requires : tie.Need-read-16-requires
 read-16-requires c κs = search needs

@@ -9,9 +9,6 @@ use Rattle.wing_node.specs.Definition.{itemsOf}
 use Rattle.wing_node.proofs.Bodies.Fields.{after-refused, items-turn, items-none}
 use Rattle.wing_node.proofs.definition.past_items.Statement.{statement}
 use Rattle.wing_node.proofs.definition.past_items.Tie as tie
-use Rattle.wing_node.proofs.definition.past_items.Reads as reads
-use Rattle.wing_node.proofs.definition.past_items.Lts as lts
-use Rattle.wing_node.proofs.definition.read_item.Reads as read-item-reads
 
 abbrev Inv-loop : tie.InvT-loop
 Inv-loop body kind count c₀ left₀ c left = after (itemsOf kind count) body c₀ ≡ after (itemsOf kind left) body c

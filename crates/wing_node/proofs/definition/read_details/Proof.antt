@@ -4,13 +4,6 @@ use Rattle.wing_node.specs.Definition.{detailsAt, listedAt, times}
 use borrow.Author.Needs.{needs}
 use Rattle.wing_node.proofs.definition.read_details.Statement.{statement}
 use Rattle.wing_node.proofs.definition.read_details.Tie as tie
-use Rattle.wing_node.proofs.definition.read_details.Reads as reads
-use Rattle.wing_node.proofs.definition.read_details.Lts as lts
-use Rattle.wing_node.proofs.definition.floats.Reads as floats-reads
-use Rattle.wing_node.proofs.definition.integers.Reads as integers-reads
-use Rattle.wing_node.proofs.definition.listed.Reads as listed-reads
-use Rattle.wing_node.proofs.definition.max_len.Reads as max-len-reads
-use Rattle.wing_node.proofs.definition.no_details.Reads as no-details-reads
 
 enum-told : tie.Need-enum-told
 enum-told c = search needs

@@ -4,11 +4,6 @@ use Rattle.wing_node.specs.Definition.{itemAt}
 use borrow.Author.Needs.{needs}
 use Rattle.wing_node.proofs.definition.read_item.Statement.{statement}
 use Rattle.wing_node.proofs.definition.read_item.Tie as tie
-use Rattle.wing_node.proofs.definition.read_item.Reads as reads
-use Rattle.wing_node.proofs.definition.read_item.Lts as lts
-use Rattle.wing_node.proofs.definition.float_item.Reads as float-item-reads
-use Rattle.wing_node.proofs.definition.no_item.Reads as no-item-reads
-use Rattle.wing_node.proofs.definition.string_item.Reads as string-item-reads
 
 enum-told : tie.Need-enum-told
 enum-told c = search needs

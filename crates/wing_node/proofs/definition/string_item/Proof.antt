@@ -4,10 +4,6 @@ use Rattle.wing_node.specs.Definition.{itemAt}
 use borrow.Author.Needs.{needs}
 use Rattle.wing_node.proofs.definition.string_item.Statement.{statement}
 use Rattle.wing_node.proofs.definition.string_item.Tie as tie
-use Rattle.wing_node.proofs.definition.string_item.Reads as reads
-use Rattle.wing_node.proofs.definition.string_item.Lts as lts
-use Rattle.wing_node.proofs.cursor.read_string.Reads as read-string-reads
-use Rattle.wing_node.proofs.definition.span_of.Reads as span-of-reads
 
 read-string-requires : tie.Need-read-string-requires
 read-string-requires c κs = search needs

@@ -4,8 +4,6 @@ use Rattle.wing_node.specs.Digits.{digitsIn}
 use borrow.Author.Needs.{needs}
 use Rattle.wing_node.proofs.field.bytes_16.Statement.{statement}
 use Rattle.wing_node.proofs.field.bytes_16.Tie as tie
-use Rattle.wing_node.proofs.field.bytes_16.Reads as reads
-use Rattle.wing_node.proofs.field.bytes_16.Lts as lts
 
 cast-t4 : tie.Need-cast-t4
 cast-t4 c = search needs

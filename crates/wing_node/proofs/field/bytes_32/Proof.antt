@@ -4,8 +4,6 @@ use Rattle.wing_node.specs.Digits.{digitsIn}
 use borrow.Author.Needs.{needs}
 use Rattle.wing_node.proofs.field.bytes_32.Statement.{statement}
 use Rattle.wing_node.proofs.field.bytes_32.Tie as tie
-use Rattle.wing_node.proofs.field.bytes_32.Reads as reads
-use Rattle.wing_node.proofs.field.bytes_32.Lts as lts
 
 cast-t6 : tie.Need-cast-t6
 cast-t6 c = search needs

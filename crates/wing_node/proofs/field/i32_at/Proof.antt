@@ -6,10 +6,6 @@ use Rattle.wing_node.specs.Signed.{signed}
 use borrow.Author.Needs.{needs}
 use Rattle.wing_node.proofs.field.i32_at.Statement.{statement}
 use Rattle.wing_node.proofs.field.i32_at.Tie as tie
-use Rattle.wing_node.proofs.field.i32_at.Reads as reads
-use Rattle.wing_node.proofs.field.i32_at.Lts as lts
-use Rattle.wing_node.proofs.field.to_i32.Reads as to-i32-reads
-use Rattle.wing_node.proofs.field.u32_at.Reads as u32-at-reads
 
 u32-at-requires : tie.Need-u32-at-requires
 u32-at-requires c κs = search needs

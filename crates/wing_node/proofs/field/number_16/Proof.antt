@@ -6,8 +6,6 @@ use Rattle.wing_node.specs.Digits.{numberIn, numberFrom}
 use borrow.Author.Needs.{needs}
 use Rattle.wing_node.proofs.field.number_16.Statement.{statement}
 use Rattle.wing_node.proofs.field.number_16.Tie as tie
-use Rattle.wing_node.proofs.field.number_16.Reads as reads
-use Rattle.wing_node.proofs.field.number_16.Lts as lts
 
 mul-result : tie.Need-mul-result
 mul-result c = search needs

@@ -1,9 +1,9 @@
--- Below 0 the code takes !x from the greatest number, which leaves the bits of x (`turned`, `bits-below`); else x is its own bits (`bits-above`).
+-- Below 0 the code takes !x from the greatest number, which leaves the bits of x (`complement`, `bits-below`); else x is its own bits (`bits-above`).
 use mathlib.Core.Path.{refl}
 use native.Mathlib.Omega.{arith}
 use mir.Facts.{toZ-ofZ}
 use mir.Syntax.{w32}
-use Rattle.wing_node.proofs.Numerals.Signs.{turned, bits-below, bits-above}
+use Rattle.wing_node.proofs.Numerals.Signs.{complement, bits-below, bits-above}
 use Rattle.wing_node.proofs.field.of_i32.Statement.{statement}
 use Rattle.wing_node.proofs.field.of_i32.Tie as tie
 
@@ -11,13 +11,13 @@ cast-result : tie.Need-cast-result
 cast-result c =
     let f = c .before .fits .x in
     let t = rw (toZ-ofZ f) at (c .if1 .taken) in
-    rw (turned w32 refl (c .before .args .x) f t) (tt, record { fits = omega (arith, f .sfits) })
+    rw (complement w32 refl (c .before .args .x) f t) (tt, record { fits = omega (arith, f .sfits) })
 
 sub-result : tie.Need-sub-result
 sub-result c =
     let f = c .before .fits .x in
     let t = rw (toZ-ofZ f) at (c .if1 .taken) in
-    rw (turned w32 refl (c .before .args .x) f t) (omega (arith, f .sfits))
+    rw (complement w32 refl (c .before .args .x) f t) (omega (arith, f .sfits))
 
 cast-result-2 : tie.Need-cast-result-2
 cast-result-2 c =
@@ -30,7 +30,7 @@ returns : tie.Need-returns
 returns c =
     let f = c .before .fits .x in
     let t = rw (toZ-ofZ f) at (c .if1 .taken) in
-    rw (turned w32 refl (c .before .args .x) f t) (bits-below w32 refl (c .before .args .x) f refl t)
+    rw (complement w32 refl (c .before .args .x) f t) (bits-below w32 refl (c .before .args .x) f refl t)
 
 returns-2 : tie.Need-returns-2
 returns-2 c =

@@ -7,10 +7,6 @@ use Rattle.wing_node.specs.Field.{bytesOf, putAt}
 use borrow.Author.Needs.{needs}
 use Rattle.wing_node.proofs.field.put_i32.Statement.{statement}
 use Rattle.wing_node.proofs.field.put_i32.Tie as tie
-use Rattle.wing_node.proofs.field.put_i32.Reads as reads
-use Rattle.wing_node.proofs.field.put_i32.Lts as lts
-use Rattle.wing_node.proofs.field.of_i32.Reads as of-i32-reads
-use Rattle.wing_node.proofs.field.put_u32.Reads as put-u32-reads
 
 of-i32-requires : tie.Need-of-i32-requires
 of-i32-requires c κs = search needs

@@ -8,9 +8,6 @@ use Rattle.wing_node.proofs.Numerals.Placed.{put-short, stores-two}
 use borrow.Author.Needs.{needs}
 use Rattle.wing_node.proofs.field.put_u16.Statement.{statement}
 use Rattle.wing_node.proofs.field.put_u16.Tie as tie
-use Rattle.wing_node.proofs.field.put_u16.Reads as reads
-use Rattle.wing_node.proofs.field.put_u16.Lts as lts
-use Rattle.wing_node.proofs.field.left.Reads as left-reads
 
 left-requires : tie.Need-left-requires
 left-requires c κs = search needs

@@ -8,10 +8,6 @@ use Rattle.wing_node.proofs.Numerals.Placed.{field-short, field-whole, 
 use borrow.Author.Needs.{needs}
 use Rattle.wing_node.proofs.field.u16_at.Statement.{statement}
 use Rattle.wing_node.proofs.field.u16_at.Tie as tie
-use Rattle.wing_node.proofs.field.u16_at.Reads as reads
-use Rattle.wing_node.proofs.field.u16_at.Lts as lts
-use Rattle.wing_node.proofs.field.left.Reads as left-reads
-use Rattle.wing_node.proofs.field.number_16.Reads as number-16-reads
 
 left-requires : tie.Need-left-requires
 left-requires c κs = search needs

@@ -2,9 +2,6 @@
 use borrow.Author.Needs.{needs}
 use Rattle.wing_node.proofs.items.first_of.Statement.{statement}
 use Rattle.wing_node.proofs.items.first_of.Tie as tie
-use Rattle.wing_node.proofs.items.first_of.Reads as reads
-use Rattle.wing_node.proofs.items.first_of.Lts as lts
-use Rattle.wing_node.proofs.items.walk_of.Reads as walk-of-reads
 
 enum-known-details : tie.Need-enum-known-details
 enum-known-details c = search needs

@@ -3,10 +3,6 @@ use Rattle.wing_node.specs.Items.{itemNumbered}
 use borrow.Author.Needs.{needs}
 use Rattle.wing_node.proofs.items.item_by_number.Statement.{statement}
 use Rattle.wing_node.proofs.items.item_by_number.Tie as tie
-use Rattle.wing_node.proofs.items.item_by_number.Reads as reads
-use Rattle.wing_node.proofs.items.item_by_number.Lts as lts
-use Rattle.wing_node.proofs.items.items_begin.Reads as items-begin-reads
-use Rattle.wing_node.proofs.items.numbered.Reads as numbered-reads
 
 items-begin-requires : tie.Need-items-begin-requires
 items-begin-requires c κs = search needs

@@ -4,11 +4,6 @@ use Rattle.wing_node.specs.Items.{stepAt}
 use borrow.Author.Needs.{needs}
 use Rattle.wing_node.proofs.items.item_step.Statement.{statement}
 use Rattle.wing_node.proofs.items.item_step.Tie as tie
-use Rattle.wing_node.proofs.items.item_step.Reads as reads
-use Rattle.wing_node.proofs.items.item_step.Lts as lts
-use Rattle.wing_node.proofs.definition.read_item.Reads as read-item-reads
-use Rattle.wing_node.proofs.items.stay.Reads as stay-reads
-use Rattle.wing_node.proofs.node_type.has_items.Reads as has-items-reads
 
 stay-requires : tie.Need-stay-requires
 stay-requires c κs = search needs

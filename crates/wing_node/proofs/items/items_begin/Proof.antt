@@ -3,10 +3,6 @@ use Rattle.wing_node.specs.Items.{beginOf}
 use borrow.Author.Needs.{needs}
 use Rattle.wing_node.proofs.items.items_begin.Statement.{statement}
 use Rattle.wing_node.proofs.items.items_begin.Tie as tie
-use Rattle.wing_node.proofs.items.items_begin.Reads as reads
-use Rattle.wing_node.proofs.items.items_begin.Lts as lts
-use Rattle.wing_node.proofs.definition.from_bytes.Reads as from-bytes-reads
-use Rattle.wing_node.proofs.items.first_of.Reads as first-of-reads
 
 from-bytes-requires : tie.Need-from-bytes-requires
 from-bytes-requires c κs = search needs

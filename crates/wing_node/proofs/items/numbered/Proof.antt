@@ -1,13 +1,9 @@
 -- Both returns are the branches of `numberedFrom`: `past_items` gives the place after the items before it, and `item_step` the item there.
-use borrow.Author.Tests.{le-leb, le-ltb, lt-leb, lt-ltb}
+use borrow.Author.Tests.{le-leb, lt-leb}
 use Rattle.wing_node.specs.Items.{numberedFrom}
 use borrow.Author.Needs.{needs}
 use Rattle.wing_node.proofs.items.numbered.Statement.{statement}
 use Rattle.wing_node.proofs.items.numbered.Tie as tie
-use Rattle.wing_node.proofs.items.numbered.Reads as reads
-use Rattle.wing_node.proofs.items.numbered.Lts as lts
-use Rattle.wing_node.proofs.definition.past_items.Reads as past-items-reads
-use Rattle.wing_node.proofs.items.item_step.Reads as item-step-reads
 
 cast-if1 : tie.Need-cast-if1
 cast-if1 c = search needs

@@ -5,8 +5,6 @@ use Rattle.wing_node.proofs.Eight.{over-seven}
 use Rattle.wing_node.specs.Types.{types, typeOf}
 use Rattle.wing_node.proofs.node_type.type_of.Statement.{statement}
 use Rattle.wing_node.proofs.node_type.type_of.Tie as tie
-use Rattle.wing_node.proofs.node_type.type_of.Reads as reads
-use Rattle.wing_node.proofs.node_type.type_of.Lts as lts
 
 returns : tie.Need-returns
 unfolding typeOf

@@ -5,8 +5,6 @@ use Rattle.wing_node.proofs.Eight.{over-seven}
 use Rattle.wing_node.specs.Types.{units, unitOf}
 use Rattle.wing_node.proofs.node_type.unit_of.Statement.{statement}
 use Rattle.wing_node.proofs.node_type.unit_of.Tie as tie
-use Rattle.wing_node.proofs.node_type.unit_of.Reads as reads
-use Rattle.wing_node.proofs.node_type.unit_of.Lts as lts
 
 returns : tie.Need-returns
 unfolding unitOf

@@ -17,13 +17,13 @@ abbrev μ-loop : tie.MeasureT-loop
 loop-holds : tie.Need-loop-holds Inv-loop μ-loop
 loop-holds c = refl
 
-held-requires : tie.Need-held-requires Inv-loop μ-loop
-held-requires c κs = search needs
+is-in-range-requires : tie.Need-is-in-range-requires Inv-loop μ-loop
+is-in-range-requires c κs = search needs
 
 add-at : tie.Need-add-at Inv-loop μ-loop
 add-at c =
     let l = c .before .before .before .loop in
-    omega (arith, begins-inside utf8Tail (c .before .before .before .before .before .args .s .now) (l .at) (sym (c .before .held .ensures) ∙ c .if1 .taken))
+    omega (arith, begins-inside utf8Tail (c .before .before .before .before .before .args .s .now) (l .at) (sym (c .before .is-in-range .ensures) ∙ c .if1 .taken))
 
 sub-left : tie.Need-sub-left Inv-loop μ-loop
 sub-left c = omega arith
@@ -34,12 +34,12 @@ loop-less c = omega arith
 loop-again : tie.Need-loop-again Inv-loop μ-loop
 loop-again c =
     let l = c .before .before .before .loop in
-    l .inv ∙ begins-again utf8Tail (c .before .before .before .before .before .args .s .now) (l .at) (l .left) (c .before .before .loop-test .taken) ∙ simp (← c .before .held .ensures, c .if1 .taken)
+    l .inv ∙ begins-again utf8Tail (c .before .before .before .before .before .args .s .now) (l .at) (l .left) (c .before .before .loop-test .taken) ∙ simp (← c .before .is-in-range .ensures, c .if1 .taken)
 
 returns : tie.Need-returns Inv-loop μ-loop
 returns c =
     let l = c .before .before .before .loop in
-    sym (l .inv ∙ begins-again utf8Tail (c .before .before .before .before .before .args .s .now) (l .at) (l .left) (c .before .before .loop-test .taken) ∙ simp (← c .before .held .ensures, c .if1 .left))
+    sym (l .inv ∙ begins-again utf8Tail (c .before .before .before .before .before .args .s .now) (l .at) (l .left) (c .before .before .loop-test .taken) ∙ simp (← c .before .is-in-range .ensures, c .if1 .left))
 
 returns-2 : tie.Need-returns-2 Inv-loop μ-loop
 unfolding begins
@@ -52,7 +52,7 @@ tails-spec =
     Inv-loop
     μ-loop
     loop-holds
-    held-requires
+    is-in-range-requires
     add-at
     sub-left
     loop-less

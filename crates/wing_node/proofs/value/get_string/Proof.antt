@@ -4,7 +4,7 @@ use borrow.Author.Needs.{needs}
 use mir.Syntax.{w32}
 use mir.Val.{toZ, ofZ}
 use Rattle.wing_node.specs.Decimal.{decimal}
-use Rattle.wing_node.specs.Value.{meant, stringIn, answerOf, some}
+use Rattle.wing_node.specs.Value.{nodeValue, stringIn, answerOf, some}
 use Rattle.wing_node.proofs.value.get_string.Statement.{statement}
 use Rattle.wing_node.proofs.value.get_string.Tie as tie
 
@@ -24,7 +24,7 @@ first-requires : tie.Need-first-requires
 first-requires c κs = search needs
 
 returns : tie.Need-returns
-unfolding meant stringIn
+unfolding nodeValue stringIn
 returns c =
     let v = c .before .before .v .given in
     let x = v .0 .0 in
@@ -32,11 +32,11 @@ returns c =
     c .decimal .ensures ∙ ap (λ y. answerOf (some (decimal y))) back ∙ simp (v .1)
 
 returns-2 : tie.Need-returns-2
-unfolding meant stringIn answerOf
+unfolding nodeValue stringIn answerOf
 returns-2 c = simp (c .enum-told .given .1)
 
 returns-3 : tie.Need-returns-3
-unfolding meant stringIn
+unfolding nodeValue stringIn
 returns-3 c = c .first .ensures ∙ simp (c .before .before .v2 .given .1)
 
 pub get-string-spec : {M : Type 1} → statement M

@@ -2,7 +2,6 @@
 use borrow.Author.Needs.{needs}
 use Rattle.wing_node.proofs.walker.begin_at.Statement.{statement}
 use Rattle.wing_node.proofs.walker.begin_at.Tie as tie
-use Rattle.wing_node.proofs.walker.begin_at.Reads as reads
 use Rattle.wing_node.proofs.walker.begin_at.Lts as lts
 use Rattle.wing_node.proofs.items.items_begin.Reads as items-begin-reads
 use Rattle.wing_node.proofs.walker.start_of.Reads as start-of-reads

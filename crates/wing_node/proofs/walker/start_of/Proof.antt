@@ -2,7 +2,6 @@
 use borrow.Author.Needs.{needs}
 use Rattle.wing_node.proofs.walker.start_of.Statement.{statement}
 use Rattle.wing_node.proofs.walker.start_of.Tie as tie
-use Rattle.wing_node.proofs.walker.start_of.Reads as reads
 use Rattle.wing_node.proofs.walker.start_of.Lts as lts
 
 enum-known-begun : tie.Need-enum-known-begun

@@ -34,9 +34,9 @@ returns c =
     let whole : 2 ≤ length p - at = omega arith in
     let back : toZ w16 (ofZ w16 (c .to-i16 .result)) ≡ c .to-i16 .result = search needs in
     let pair = c .before .pair-at .result in
-    let turned : pair % 256 * 256 + pair / 256 ≡ big (getD p at 0 ∷ getD p (at + 1) 0 ∷ []) =
+    let complement : pair % 256 * 256 + pair / 256 ≡ big (getD p at 0 ∷ getD p (at + 1) 0 ∷ []) =
     omega (arith, c .before .pair-at .ensures, c .before .before .shared-slice-known .given at, c .before .before .shared-slice-known .given (at + 1)) in
-    rw back (c .to-i16 .ensures ∙ ap (signed 15) (turned ∙ sym (field-whole 2 p at whole ∙ ap big (two-bytes p at whole))))
+    rw back (c .to-i16 .ensures ∙ ap (signed 15) (complement ∙ sym (field-whole 2 p at whole ∙ ap big (two-bytes p at whole))))
 
 pub reading-at-spec : {M : Type 1} → statement M
 reading-at-spec =

@@ -3,9 +3,6 @@ use Rattle.wing_wire.specs.Reader.{bodyBeside}
 use borrow.Author.Needs.{needs}
 use Rattle.wing_wire.proofs.reader.body_beside.Statement.{statement}
 use Rattle.wing_wire.proofs.reader.body_beside.Tie as tie
-use Rattle.wing_wire.proofs.reader.body_beside.Reads as reads
-use Rattle.wing_wire.proofs.reader.body_beside.Lts as lts
-use Rattle.wing_wire.proofs.reader.body_front.Reads as body-front-reads
 
 enum-told : tie.Need-enum-told
 enum-told c = search needs

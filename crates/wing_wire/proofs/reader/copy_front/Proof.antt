@@ -10,9 +10,6 @@ use Rattle.wing_wire.specs.Reader.{over}
 use Rattle.wing_wire.proofs.Reading.Overs.{over-turn, length-over, over-least}
 use Rattle.wing_wire.proofs.reader.copy_front.Statement.{statement}
 use Rattle.wing_wire.proofs.reader.copy_front.Tie as tie
-use Rattle.wing_wire.proofs.reader.copy_front.Reads as reads
-use Rattle.wing_wire.proofs.reader.copy_front.Lts as lts
-use Rattle.wing_wire.proofs.reader.least.Reads as least-reads
 
 abbrev Inv-loop : tie.InvT-loop
 Inv-loop out₀ s n most i₀ out i = (i ≤ most) × (most ≡ min (min n (length s)) (length out₀)) × (out ≡ over (take i s) out₀)

@@ -9,11 +9,6 @@ use Rattle.wing_wire.proofs.Reading.Beside.{next-event}
 use borrow.Author.Needs.{needs}
 use Rattle.wing_wire.proofs.reader.next.Statement.{statement}
 use Rattle.wing_wire.proofs.reader.next.Tie as tie
-use Rattle.wing_wire.proofs.reader.next.Reads as reads
-use Rattle.wing_wire.proofs.reader.next.Lts as lts
-use Rattle.wing_wire.proofs.reader.read_on.Reads as read-on-reads
-use Rattle.wing_wire.proofs.reader.refuse.Reads as refuse-reads
-use Rattle.wing_wire.proofs.state.is_sound.Reads as is-sound-reads
 
 is-sound-requires : tie.Need-is-sound-requires
 is-sound-requires c κs = search needs

@@ -4,12 +4,6 @@ use Rattle.wing_wire.specs.Reader.{nextFrom}
 use borrow.Author.Needs.{needs}
 use Rattle.wing_wire.proofs.reader.read_on.Statement.{statement}
 use Rattle.wing_wire.proofs.reader.read_on.Tie as tie
-use Rattle.wing_wire.proofs.reader.read_on.Reads as reads
-use Rattle.wing_wire.proofs.reader.read_on.Lts as lts
-use Rattle.wing_wire.proofs.reader.body_beside.Reads as body-beside-reads
-use Rattle.wing_wire.proofs.reader.string_beside.Reads as string-beside-reads
-use Rattle.wing_wire.proofs.stream.advance.Reads as advance-reads
-use Rattle.wing_wire.proofs.stream.release.Reads as release-reads
 
 slice-aggregate-advance : tie.Need-slice-aggregate-advance
 slice-aggregate-advance c = search needs

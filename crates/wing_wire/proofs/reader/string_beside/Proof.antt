@@ -3,9 +3,6 @@ use Rattle.wing_wire.specs.Reader.{stringBeside}
 use borrow.Author.Needs.{needs}
 use Rattle.wing_wire.proofs.reader.string_beside.Statement.{statement}
 use Rattle.wing_wire.proofs.reader.string_beside.Tie as tie
-use Rattle.wing_wire.proofs.reader.string_beside.Reads as reads
-use Rattle.wing_wire.proofs.reader.string_beside.Lts as lts
-use Rattle.wing_wire.proofs.reader.string_front.Reads as string-front-reads
 
 enum-told : tie.Need-enum-told
 enum-told c = search needs

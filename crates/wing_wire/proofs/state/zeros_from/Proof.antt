@@ -5,7 +5,8 @@ use mathlib.Core.Path.{_≡_, refl, sym, _∙_}
 use lib.Dec.{eqb}
 use lib.ListN.{length, drop}
 use borrow.Author.Needs.{needs}
-use Rattle.wing_wire.specs.State.{and, zeros}
+use Rattle.wing_node.specs.Bool.{and}
+use Rattle.wing_wire.specs.State.{zeros}
 use Rattle.wing_wire.proofs.Reading.Zeros.{one-more, no-more}
 use Rattle.wing_wire.proofs.state.zeros_from.Statement.{statement}
 use Rattle.wing_wire.proofs.state.zeros_from.Tie as tie

@@ -6,13 +6,13 @@ use Prim.Native.Nat.{_+_, _-_, _*_}
 use lib.ListN.{length}
 use Rattle.wing_wire.specs.Stream.{stepEffect, followOf, advanceOf}
 use Rattle.wing_wire.specs.Units.{pendingCount}
-use Rattle.wing_wire.specs.Plain.{stepAt}
+use Rattle.wing_wire.specs.Plain.{steppedEffect}
 use Rattle.wing_wire.proofs.Reading.Plains.{whole, once-whole, once-less, whole-ends}
 use Rattle.wing_wire.proofs.stream.advance.Statement.{statement}
 use Rattle.wing_wire.proofs.stream.advance.Tie as tie
 
 abbrev Inv-loop : tie.InvT-loop
-Inv-loop store₀ bytes t₀ i₀ store t i = (length store ≡ length store₀) × (whole bytes (stepAt (stepEffect t₀ store₀) 0) ≡ whole bytes (stepAt (stepEffect t store) i))
+Inv-loop store₀ bytes t₀ i₀ store t i = (length store ≡ length store₀) × (whole bytes (steppedEffect (stepEffect t₀ store₀) 0) ≡ whole bytes (steppedEffect (stepEffect t store) i))
 
 abbrev μ-loop : tie.MeasureT-loop
 μ-loop store₀ bytes t₀ i₀ store t i = 2 * (length bytes - i) + pendingCount (t .control .escape .pending)

@@ -4,8 +4,8 @@ use borrow.Author.Tests.{le-leb, lt-leb}
 use lib.ListN.{drop-of-length-le}
 use Rattle.wing_node.proofs.Characters.Fronts.{begins-at}
 use Rattle.wing_node.specs.Utf8.{holds, begins}
-use Rattle.wing_node.proofs.utf8.held.Statement.{statement}
-use Rattle.wing_node.proofs.utf8.held.Tie as tie
+use Rattle.wing_node.proofs.utf8.is_in_range.Statement.{statement}
+use Rattle.wing_node.proofs.utf8.is_in_range.Tie as tie
 
 shared-slice-read-if2 : tie.Need-shared-slice-read-if2
 shared-slice-read-if2 c = search needs
@@ -25,6 +25,6 @@ returns-3 : tie.Need-returns-3
 unfolding begins
 returns-3 c = rw (drop-of-length-le _ (c .if1 .left))
 
-pub held-spec : {M : Type 1} → statement M
-held-spec =
+pub is-in-range-spec : {M : Type 1} → statement M
+is-in-range-spec =
     tie.close (tie.spec shared-slice-read-if2 shared-slice-read-result returns returns-2 returns-3)
