@@ -11,7 +11,8 @@ use Rattle.wing_wire.specs.Write.{writeOf}
 use Rattle.wing_wire.specs.declared.state.State.{State}
 use Rattle.wing_wire.specs.declared.write.Written.{Written}
 use Rattle.wing_wire.specs.declared.write.Written.the-variants.{Bytes, Refused}
-use Rattle.wing_mirror.specs.Rows.{Table, All, places, joined, insert, In}
+use Rattle.wing_node.specs.Bytes.{joined}
+use Rattle.wing_mirror.specs.Rows.{Table, All, places, insert, In}
 use Rattle.wing_mirror.specs.Entry.{Entry, risingIds, ids, rankOf}
 use Rattle.wing_mirror.specs.Layout.{Layout}
 use Rattle.wing_mirror.specs.Table.{table, rows, every, soundTable, placesAllowed}

@@ -5,7 +5,8 @@ use Rattle.wing_node.specs.Bool.{if}
 use Rattle.wing_wire.specs.Write.{WriteEffect, writeEffect, writeOf}
 use Rattle.wing_wire.specs.Command.{setBytes}
 use Rattle.wing_wire.specs.declared.write.Written.the-variants.{Refused}
-use Rattle.wing_mirror.specs.Rows.{Table, joined}
+use Rattle.wing_node.specs.Bytes.{joined}
+use Rattle.wing_mirror.specs.Rows.{Table}
 use Rattle.wing_mirror.specs.Entry.{Entry}
 use Rattle.wing_mirror.specs.Layout.{Layout}
 use Rattle.wing_mirror.specs.Table.{rows, usable}

@@ -7,6 +7,7 @@ use mathlib.Core.Logic.{_⊎_}
 use lib.Dec.{ltb, eqb}
 use lib.ListN.{length, take, drop}
 use Rattle.wing_node.specs.Bool.{if}
+use Rattle.wing_node.specs.Bytes.{joined}
 
 -- one, or none
 pub data Found (A : Type 0) : Type 0 where
@@ -21,11 +22,6 @@ records w (suc n) buf = take w buf ∷ records w n (drop w buf)
 -- the record of a number
 abbrev pub row : ℕ → ℕ → List ℕ → List ℕ
 row w number buf = take w (drop (w * number) buf)
-
--- bytes one after the other
-unfoldable pub joined : List (List ℕ) → List ℕ
-joined [] = []
-joined (r ∷ rs) = r ++ joined rs
 
 -- records at the front of a buffer, whose bytes after them are as they were
 unfoldable pub laid : ℕ → List (List ℕ) → List ℕ → List ℕ

@@ -3,7 +3,7 @@ use Prim.Native.Nat.{ℕ}
 use mathlib.Core.List.{List, map}
 use Rattle.wing_wire.specs.declared.write.Written.{Written}
 use Rattle.wing_wire.specs.declared.write.Written.the-variants.{Bytes, Refused}
-use Rattle.wing_mirror.specs.Rows.{joined}
+use Rattle.wing_node.specs.Bytes.{joined}
 use Rattle.wing_mirror.specs.Record.{entryIn}
 use Rattle.wing_mirror.specs.Recall.{setOf}
 

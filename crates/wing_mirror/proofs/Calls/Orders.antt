@@ -9,6 +9,7 @@ use lib.IntN.{ℤ}
 use lib.ListN.{length, take}
 use Rattle.wing_node.specs.Utf8.{utf8}
 use Rattle.wing_node.specs.Value.{NodeValue, integer, float, string}
+use Rattle.wing_node.proofs.Branches.{if-both}
 use Rattle.wing_wire.specs.Write.{WriteEffect, writeEffect, writeOf}
 use Rattle.wing_wire.specs.Command.{setBytes, setString}
 use Rattle.wing_wire.specs.declared.write.Written.{Written}
@@ -23,19 +24,18 @@ use Rattle.wing_mirror.specs.Mirror.{SetEffect, refusedSet, mirrorSet, s
 use Rattle.wing_mirror.specs.Sets.{Replied, replied, keptOf}
 use Rattle.wing_mirror.specs.declared.answer.SetReply.{SetReply}
 use Rattle.wing_mirror.proofs.Tables.Laying.{take-least}
-use Rattle.wing_mirror.proofs.Records.Usables.{both}
 
 not-long : (v : NodeValue) → storable v ≡ true → tooLong v ≡ false
 unfolding storable tooLong
 not-long (integer x) h = refl
 not-long (float bits) h = refl
-not-long (string s) h = rw (both (leb (length s) 256) (utf8 s) h .0)
+not-long (string s) h = rw (if-both (leb (length s) 256) (utf8 s) h .0)
 
 is-text : (v : NodeValue) → storable v ≡ true → notText v ≡ false
 unfolding storable notText
 is-text (integer x) h = refl
 is-text (float bits) h = refl
-is-text (string s) h = rw (both (leb (length s) 256) (utf8 s) h .1)
+is-text (string s) h = rw (if-both (leb (length s) 256) (utf8 s) h .1)
 
 -- 01: a string of at most 256 bytes, UTF-8
 pub storable-string : (s : List ℕ) → length s ≤ 256 → utf8 s ≡ true → storable (string s) ≡ true
@@ -51,7 +51,7 @@ string-sent id n len s out l h =
     ∙ sym (writer-laws .accepted id (take n s) out (leb-true (length (take n s)) 256 (b .0)) (b .1))
   where
     b : (leb (length (take n s)) 256 ≡ true) × (utf8 (take n s) ≡ true)
-    b = both (leb (length (take n s)) 256) (utf8 (take n s)) h
+    b = if-both (leb (length (take n s)) 256) (utf8 (take n s)) h
 
 abbrev settled : Replied → List ℕ → SetEffect
 settled k out = record { answer = k .answer; out = out; table = k .after }

@@ -13,14 +13,15 @@ use Rattle.wing_node.specs.Field.{big}
 use Rattle.wing_node.specs.Signed.{signed}
 use Rattle.wing_node.specs.Utf8.{utf8}
 use Rattle.wing_node.specs.Value.{NodeValue, integer, float, string}
-use Rattle.wing_node.proofs.Branches.{branch}
+use Rattle.wing_node.proofs.Branches.{branch, if-both}
 use Rattle.wing_wire.specs.State.{zeros}
 use Rattle.wing_wire.specs.Write.{Laid, writeEffect, writeOf, WriteEffect}
 use Rattle.wing_wire.specs.Command.{setBytes}
 use Rattle.wing_wire.specs.declared.write.Written.{Written}
 use Rattle.wing_wire.specs.declared.write.Written.the-variants.{Bytes, Refused}
 use Rattle.wing_wire.proofs.Laws.{writer-laws}
-use Rattle.wing_mirror.specs.Rows.{Table, records, joined}
+use Rattle.wing_node.specs.Bytes.{joined}
+use Rattle.wing_mirror.specs.Rows.{Table, records}
 use Rattle.wing_mirror.specs.Record.{kindIn, lengthIn, payloadIn, idIn, valueIn, entryIn, stringKept, wellKept, wellFormed, full}
 use Rattle.wing_mirror.specs.Table.{rows, every, rowAt, placesAllowed, usable}
 use Rattle.wing_mirror.specs.Recall.{recallBytes, recallOf}
@@ -28,7 +29,7 @@ use Rattle.wing_mirror.specs.Sending.{orderIn, ordersOf, sizeIn}
 use Rattle.wing_mirror.proofs.Tables.Chunks.{length-records}
 use Rattle.wing_mirror.proofs.Records.Said.{row-of}
 use Rattle.wing_mirror.proofs.Tables.Tests.{from, from-all, from-next, from-none}
-use Rattle.wing_mirror.proofs.Records.Usables.{both, in-range, few, room, formed}
+use Rattle.wing_mirror.proofs.Records.Usables.{in-range, few, room, formed}
 
 -- ---- a record
 
@@ -36,13 +37,13 @@ use Rattle.wing_mirror.proofs.Records.Usables.{both, in-range, few, roo
 kept-string : (k n : ℕ) (p : List ℕ) → wellKept k n p ≡ true → (k ≡ 0 → ⊥) → (k ≡ 1 → ⊥) → (n ≤ 256) × (utf8 (take n p) ≡ true)
 unfolding wellKept stringKept
 kept-string k n p h a b =
-    let s = both (eqb k 2) (if (leb n 256) (if (zeros (drop n p)) (utf8 (take n p)) false) false) (rw (lt-leb k 1 (omega arith)) at h) in
-    let t = both (leb n 256) (if (zeros (drop n p)) (utf8 (take n p)) false) (s .1) in
-    (leb-true n 256 (t .0), both (zeros (drop n p)) (utf8 (take n p)) (t .1) .1)
+    let s = if-both (eqb k 2) (if (leb n 256) (if (zeros (drop n p)) (utf8 (take n p)) false) false) (rw (lt-leb k 1 (omega arith)) at h) in
+    let t = if-both (leb n 256) (if (zeros (drop n p)) (utf8 (take n p)) false) (s .1) in
+    (leb-true n 256 (t .0), if-both (zeros (drop n p)) (utf8 (take n p)) (t .1) .1)
 
 module _ (r : List ℕ) (wide : length r ≡ 264) (form : wellFormed r ≡ true) where
   pub text : (getD r 4 0 ≡ 0 → ⊥) → (getD r 4 0 ≡ 1 → ⊥) → (lengthIn r ≤ 256) × (utf8 (take (lengthIn r) (payloadIn r)) ≡ true)
-  text a b = kept-string (kindIn r) (lengthIn r) (payloadIn r) (both (eqb (getD r 5 0) 0) (wellKept (kindIn r) (lengthIn r) (payloadIn r)) (unfold wellFormed in form) .1) a b
+  text a b = kept-string (kindIn r) (lengthIn r) (payloadIn r) (if-both (eqb (getD r 5 0) 0) (wellKept (kindIn r) (lengthIn r) (payloadIn r)) (unfold wellFormed in form) .1) a b
 
   -- no order of a record is longer than 395 bytes
   pub order-le : length (orderIn r) ≤ 395
@@ -90,8 +91,8 @@ left-less n i b h = ap length (left-next n i b h) ∙ length-append (orderIn (ro
 every-at : {A : Type 0} (p : A → Bool) (xs : List A) (i : ℕ) (d : A) → i < length xs → every p xs ≡ true → p (getD xs i d) ≡ true
 unfolding every
 every-at p [] i d h e = absurd (omega arith)
-every-at p (x ∷ xs) zero d h e = both (p x) (every p xs) e .0
-every-at p (x ∷ xs) (suc i) d h e = every-at p xs i d (omega arith) (both (p x) (every p xs) e .1)
+every-at p (x ∷ xs) zero d h e = if-both (p x) (every p xs) e .0
+every-at p (x ∷ xs) (suc i) d h e = every-at p xs i d (omega arith) (if-both (p x) (every p xs) e .1)
 
 module _ (t : Table) (u : usable full t ≡ true) where
   -- 01: at most 1,024 places
@@ -99,7 +100,7 @@ module _ (t : Table) (u : usable full t ≡ true) where
   unfolding placesAllowed
   few-records =
       let n : ℕ = length (t .buffer) / 264 in
-      omega (arith, few full t u, leb-true n 1024 (both (leb 1 n) (leb n 1024) (in-range full t u) .1))
+      omega (arith, few full t u, leb-true n 1024 (if-both (leb 1 n) (leb n 1024) (in-range full t u) .1))
 
   pub row-formed : (i : ℕ) → i < t .count → wellFormed (rowAt i (t .buffer)) ≡ true
   row-formed i h =

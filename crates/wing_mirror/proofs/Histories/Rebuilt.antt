@@ -11,7 +11,8 @@ use lib.ListN.{length, length-append}
 use Rattle.wing_node.specs.Bool.{if}
 use Rattle.wing_wire.specs.Reader.{Event, more, value, body, end, refused}
 use Rattle.wing_wire.specs.State.{freshState}
-use Rattle.wing_mirror.specs.Rows.{joined, rising, In, All}
+use Rattle.wing_node.specs.Bytes.{joined}
+use Rattle.wing_mirror.specs.Rows.{rising, In, All}
 use Rattle.wing_mirror.specs.Entry.{Entry, entry}
 use Rattle.wing_mirror.specs.Layout.{Keeping, kept, unkept, unlessKept, Layout, ValidEntry}
 use Rattle.wing_mirror.specs.Table.{placesAllowed}

@@ -10,18 +10,19 @@ use lib.IntN.{ℤ, pos, negsuc}
 use lib.ListN.{length, replicate, length-replicate}
 use Rattle.wing_node.specs.Utf8.{utf8}
 use Rattle.wing_node.specs.Value.{NodeValue, integer, float, string}
+use Rattle.wing_node.proofs.Branches.{if-both}
 use Rattle.wing_wire.specs.State.{zeros, soundPending, soundEscape, soundCounts, storedBy, soundToken, soundState, freshState}
 use Rattle.wing_wire.specs.Stream.{Fed, feedOf}
 use Rattle.wing_wire.specs.Reader.{value, eventOf}
 use Rattle.wing_wire.specs.RoundTrip.{Settable, restState}
 use Rattle.wing_wire.specs.declared.state.State.{State}
 use Rattle.wing_wire.proofs.Laws.{decoder-laws}
-use Rattle.wing_mirror.specs.Rows.{joined, All}
+use Rattle.wing_node.specs.Bytes.{joined}
+use Rattle.wing_mirror.specs.Rows.{All}
 use Rattle.wing_mirror.specs.Entry.{Entry, storable, Typed}
 use Rattle.wing_mirror.specs.Layout.{Layout, ValidEntry}
 use Rattle.wing_mirror.specs.Machine.{StreamEvent, streamEvent, appendEvent, decodeAll, stateAfter, events}
 use Rattle.wing_mirror.specs.Recall.{setOf}
-use Rattle.wing_mirror.proofs.Records.Usables.{both}
 
 -- the events of bytes that come in two pieces are those of each, one after the other
 pub decode-pieces : (s : State) (a b : List ℕ) →
@@ -48,7 +49,7 @@ settable : (v : NodeValue) → Typed v → storable v ≡ true → Settable v
 unfolding storable
 settable (integer x) t h = t
 settable (float bits) t h = omega arith
-settable (string s) t h = let b = both (leb (length s) 256) (utf8 s) h in (leb-true (length s) 256 (b .0), b .1)
+settable (string s) t h = let b = if-both (leb (length s) 256) (utf8 s) h in (leb-true (length s) 256 (b .0), b .1)
 
 -- on channel 1, unescaped, between tokens, nothing pending and nothing stored
 abbrev channelOne : ℤ → State
@@ -69,7 +70,7 @@ entryEvent e = streamEvent (e .id) (value (e .value))
 
 -- a set order is its value at its node
 set-event : {L : Layout} (node : ℤ) (e : Entry) → ValidEntry L e → decodeAll (channelOne node) (setOf e) ≡ record { control = channelOne (e .id) .control; store = channelOne (e .id) .store; memo = entryEvent e ∷ [] }
-unfolding decodeAll
+unfolding decodeAll joined
 set-event node e h =
     decoder-laws .feed .order (λ n x rs. rs ++ (streamEvent n x ∷ [])) (pos 1) node (e .id) (replicate 4096 0) (e .value) [] (setOf e ∷ []) (h .node) (settable (e .value) (h .typed) (h .text))
     (length-replicate {A = ℕ} 4096 0) (channel-one-sound node) (append-nil (setOf e))

@@ -9,6 +9,7 @@ use borrow.Author.Tests.{le-leb}
 use lib.ListN.{length, take, drop, length-drop}
 use lib.Seq.{length-take-le}
 use Rattle.wing_node.specs.Signed.{InBits}
+use Rattle.wing_node.proofs.Branches.{if-both}
 use Rattle.wing_wire.specs.Range.{AreBytes, noBytes, byteThen}
 use Rattle.wing_mirror.specs.Rows.{Table, places, records, rising, All}
 use Rattle.wing_mirror.specs.Entry.{Entry, risingIds, ids}
@@ -17,7 +18,7 @@ use Rattle.wing_mirror.specs.Table.{rows, every, checked, soundTable, us
 use Rattle.wing_mirror.specs.History.{rank}
 use Rattle.wing_mirror.proofs.Tables.Images.{Stands, rising-map, all-map, all-also}
 use Rattle.wing_mirror.proofs.Records.Ids.{rising-ids}
-use Rattle.wing_mirror.proofs.Records.Usables.{both, few-room, room, formed, up}
+use Rattle.wing_mirror.proofs.Records.Usables.{few-room, room, formed, up}
 
 -- the first of some bytes, and the others, are bytes
 bytes-take : (n : ℕ) (s : List ℕ) → AreBytes s → AreBytes (take n s)
@@ -43,7 +44,7 @@ module _ {L : Layout} (laws : Lawful L) where
   all-rows zero buffer h b e = tt
   all-rows (suc n) buffer h b e =
       let m = mul-suc width n in
-      let f = both (wellFormed (take width buffer)) (every wellFormed (records width n (drop width buffer))) e in (
+      let f = if-both (wellFormed (take width buffer)) (every wellFormed (records width n (drop width buffer))) e in (
         record { wide = length-take-le width buffer (omega arith); bytes = bytes-take width buffer b; form = f .0 },
         all-rows n (drop width buffer) (omega (arith, length-drop width buffer)) (bytes-drop width buffer b) (f .1),
       )

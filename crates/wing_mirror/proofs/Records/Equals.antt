@@ -12,11 +12,11 @@ use lib.ListN.{length, take, drop, getD, length-drop, drop-of-length-le}
 use lib.Seq.{drop-cons, take-add, length-take-le}
 use Rattle.wing_node.specs.Bool.{if}
 use Rattle.wing_node.specs.Utf8.{Decides}
+use Rattle.wing_node.proofs.Branches.{if-both}
 use Rattle.wing_mirror.specs.Rows.{Table, records}
 use Rattle.wing_mirror.specs.Layout.{Layout}
 use Rattle.wing_mirror.specs.Table.{rows}
 use Rattle.wing_mirror.specs.Query.{sameBytes, sameRows, sameTables}
-use Rattle.wing_mirror.proofs.Records.Usables.{both}
 
 module _ (a b : List ℕ) (i : ℕ) where
   pub bytes-on : i < length a → i < length b → getD a i 0 ≡ getD b i 0 → sameBytes (drop i a) (drop i b) ≡ sameBytes (drop (i + 1) a) (drop (i + 1) b)
@@ -61,7 +61,7 @@ bytes-true [] [] h = refl
 bytes-true [] (b ∷ y) h = absurd (false≢true h)
 bytes-true (a ∷ x) [] h = absurd (false≢true h)
 bytes-true (a ∷ x) (b ∷ y) h =
-    ap₂ {C = List ℕ} (λ p q. p ∷ q) (eqb-true a b (both (eqb a b) (sameBytes x y) h .0)) (bytes-true x y (both (eqb a b) (sameBytes x y) h .1))
+    ap₂ {C = List ℕ} (λ p q. p ∷ q) (eqb-true a b (if-both (eqb a b) (sameBytes x y) h .0)) (bytes-true x y (if-both (eqb a b) (sameBytes x y) h .1))
 
 bytes-refl : (x : List ℕ) → sameBytes x x ≡ true
 unfolding sameBytes
@@ -74,7 +74,7 @@ rows-true [] [] h = refl
 rows-true [] (q ∷ qs) h = absurd (false≢true h)
 rows-true (r ∷ rs) [] h = absurd (false≢true h)
 rows-true (r ∷ rs) (q ∷ qs) h =
-    ap₂ {C = List (List ℕ)} (λ x y. x ∷ y) (bytes-true r q (both (sameBytes r q) (sameRows rs qs) h .0)) (rows-true rs qs (both (sameBytes r q) (sameRows rs qs) h .1))
+    ap₂ {C = List (List ℕ)} (λ x y. x ∷ y) (bytes-true r q (if-both (sameBytes r q) (sameRows rs qs) h .0)) (rows-true rs qs (if-both (sameBytes r q) (sameRows rs qs) h .1))
 
 rows-refl : (rs : List (List ℕ)) → sameRows rs rs ≡ true
 unfolding sameRows
@@ -86,6 +86,6 @@ pub same-decides : (L : Layout) (s t : Table) → Decides (sameTables L s t) ((s
 unfolding sameTables
 same-decides L s t =
     record {
-      right = λ h. (eqb-true (s .count) (t .count) (both _ _ h .0), rows-true (rows L s) (rows L t) (both (eqb (s .count) (t .count)) _ h .1));
+      right = λ h. (eqb-true (s .count) (t .count) (if-both _ _ h .0), rows-true (rows L s) (rows L t) (if-both (eqb (s .count) (t .count)) _ h .1));
       whole = λ h. rw (eq-eqb (s .count) (t .count) (h .0)) (ap (sameRows (rows L s)) (sym (h .1)) ∙ rows-refl (rows L s));
     }

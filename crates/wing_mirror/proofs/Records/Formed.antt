@@ -14,12 +14,12 @@ use Rattle.wing_node.specs.Signed.{unsigned, InBits}
 use Rattle.wing_node.specs.Utf8.{utf8}
 use Rattle.wing_node.specs.Value.{NodeValue, integer, float, string}
 use Rattle.wing_node.proofs.Numerals.Numbers.{number-digits, length-digitsIn}
+use Rattle.wing_node.proofs.Branches.{if-both}
 use Rattle.wing_wire.specs.State.{zeros}
 use Rattle.wing_wire.specs.Reader.{over, filled}
 use Rattle.wing_wire.proofs.Laws.{decoder-laws}
 use Rattle.wing_mirror.specs.Entry.{Entry, flipped, rankOf, storable}
 use Rattle.wing_mirror.specs.Record.{kindOf, payloadOf, recordOf, keyOf, stringKept, wellKept, wellFormed}
-use Rattle.wing_mirror.proofs.Records.Usables.{both}
 use Rattle.wing_mirror.proofs.Records.Words.{unsigned-below}
 
 length-filled : (p : List ℕ) → length (filled 256 p) ≡ 256
@@ -70,10 +70,10 @@ value-kept (integer x) h = ap (λ (n : ℕ). wellKept 0 n (filled 256 (bytesOf 4
 value-kept (float bits) h = ap (λ (n : ℕ). wellKept 1 n (filled 256 (bytesOf 4 bits))) (number-length bits) ∙ number-kept 1 bits (omega arith)
 value-kept (string s) h =
     ap (λ (n : ℕ). wellKept 2 n (filled 256 s)) (number-digits 256 2 (length s) (omega arith) (omega (arith, few)))
-    ∙ kept-string s few (both (leb (length s) 256) (utf8 s) h .1)
+    ∙ kept-string s few (if-both (leb (length s) 256) (utf8 s) h .1)
   where
     few : length s ≤ 256
-    few = leb-true (length s) 256 (both (leb (length s) 256) (utf8 s) h .0)
+    few = leb-true (length s) 256 (if-both (leb (length s) 256) (utf8 s) h .0)
 
 pub record-form : (e : Entry) → storable (e .value) ≡ true → wellFormed (recordOf e) ≡ true
 unfolding wellFormed recordOf digitsIn

@@ -6,6 +6,7 @@ use mathlib.Core.List.{List, [], _∷_}
 use borrow.Author.Tests.{le-leb}
 use lib.ListN.{length}
 use Rattle.wing_node.specs.Bool.{if}
+use Rattle.wing_node.proofs.Branches.{if-both}
 use Rattle.wing_mirror.specs.Rows.{Table, StoreLaws, insert, places, takes, store}
 use Rattle.wing_mirror.specs.Entry.{Entry, storable}
 use Rattle.wing_mirror.specs.Layout.{Layout, Lawful, kept}
@@ -13,7 +14,7 @@ use Rattle.wing_mirror.specs.Table.{rows, every, checked, soundTable, us
 use Rattle.wing_mirror.specs.Puts.{PutEffect, putOf}
 use Rattle.wing_mirror.proofs.Tables.Ordered.{Cmp, cmp, low, same, high, insert-low, insert-same, insert-high}
 use Rattle.wing_mirror.proofs.Tables.Stays.{stored}
-use Rattle.wing_mirror.proofs.Records.Usables.{both, in-range, few, formed, up}
+use Rattle.wing_mirror.proofs.Records.Usables.{in-range, few, formed, up}
 
 pub every-insert : {A : Type 0} (key : A → ℕ) (p : A → Bool) (e : A) (xs : List A) → p e ≡ true → every p xs ≡ true → every p (insert key e xs) ≡ true
 unfolding insert every
@@ -21,7 +22,7 @@ every-insert key p e [] h a = rw h
 every-insert key p e (x ∷ xs) h a = go (cmp (key x) (key e)) (every-insert key p e xs h (b .1))
   where
     b : (p x ≡ true) × (every p xs ≡ true)
-    b = both (p x) (every p xs) a
+    b = if-both (p x) (every p xs) a
 
     go : Cmp (key x) (key e) → every p (insert key e xs) ≡ true → every p (insert key e (x ∷ xs)) ≡ true
     go (low q) ih = rw (insert-low key e x xs q, b .0, ih)

@@ -14,6 +14,7 @@ use Rattle.wing_node.specs.Result.{Result, ok, refused}
 use Rattle.wing_node.specs.Signed.{InBits}
 use Rattle.wing_node.specs.Utf8.{utf8}
 use Rattle.wing_node.specs.Value.{NodeValue, integer, float, string, nodeValue}
+use Rattle.wing_node.proofs.Branches.{if-both}
 use Rattle.wing_wire.specs.Range.{AreBytes}
 use Rattle.wing_mirror.specs.Rows.{Table, found, nothing, holds, below, numberOf, All}
 use Rattle.wing_mirror.specs.Entry.{Entry, entry, rankOf, storable}
@@ -25,7 +26,7 @@ use Rattle.wing_mirror.specs.Lookups.{RecordOf, Lookups}
 use Rattle.wing_mirror.proofs.Tables.Chunks.{length-records}
 use Rattle.wing_mirror.proofs.Tables.Numbers.{placed, found-at}
 use Rattle.wing_mirror.proofs.Records.Ids.{same-id, same-rank}
-use Rattle.wing_mirror.proofs.Records.Usables.{both, up}
+use Rattle.wing_mirror.proofs.Records.Usables.{up}
 use Rattle.wing_mirror.proofs.Records.Formed.{take-over}
 use Rattle.wing_mirror.proofs.Records.Entries.{row-stands, each}
 
@@ -39,7 +40,7 @@ unfolding entryResult readOf valueOf bytesBeside nodeValue storable
 value-read id (integer x) h = refl
 value-read id (float bits) h = refl
 value-read id (string s) h =
-    let l : length s ≤ 256 = leb-true (length s) 256 (both (leb (length s) 256) (utf8 s) h .0) in
+    let l : length s ≤ 256 = leb-true (length s) 256 (if-both (leb (length s) 256) (utf8 s) h .0) in
     ap (λ (x : List ℕ). ok (entry id (string x))) (take-over s (replicate 256 0) (omega (arith, length-replicate {A = ℕ} 256 0)))
 
 -- an element of a list all of which have it

@@ -9,18 +9,18 @@ use lib.Dec.{leb, eqb}
 use lib.IntN.{ℤ}
 use lib.ListN.{length, take, drop, getD, replicate, length-replicate, length-drop, take-append-drop}
 use lib.Seq.{drop-cons, drop-drop, length-take-le}
-use Rattle.wing_node.specs.Bool.{if}
+use Rattle.wing_node.specs.Bool.{if, and}
 use Rattle.wing_node.specs.Digits.{digitsIn}
 use Rattle.wing_node.specs.Field.{big, bytesOf}
 use Rattle.wing_node.specs.Signed.{signed, unsigned, InBits}
 use Rattle.wing_node.specs.Utf8.{utf8}
 use Rattle.wing_node.specs.Value.{NodeValue, integer, float, string}
 use Rattle.wing_node.proofs.Numerals.Numbers.{Digits, digits-take, digits-drop, digits-number, number-digits, length-digitsIn}
-use Rattle.wing_wire.specs.State.{zeros, and}
+use Rattle.wing_node.proofs.Branches.{if-both}
+use Rattle.wing_wire.specs.State.{zeros}
 use Rattle.wing_wire.specs.Reader.{over, filled}
 use Rattle.wing_mirror.specs.Entry.{entry, storable, Typed}
 use Rattle.wing_mirror.specs.Record.{kindOf, payloadOf, recordOf, kindIn, lengthIn, payloadIn, valueIn, entryIn, stringKept, wellKept, wellFormed}
-use Rattle.wing_mirror.proofs.Records.Usables.{both}
 use Rattle.wing_mirror.proofs.Records.Words.{word-back, int-back, word-again, int-again}
 use Rattle.wing_mirror.proofs.Records.Formed.{take-over}
 
@@ -35,7 +35,7 @@ unfolding entryIn valueIn recordOf kindOf payloadOf storable digitsIn
 entry-back id (integer x) h t s = ap₂ (λ (i y : ℤ). entry i (integer y)) (int-back id h) (int-back x t)
 entry-back id (float bits) h t s = ap₂ (λ (i : ℤ) (y : ℕ). entry i (float y)) (int-back id h) (word-back bits t)
 entry-back id (string l) h t s =
-    ap₂ (λ (i : ℤ) (y : List ℕ). entry i (string y)) (int-back id h) (string-back l (leb-true (length l) 256 (both (leb (length l) 256) (utf8 l) s .0)))
+    ap₂ (λ (i : ℤ) (y : List ℕ). entry i (string y)) (int-back id h) (string-back l (leb-true (length l) 256 (if-both (leb (length l) 256) (utf8 l) s .0)))
 
 zeros-cons : (a : ℕ) (s : List ℕ) → zeros (a ∷ s) ≡ true → (a ≡ 0) × (zeros s ≡ true)
 unfolding zeros
@@ -73,16 +73,16 @@ module _ (n : ℕ) (p : List ℕ) (long : length p ≡ 256) (bytes : Digits 256 
   value-again : (k : ℕ) → wellKept k n p ≡ true → Again k
   unfolding kindOf payloadOf storable wellKept stringKept
   value-again zero h =
-      let b = both (eqb n 4) (zeros (drop 4 p)) h in
+      let b = if-both (eqb n 4) (zeros (drop 4 p)) h in
       let s : bytesOf 4 (unsigned 31 (signed 31 (big (take 4 p)))) ≡ take 4 p = int-again (take 4 p) four-long (digits-take 256 4 p bytes) in
       (refl, length-digitsIn 256 4 (unsigned 31 (signed 31 (big (take 4 p)))) ∙ sym (eqb-true n 4 (b .0)), ap (filled 256) s ∙ fill-back 256 4 p long (b .1), refl)
   value-again (suc zero) h =
-      let b = both (eqb n 4) (zeros (drop 4 p)) h in
+      let b = if-both (eqb n 4) (zeros (drop 4 p)) h in
       let s : bytesOf 4 (big (take 4 p)) ≡ take 4 p = word-again (take 4 p) four-long (digits-take 256 4 p bytes) in
       (refl, length-digitsIn 256 4 (big (take 4 p)) ∙ sym (eqb-true n 4 (b .0)), ap (filled 256) s ∙ fill-back 256 4 p long (b .1), refl)
   value-again (suc (suc zero)) h =
-      let b = both (leb n 256) (if (zeros (drop n p)) (utf8 (take n p)) false) h in
-      let d = both (zeros (drop n p)) (utf8 (take n p)) (b .1) in
+      let b = if-both (leb n 256) (if (zeros (drop n p)) (utf8 (take n p)) false) h in
+      let d = if-both (zeros (drop n p)) (utf8 (take n p)) (b .1) in
       let few = leb-true n 256 (b .0) in
       let l : length (take n p) ≡ n = length-take-le n p (omega arith) in
       (refl, l, fill-back 256 n p long (d .0), rw (l, le-leb n 256 few) (d .1))
@@ -103,7 +103,7 @@ parts r h =
 
 module _ (r : List ℕ) (wide : length r ≡ 264) (bytes : Digits 256 r) (form : wellFormed r ≡ true) where
   first : (eqb (getD r 5 0) 0 ≡ true) × (wellKept (kindIn r) (lengthIn r) (payloadIn r) ≡ true)
-  first = both (eqb (getD r 5 0) 0) (wellKept (kindIn r) (lengthIn r) (payloadIn r)) (unfold wellFormed in form)
+  first = if-both (eqb (getD r 5 0) 0) (wellKept (kindIn r) (lengthIn r) (payloadIn r)) (unfold wellFormed in form)
 
   again : Again (lengthIn r) (drop 8 r) (omega (arith, length-drop 8 r)) (digits-drop 256 8 r bytes) (getD r 4 0)
   again = value-again (lengthIn r) (drop 8 r) (omega (arith, length-drop 8 r)) (digits-drop 256 8 r bytes) (getD r 4 0) (first .1)

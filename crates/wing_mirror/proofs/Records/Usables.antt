@@ -8,13 +8,10 @@ use borrow.Author.Tests.{leb-true}
 use lib.Dec.{leb}
 use lib.ListN.{length}
 use Rattle.wing_node.specs.Bool.{if}
+use Rattle.wing_node.proofs.Branches.{if-both}
 use Rattle.wing_mirror.specs.Rows.{Table, places, rising}
 use Rattle.wing_mirror.specs.Layout.{Layout}
 use Rattle.wing_mirror.specs.Table.{rows, every, checked, soundTable, placesAllowed, usable}
-
-pub both : (a b : Bool) → if a b false ≡ true → (a ≡ true) × (b ≡ true)
-both true b h = (refl, h)
-both false b h = absurd (false≢true h)
 
 module _ (L : Layout) (t : Table) where
   open Layout L using (width, keyOf, wellFormed)
@@ -25,13 +22,13 @@ module _ (L : Layout) (t : Table) where
 
   module _ (u : usable L t ≡ true) where
     range-and-sound : (placesAllowed (places width t) ≡ true) × (soundTable L t ≡ true)
-    range-and-sound = both _ _ (unfold usable in u)
+    range-and-sound = if-both _ _ (unfold usable in u)
 
     pub in-range : placesAllowed (places width t) ≡ true
     in-range = range-and-sound .0
 
     few-and-checked : (leb (t .count) (places width t) ≡ true) × (checked L (rows L t) ≡ true)
-    few-and-checked = both _ _ (unfold soundTable in range-and-sound .1)
+    few-and-checked = if-both _ _ (unfold soundTable in range-and-sound .1)
 
     pub few : t .count ≤ places width t
     few = leb-true _ _ (few-and-checked .0)
@@ -40,7 +37,7 @@ module _ (L : Layout) (t : Table) where
     room = few-room few
 
     pub formed : every wellFormed (rows L t) ≡ true
-    formed = both (every wellFormed (rows L t)) (rising keyOf (rows L t)) (unfold checked in few-and-checked .1) .0
+    formed = if-both (every wellFormed (rows L t)) (rising keyOf (rows L t)) (unfold checked in few-and-checked .1) .0
 
     pub up : rising keyOf (rows L t) ≡ true
-    up = both (every wellFormed (rows L t)) (rising keyOf (rows L t)) (unfold checked in few-and-checked .1) .1
+    up = if-both (every wellFormed (rows L t)) (rising keyOf (rows L t)) (unfold checked in few-and-checked .1) .1

@@ -6,7 +6,8 @@ use native.Mathlib.Omega.{arith}
 use native.Mathlib.Nat.{mul-suc, mul-zero, mul-le-mul-left}
 use lib.ListN.{length, take, drop, length-append, length-drop, take-append-drop}
 use lib.Seq.{take-at, drop-at, drop-drop, length-take-le, drop-append-add, take-add}
-use Rattle.wing_mirror.specs.Rows.{row, records, joined, laid, All}
+use Rattle.wing_node.specs.Bytes.{joined}
+use Rattle.wing_mirror.specs.Rows.{row, records, laid, All}
 
 -- every record has the width w
 abbrev pub Wide : ℕ → List (List ℕ) → Type 0

@@ -10,7 +10,8 @@ use lib.Dec.{ltb, eqb}
 use lib.ListN.{length, take, drop, length-append, length-drop, length-take, take-append-drop}
 use lib.Seq.{drop-drop}
 use Rattle.wing_node.specs.Bool.{if}
-use Rattle.wing_mirror.specs.Rows.{found, records, joined, laid, holds, below, rising, insert, lookup, Table, places, rowsOf, takes, store, StoreLaws}
+use Rattle.wing_node.specs.Bytes.{joined}
+use Rattle.wing_mirror.specs.Rows.{found, records, laid, holds, below, rising, insert, lookup, Table, places, rowsOf, takes, store, StoreLaws}
 use Rattle.wing_mirror.proofs.Tables.Ordered.{Cmp, cmp, low, same, high, insert-low, insert-same, insert-high, rising-head, rising-tail, rising-insert, over-holds, length-insert, all-insert}
 use Rattle.wing_mirror.proofs.Tables.Chunks.{Wide, records-laid, length-laid, drop-laid, length-records, wide-records, joined-records}
 
