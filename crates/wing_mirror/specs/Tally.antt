@@ -2,7 +2,6 @@
 use Prim.Native.Nat.{ℕ}
 use mathlib.Core.List.{List}
 use Rattle.wing_wire.specs.Stream.{Fed}
-use Rattle.wing_wire.specs.declared.state.Control.{Control}
 use Rattle.wing_wire.specs.declared.state.State.{State}
 use Rattle.wing_mirror.specs.Table.{table}
 use Rattle.wing_mirror.specs.Counts.{zeroCounts, tick}
@@ -21,10 +20,6 @@ tallyOf t buffer = tableTally (table buffer (t .count)) (t .counts)
 -- one count more
 abbrev pub ticked : ℕ → Counts → Mark → Tally
 ticked count counts m = record { count = count; counts = tick m counts }
-
--- a state by its parts
-abbrev pub stateOf : Control → List ℕ → State
-stateOf c s = record { control = c; store = s }
 
 -- a refused feed's reply
 abbrev pub refusedFeedReply : ℕ → State → ℕ → FeedReply

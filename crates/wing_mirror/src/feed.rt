@@ -3,11 +3,11 @@ ghost use mathlib.Core.Path.{_≡_};
 ghost use mathlib.Core.Bool.{true};
 ghost use Prim.Native.Nat.{_≤_};
 ghost use lib.ListN.{length};
-ghost use Rattle.wing_wire.specs.State.{soundState};
+ghost use Rattle.wing_wire.specs.State.{soundState, stateOf, bodyLimit};
 ghost use Rattle.wing_mirror.specs.Record.{full};
 ghost use Rattle.wing_mirror.specs.Table.{table as tableOf, usable};
 ghost use Rattle.wing_mirror.specs.Mirror.{fedAll, takenFeed, feedEffect, mirrorFeed};
-ghost use Rattle.wing_mirror.specs.Tally.{fedOf, stateOf, refusedFeedReply};
+ghost use Rattle.wing_mirror.specs.Tally.{fedOf, refusedFeedReply};
 use crate::answer::FeedAnswer;
 use crate::answer::FeedReply;
 use crate::counts::zero_counts;
@@ -23,7 +23,7 @@ use wing_wire::stream::is_more;
 use wing_wire::stream::release;
 
 fn feed_on(c: Control, store: &mut [u8], table: &mut [u8], count: usize, bytes: &[u8]) -> FedOn
-    requires { ⌜ (soundState (stateOf c (now store)) ≡ true) × (length (now store) ≡ 4096) × (usable full (tableOf (now table) count) ≡ true) × (length (now bytes) ≤ 65536) ⌝ }
+    requires { ⌜ (soundState (stateOf c (now store)) ≡ true) × (length (now store) ≡ bodyLimit) × (usable full (tableOf (now table) count) ≡ true) × (length (now bytes) ≤ 65536) ⌝ }
     ensures { λ r. ⌜ fedOf r (now (store .exit)) (now (table .exit)) ≡ fedAll full (stateOf c (now (store .entry))) (tableOf (now (table .entry)) count) (now (bytes .entry)) ⌝ }
 {
     let counts = zero_counts();

@@ -11,7 +11,7 @@ use lib.ListN.{length, replicate, length-replicate}
 use Rattle.wing_node.specs.Utf8.{utf8}
 use Rattle.wing_node.specs.Value.{NodeValue, integer, float, string}
 use Rattle.wing_node.proofs.Branches.{if-both}
-use Rattle.wing_wire.specs.State.{zeros, soundPending, soundEscape, soundCounts, storedBy, soundToken, soundState, freshState}
+use Rattle.wing_wire.specs.State.{zeros, soundPending, soundEscape, soundCounts, storedBy, soundToken, soundState, freshState, bodyLimit}
 use Rattle.wing_wire.specs.Stream.{Fed, feedOf}
 use Rattle.wing_wire.specs.Reader.{value, eventOf}
 use Rattle.wing_wire.specs.RoundTrip.{Settable, restState}
@@ -53,12 +53,12 @@ settable (string s) t h = let b = if-both (leb (length s) 256) (utf8 s) h in (le
 
 -- on channel 1, unescaped, between tokens, nothing pending and nothing stored
 abbrev channelOne : ℤ → State
-channelOne node = restState (pos 1) node (replicate 4096 0)
+channelOne node = restState (pos 1) node (replicate bodyLimit 0)
 
 -- 01: df d1
 opened : decodeAll freshState (0xdf ∷ 0xd1 ∷ []) ≡ record { control = channelOne (pos 0) .control; store = channelOne (pos 0) .store; memo = [] }
 unfolding decodeAll freshState
-opened = decoder-laws .feed .channel appendEvent (negsuc 0) (pos 0) (replicate 4096 0) [] 1 (omega arith)
+opened = decoder-laws .feed .channel appendEvent (negsuc 0) (pos 0) (replicate bodyLimit 0) [] 1 (omega arith)
 
 channel-one-sound : (node : ℤ) → soundState (channelOne node) ≡ true
 unfolding soundState soundEscape soundPending soundToken soundCounts storedBy zeros
@@ -72,8 +72,8 @@ entryEvent e = streamEvent (e .id) (value (e .value))
 set-event : {L : Layout} (node : ℤ) (e : Entry) → ValidEntry L e → decodeAll (channelOne node) (setOf e) ≡ record { control = channelOne (e .id) .control; store = channelOne (e .id) .store; memo = entryEvent e ∷ [] }
 unfolding decodeAll joined
 set-event node e h =
-    decoder-laws .feed .order (λ n x rs. rs ++ (streamEvent n x ∷ [])) (pos 1) node (e .id) (replicate 4096 0) (e .value) [] (setOf e ∷ []) (h .node) (settable (e .value) (h .typed) (h .text))
-    (length-replicate {A = ℕ} 4096 0) (channel-one-sound node) (append-nil (setOf e))
+    decoder-laws .feed .order (λ n x rs. rs ++ (streamEvent n x ∷ [])) (pos 1) node (e .id) (replicate bodyLimit 0) (e .value) [] (setOf e ∷ []) (h .node) (settable (e .value) (h .typed) (h .text))
+    (length-replicate {A = ℕ} bodyLimit 0) (channel-one-sound node) (append-nil (setOf e))
 
 -- set orders one after the other are their values in order
 set-events : (L : Layout) (es : List Entry) (node : ℤ) → All (ValidEntry L) es → events (channelOne node) (joined (map setOf es)) ≡ map entryEvent es

@@ -7,12 +7,13 @@ use mir.Syntax.{w32}
 use mir.Val.{toZ, ofZ}
 use borrow.Author.Needs.{needs}
 use lib.ListN.{length}
+use Rattle.wing_wire.specs.State.{stateOf}
 use Rattle.wing_wire.proofs.Laws.{decoder-laws}
 use Rattle.wing_mirror.specs.Record.{full}
 use Rattle.wing_mirror.specs.Table.{table as tableOf}
 use Rattle.wing_mirror.specs.Counts.{zeroCounts}
 use Rattle.wing_mirror.specs.Mirror.{tableTally, fedAll}
-use Rattle.wing_mirror.specs.Tally.{tallyOf, stateOf}
+use Rattle.wing_mirror.specs.Tally.{tallyOf}
 use Rattle.wing_mirror.proofs.Records.Full.{full-laws}
 use Rattle.wing_mirror.proofs.Calls.Turns.{FeedInvariant, fed, left, begun, inside, ended, less-left, answer-bounded, again}
 use Rattle.wing_mirror.proofs.feed.feed_on.Statement.{statement}

@@ -9,6 +9,7 @@ use mir.Facts.{toZ-ofZ}
 use mir.Syntax.{w32}
 use mir.Val.{toZ, ofZ}
 use Rattle.wing_node.specs.Value.{nodeValue}
+use Rattle.wing_wire.specs.State.{bodyLimit}
 use Rattle.wing_wire.specs.Reader.{eventOf}
 use Rattle.wing_mirror.specs.Mirror.{keepEvent}
 use Rattle.wing_mirror.specs.Tally.{tallyOf}
@@ -60,7 +61,7 @@ cast-keep-body c = search needs
 slice-aggregate-keep-body : tie.Need-slice-aggregate-keep-body
 slice-aggregate-keep-body c =
     let start = c .before .before .before .before .before .before .before in
-    let w : c .before .before .a4 .given .0 .0 ≤ 4096 = rw (c .before .before .a4 .given .1) at (start .pre .3) in
+    let w : c .before .before .a4 .given .0 .0 ≤ bodyLimit = rw (c .before .before .a4 .given .1) at (start .pre .3) in
     let n = start .pre .2 in
     sym (length-take-le (c .before .before .a4 .given .0 .0) (start .args .store .now) (omega arith))
 
