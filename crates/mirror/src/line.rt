@@ -46,15 +46,11 @@ pub fn hex(line: &mut [u8], at: usize, n: u64, width: usize) -> usize {
     text(line, at, &digits[..k])
 }
 
-fn pair(line: &mut [u8], at: usize, b: u8) -> usize {
-    hex(line, at, b as u64, 2)
-}
-
 pub fn pairs(line: &mut [u8], at: usize, s: &[u8]) -> usize {
     let mut to = at;
     let mut i = 0;
     while i < s.len() {
-        to = pair(line, to, s[i]);
+        to = hex(line, to, s[i] as u64, 2);
         i += 1;
     }
     to
@@ -62,14 +58,8 @@ pub fn pairs(line: &mut [u8], at: usize, s: &[u8]) -> usize {
 
 // The first n bytes; none where there are not so many.
 pub fn front(s: &[u8], n: usize) -> &[u8] {
-    part(s, 0, n)
-}
-
-fn part(s: &[u8], from: usize, to: usize) -> &[u8] {
-    if from <= to {
-        if to <= s.len() {
-            return &s[from..to];
-        }
+    if n <= s.len() {
+        return &s[..n];
     }
     &s[..0]
 }

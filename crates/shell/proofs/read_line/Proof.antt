@@ -1,3 +1,4 @@
+-- The turns left fall with every byte and every read.
 use borrow.Author.Needs.{needs}
 use Prim.Native.Nat.{_≤_}
 use Rattle.shell.proofs.read_line.Statement.{statement}
