@@ -2,13 +2,11 @@
 // shows everything is sent back; here it goes into a second mirror, which is then equal to the first.
 use libc::STDIN_FILENO;
 use libc::STDOUT_FILENO;
-use wing_mirror::answer::Lookup;
-use wing_mirror::answer::Same;
+use wing_mirror::answer;
 use wing_mirror::feed::feed;
-use wing_mirror::query::lookup;
-use wing_mirror::query::same;
+use wing_mirror::query;
 use wing_mirror::recall::recall;
-use wing_mirror::set::set_int;
+use wing_mirror::set;
 use wing_wire::state::State;
 use wing_wire::write::Written;
 
@@ -37,19 +35,19 @@ fn said(w: Written) -> usize {
     }
 }
 
-fn found(l: Lookup) {
+fn found(l: answer::Lookup) {
     match l {
-        Lookup::At(number) => line(b"node 1 is record ", number as u64),
-        Lookup::None => line(b"records of node 1: ", 0),
-        Lookup::Refused(why) => line(b"refused: ", why as u64),
+        answer::Lookup::At(number) => line(b"node 1 is record ", number as u64),
+        answer::Lookup::None => line(b"records of node 1: ", 0),
+        answer::Lookup::Refused(why) => line(b"refused: ", why as u64),
     }
 }
 
-fn compared(s: Same) {
+fn compared(s: answer::Same) {
     match s {
-        Same::Yes => line(b"equal mirrors: ", 1),
-        Same::No => line(b"equal mirrors: ", 0),
-        Same::Refused(why) => line(b"refused: ", why as u64),
+        answer::Same::Yes => line(b"equal mirrors: ", 1),
+        answer::Same::No => line(b"equal mirrors: ", 0),
+        answer::Same::Refused(why) => line(b"refused: ", why as u64),
     }
 }
 
@@ -57,7 +55,7 @@ fn compared(s: Same) {
 fn rebuild(table: &[u8], count: usize, sent: &[u8]) {
     let mut again = [0u8; TABLE];
     let fed = feed(State::fresh(), &mut again, 0, sent);
-    compared(same(table, count, &again, fed.count));
+    compared(query::same(table, count, &again, fed.count));
 }
 
 fn main() {
@@ -68,14 +66,14 @@ fn main() {
     line(b"records: ", fed.count as u64);
 
     let mut order = [0u8; 18];
-    let set = set_int(&mut table, fed.count, &mut order, 1, -5);
-    let answer = set.answer;
+    let placed = set::set_int(&mut table, fed.count, &mut order, 1, -5);
+    let answer = placed.answer;
     said(answer);
-    found(lookup(&table, set.count, 1));
+    found(query::lookup(&table, placed.count, 1));
 
     let mut out = [0u8; RECALL];
-    let k = said(recall(&table, set.count, &mut out));
+    let k = said(recall(&table, placed.count, &mut out));
     if k <= out.len() {
-        rebuild(&table, set.count, &out[0..k]);
+        rebuild(&table, placed.count, &out[0..k]);
     }
 }

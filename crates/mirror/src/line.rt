@@ -62,14 +62,8 @@ pub fn pairs(line: &mut [u8], at: usize, s: &[u8]) -> usize {
 
 // The first n bytes; none where there are not so many.
 pub fn front(s: &[u8], n: usize) -> &[u8] {
-    part(s, 0, n)
-}
-
-fn part(s: &[u8], from: usize, to: usize) -> &[u8] {
-    if from <= to {
-        if to <= s.len() {
-            return &s[from..to];
-        }
+    if n <= s.len() {
+        return &s[0..n];
     }
     &s[..0]
 }

@@ -1,9 +1,8 @@
 // The listing: a header, and a line for each record in order.
 use crate::line;
 use libc::STDOUT_FILENO;
-use wing_mirror::answer::RecordAnswer;
-use wing_mirror::answer::RecordRead;
-use wing_mirror::query::record;
+use wing_mirror::answer;
+use wing_mirror::query;
 use wing_node::value::Value;
 
 // Room for the longest line: an id of 11 characters, two commas, a letter, a string of 512 digits and the line's end.
@@ -27,23 +26,23 @@ fn value(line: &mut [u8], at: usize, v: Value, string: &[u8]) -> usize {
 }
 
 // A record's line, of no bytes for a record that is refused.
-fn entry(line: &mut [u8], r: RecordRead) -> usize {
+fn entry(line: &mut [u8], r: answer::RecordRead) -> usize {
     let a = r.answer;
     let string = r.string;
     match a {
-        RecordAnswer::Record { id, value: v } => {
+        answer::RecordAnswer::Record { id, value: v } => {
             let comma = line::signed(line, 0, id);
             let end = value(line, comma, v, &string);
             line::put(line, end, b'\n')
         }
-        RecordAnswer::Refused(_) => 0,
+        answer::RecordAnswer::Refused(_) => 0,
     }
 }
 
 // Each line goes out whole, in one write where the system takes it so.
 fn print_record(table: &[u8], count: usize, number: usize) -> bool {
     let mut line = [0u8; LINE];
-    let n = entry(&mut line, record(table, count, number));
+    let n = entry(&mut line, query::record(table, count, number));
     if n == 0 {
         return false;
     }

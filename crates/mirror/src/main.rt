@@ -5,9 +5,8 @@ mod listing;
 
 use libc::STDERR_FILENO;
 use libc::STDIN_FILENO;
-use wing_mirror::answer::FeedAnswer;
-use wing_mirror::answer::FeedReply;
-use wing_mirror::feed::feed;
+use wing_mirror::answer;
+use wing_mirror::feed;
 use wing_wire::state::State;
 
 // 128 places of 264 bytes.
@@ -21,21 +20,21 @@ pub struct Mirror {
     pub whole: bool,
 }
 
-fn mirror_of(s: State, count: usize, more: bool, whole: bool) -> Mirror {
+fn mirror_of(state: State, count: usize, more: bool, whole: bool) -> Mirror {
     Mirror {
-        state: s,
-        count: count,
-        more: more,
-        whole: whole,
+        state,
+        count,
+        more,
+        whole,
     }
 }
 
-fn fed(r: FeedReply) -> Mirror {
+fn fed(r: answer::FeedReply) -> Mirror {
     let s = r.state;
     let a = r.answer;
     match a {
-        FeedAnswer::Taken => mirror_of(s, r.count, true, true),
-        FeedAnswer::Refused(_) => mirror_of(s, r.count, false, false),
+        answer::FeedAnswer::Taken => mirror_of(s, r.count, true, true),
+        answer::FeedAnswer::Refused(_) => mirror_of(s, r.count, false, false),
     }
 }
 
@@ -48,7 +47,7 @@ fn take_some(m: Mirror, table: &mut [u8]) -> Mirror {
         return mirror_of(s, m.count, false, got == 0);
     }
     let n = io::count(got, &buf);
-    fed(feed(s, table, m.count, &buf[..n]))
+    fed(feed::feed(s, table, m.count, &buf[..n]))
 }
 
 fn take_all(table: &mut [u8]) -> Mirror {
@@ -61,21 +60,19 @@ fn take_all(table: &mut [u8]) -> Mirror {
     m
 }
 
+fn complain(text: &[u8]) {
+    io::write_all(STDERR_FILENO, text);
+}
+
 // Half a table must not look like a whole one: nothing is listed of an input that was not read to its end.
 fn main() {
     let mut table = [0u8; TABLE];
     let m = take_all(&mut table);
     if m.more || !m.whole {
-        io::write_all(
-            STDERR_FILENO,
-            b"mirror: standard input was not read to its end\n",
-        );
+        complain(b"mirror: standard input was not read to its end\n");
         return;
     }
     if !listing::print(&table, m.count) {
-        io::write_all(
-            STDERR_FILENO,
-            b"mirror: the listing was not written to its end\n",
-        );
+        complain(b"mirror: the listing was not written to its end\n");
     }
 }

@@ -4,6 +4,7 @@ use crate::forms;
 use crate::read;
 use crate::show;
 use crate::show::Log;
+use crate::show::Said;
 use wing_node::field;
 use wing_wire::meter;
 use wing_wire::meter::Meter;
@@ -59,8 +60,6 @@ fn meter_of(kind: u8, index: u8) -> Meter {
     }
 }
 
-const RTA: u16 = 0x0a00;
-
 // The meter at a place: kind and index, a missing index being 0; past the items the other one.
 fn meter_at(items: &[u8], at: usize, other: u16) -> Meter {
     if at < items.len() {
@@ -79,7 +78,7 @@ fn meters_of(items: &[u8], other: u16) -> [Meter; 64] {
     meters
 }
 
-fn ask_meters(out: &mut [u8], n: forms::Numbers, items: &[u8], other: u16) -> Outcome {
+fn ask_meters(out: &mut [u8], n: forms::Numbers, items: &[u8], other: u16) -> Said {
     let meters = meters_of(items, other);
     of_requested(meter::request_meter(out, meters, n[3] as usize, half(n[1]), half(n[2])))
 }
@@ -98,62 +97,40 @@ fn written(letter: u8, n: forms::Numbers, bytes: &[u8], out: &mut [u8]) -> Writt
     }
 }
 
-// What a call wrote: the letter of its text, the meter id (0 where there is none) or the refusal's number, and how many.
-struct Outcome {
-    letter: u8,
-    number: u64,
-    len: usize,
-}
-
-fn done(id: u16, len: usize) -> Outcome {
-    Outcome {
-        letter: b'h',
-        number: id as u64,
-        len,
-    }
-}
-
-fn refused(why: u8) -> Outcome {
-    Outcome {
-        letter: b'r',
-        number: why as u64,
-        len: 0,
-    }
-}
-
-fn of_written(w: Written) -> Outcome {
+// What a call wrote: the meter id (0 where there is none) and how many bytes or readings, or the refusal's number.
+fn of_written(w: Written) -> Said {
     match w {
-        Written::Bytes(len) => done(0, len),
-        Written::Refused(why) => refused(why),
+        Written::Bytes(len) => show::two(b'h', 0, len as u64),
+        Written::Refused(why) => show::one(b'r', why as u64),
     }
 }
 
-fn of_requested(r: Requested) -> Outcome {
+fn of_requested(r: Requested) -> Said {
     match r {
-        Requested::Bytes { len, id } => done(id, len),
-        Requested::Refused(why) => refused(why),
+        Requested::Bytes { len, id } => show::two(b'h', id as u64, len as u64),
+        Requested::Refused(why) => show::one(b'r', why as u64),
     }
 }
 
-fn of_read(r: meter::MetersRead) -> Outcome {
+fn of_read(r: meter::MetersRead) -> Said {
     match r {
-        meter::MetersRead::Readings { id, count } => done(id, count),
-        meter::MetersRead::Refused(why) => refused(why),
+        meter::MetersRead::Readings { id, count } => show::two(b'p', id as u64, count as u64),
+        meter::MetersRead::Refused(why) => show::one(b'r', why as u64),
     }
 }
 
-fn call(a: forms::Asked, bytes: &[u8], out: &mut [u8]) -> Outcome {
+fn call(a: forms::Asked, bytes: &[u8], out: &mut [u8]) -> Said {
     let n = a.numbers;
     let letter = a.letter;
     match letter {
-        b'm' => ask_meters(out, n, bytes, RTA),
+        b'm' => ask_meters(out, n, bytes, 0x0a00),
         b'n' => ask_meters(out, n, bytes, half(n[4])),
         _ => of_written(written(letter, n, bytes, out)),
     }
 }
 
-fn say(log: &mut Log, at: usize, letter: u8, number: u64) -> usize {
-    show::say(log, at, b"hH|rrR|cW:|fF", show::one(letter, number))
+fn say(log: &mut Log, at: usize, s: Said) -> usize {
+    show::say(log, at, b"hD|pDH:|rrR|fA", s)
 }
 
 // The first of the numbers is the room. A suffix has one byte or none.
@@ -165,10 +142,12 @@ fn into(log: &mut Log, a: forms::Asked, bytes: &[u8], out: &mut [u8]) -> usize {
     }
     if room <= out.len() {
         let o = call(a, bytes, &mut out[0..room]);
-        let kept = show::all_same(read::part(out, 0, room), o.len, MARK);
-        let bytes_at = say(log, 0, o.letter, o.number);
-        let kept_at = show::front(log, bytes_at, out, o.len);
-        return say(log, kept_at, b'f', show::flag(kept));
+        let v = o.values;
+        let len = v[1] as usize;
+        let kept = show::all_same(read::part(out, 0, room), len, MARK);
+        let bytes_at = say(log, 0, o);
+        let kept_at = show::front(log, bytes_at, out, len);
+        return say(log, kept_at, show::one(b'f', show::flag(kept)));
     }
     0
 }
@@ -189,19 +168,11 @@ fn all_mark(s: &[i16], from: usize) -> bool {
     true
 }
 
-fn reading(s: &[i16], at: usize) -> u64 {
-    if at < s.len() {
-        field::of_i16(s[at]) as u64
-    } else {
-        0
-    }
-}
-
 fn readings(log: &mut Log, at: usize, out: &[i16], count: usize) -> usize {
     let mut to = at;
     let mut i = 0;
-    while i < count {
-        to = say(log, to, b'h', reading(out, i));
+    while i < out.len() && i < count {
+        to = say(log, to, show::one(b'h', field::of_i16(out[i]) as u64));
         i += 1;
     }
     to
@@ -210,12 +181,15 @@ fn readings(log: &mut Log, at: usize, out: &[i16], count: usize) -> usize {
 fn packet_into(log: &mut Log, room: usize, bytes: &[u8], out: &mut [i16]) -> usize {
     if room <= out.len() {
         let o = of_read(meter::read_meters(bytes, &mut out[0..room]));
-        let mut at = say(log, 0, o.letter, o.number);
-        if o.letter == b'h' {
-            at = say(log, at, b'c', o.len as u64);
-        }
-        let kept_at = readings(log, at, out, o.len);
-        return say(log, kept_at, b'f', show::flag(all_mark(out, o.len)));
+        let v = o.values;
+        let count = v[1] as usize;
+        let at = say(log, 0, o);
+        let kept_at = readings(log, at, out, count);
+        return say(
+            log,
+            kept_at,
+            show::one(b'f', show::flag(all_mark(out, count))),
+        );
     }
     0
 }

@@ -47,8 +47,8 @@ fn unit_number(u: NodeUnit) -> u64 {
 // R and r: a refusal in words and short.
 fn say(log: &mut Log, at: usize, s: Said) -> usize {
     let table =
-        b"dWWH|kkBBF|--|ffWWW|iiWW|ssH|ccH|##|,,W|nnone|Rrefused D|rrR|;; |aat D left D|l at D left D|\
-gD-D good|bD-D refused D|o, ";
+        b"dHHD|kkBBA|--|ffHHH|iiHH|ssD|ccD|##|,,H|nnone|Rrefused U|rrR|;; |aat U left U|l at U left U|\
+vU-|gU good|bU refused U|o, U-";
     show::say(log, at, table, s)
 }
 
@@ -81,10 +81,6 @@ fn item(log: &mut Log, at: usize, body: &[u8], i: Item, words: bool) -> usize {
     }
 }
 
-fn standing(log: &mut Log, at: usize, letter: u8, w: Walk) -> usize {
-    say(log, at, show::two(letter, w.at as u64, w.left as u64))
-}
-
 // The walker is made anew by the library for each step: a program that holds one would be proved by hand.
 fn one_step(body: &[u8], w: Walk, lent: bool) -> Step {
     if lent {
@@ -100,7 +96,7 @@ fn step_text(log: &mut Log, at: usize, body: &[u8], s: Step, words: bool) -> usi
     let next = s.next;
     let end = item(log, at, body, i, words);
     if words {
-        return standing(log, end, b'l', next);
+        return say(log, end, show::two(b'l', next.at as u64, next.left as u64));
     }
     end
 }
@@ -175,18 +171,10 @@ fn fields(log: &mut Log, at: usize, body: &[u8], d: Definition) -> usize {
     let more = d.details;
     let t = d.node_type;
     let u = d.unit;
-    let ids = show::three(
-        b'd',
-        show::bits(d.parent_id),
-        show::bits(d.id),
-        d.index as u64,
-    );
-    let kinds = show::three(
-        b'k',
-        type_number(t),
-        unit_number(u),
-        show::flag(d.read_only),
-    );
+    let parent = show::bits(d.parent_id);
+    let ids = show::three(b'd', parent, show::bits(d.id), d.index as u64);
+    let read_only = show::flag(d.read_only);
+    let kinds = show::three(b'k', type_number(t), unit_number(u), read_only);
     let said = details(more);
     let mut to = say(log, at, ids);
     to = string(log, to, b'n', body, name);
@@ -216,47 +204,27 @@ fn refusal(body: &[u8]) -> u8 {
     }
 }
 
-// Cuts of lengths `from` to `to` that have one answer, and the place of their text.
-struct Run {
-    from: usize,
-    to: usize,
-    why: u8,
-    text: usize,
-}
-
-fn run_text(log: &mut Log, r: Run) -> usize {
-    let letter = if r.why == 0 { b'g' } else { b'b' };
-    let run = show::three(letter, r.from as u64, r.to as u64, r.why as u64);
-    say(log, r.text, run)
-}
-
-// The run with one length more, or the next run, the last one being in the text.
-fn longer(log: &mut Log, before: Run, to: usize, why: u8) -> Run {
-    let mut r = before;
-    if why != r.why {
-        let end = run_text(log, r);
-        r.text = say(log, end, show::none(b'o'));
-        r.from = to;
-        r.why = why;
-    }
-    r.to = to;
-    r
+// The end of a run of fronts that have one answer.
+fn run_end(log: &mut Log, at: usize, to: usize, why: u8) -> usize {
+    let letter = if why == 0 { b'g' } else { b'b' };
+    say(log, at, show::two(letter, to as u64, why as u64))
 }
 
 // What the parser says of every front of a body, in runs of equal answers.
 fn cuts(log: &mut Log, body: &[u8]) -> usize {
-    let mut r = Run {
-        from: 0,
-        to: 0,
-        why: refusal(read::part(body, 0, 0)),
-        text: 0,
-    };
+    let mut why = refusal(read::part(body, 0, 0));
+    let mut text = say(log, 0, show::none(b'v'));
     let mut len = 0;
     while len < body.len() {
+        let next = refusal(read::part(body, 0, len + 1));
+        if next != why {
+            let end = run_end(log, text, len, why);
+            text = say(log, end, show::one(b'o', len as u64 + 1));
+            why = next;
+        }
         len += 1;
-        r = longer(log, r, len, refusal(read::part(body, 0, len)));
     }
-    run_text(log, r)
+    run_end(log, text, len, why)
 }
 
 // One step from a place that need not come from a walk; after it, in the same log, the walker's, to be held against it.
@@ -275,7 +243,7 @@ fn walk_from(log: &mut Log, body: &[u8], start: walker::Start) -> usize {
     let at = start.at;
     let left = start.left;
     let w = Walk { at, left, kind };
-    let steps_at = standing(log, 0, b'a', w);
+    let steps_at = say(log, 0, show::two(b'a', at as u64, left as u64));
     walk(log, steps_at, body, w, true)
 }
 

@@ -52,21 +52,10 @@ fn hex_number(word: &[u8], from: usize) -> Number {
 }
 
 fn limit(letter: u8) -> u64 {
-    match letter {
-        b'g' => 2,
-        b'n' => 27,
-        b'o' => 255,
-        b'e' => 263,
-        b't' => 512,
-        b'p' => 1026,
-        b'k' => 4096,
-        b'a' => 4200,
-        b'r' => 16384,
-        b'w' => 0xffff,
-        b'm' => 270864,
-        b'l' => 851968,
-        _ => 0xffff_ffff,
-    }
+    let table =
+        b"g2|n27|o255|e263|t512|p1026|k4096|a4200|r16384|w65535|m270864|l851968|d4294967295";
+    let n = read::unsigned(read::entry(table, letter), 0, u64::MAX);
+    n.value
 }
 
 // A word that spells a number, by its letter in the table.

@@ -9,7 +9,10 @@ mod states;
 mod streams;
 mod values;
 
+use crate::forms::Asked;
+use crate::forms::Bytes;
 use crate::mirror::Kept;
+use crate::mirror::Memory;
 use crate::mirror::Session;
 use crate::show::Log;
 
@@ -34,13 +37,7 @@ struct Input {
 }
 
 // Every order but a feed. Capital letters are orders to the mirror. Bytes held that the order took are held no more.
-fn order(
-    before: Kept,
-    memory: &mut mirror::Memory,
-    a: forms::Asked,
-    bytes: &[u8],
-    log: &mut Log,
-) -> Kept {
+fn order(before: Kept, memory: &mut Memory, a: Asked, bytes: &[u8], log: &mut Log) -> Kept {
     let mut k = before;
     let part = a.part;
     if part == b'M' {
@@ -61,21 +58,11 @@ fn order(
     if len > 0 {
         k.held = a.from;
     }
-    k.len = if a.summed {
-        show::summed(log, len)
-    } else {
-        len
-    };
+    k.len = show::summed(log, len, a.summed);
     k
 }
 
-fn turn(
-    t: Session,
-    memory: &mut mirror::Memory,
-    line: &[u8],
-    bytes: &mut forms::Bytes,
-    log: &mut Log,
-) -> Session {
+fn turn(t: Session, memory: &mut Memory, line: &[u8], bytes: &mut Bytes, log: &mut Log) -> Session {
     let mut k = t.kept;
     k.len = 0;
     let a = forms::order(line, bytes, k.held);
@@ -101,14 +88,8 @@ fn print_back(line: &[u8], log: &mut Log) -> usize {
     show::text(log, 2, line)
 }
 
-fn answer(
-    t: Session,
-    memory: &mut mirror::Memory,
-    line: &[u8],
-    bytes: &mut forms::Bytes,
-    log: &mut Log,
-) -> Session {
-    let after = turn(t, memory, line, bytes, log);
+fn answer(t: Session, m: &mut Memory, line: &[u8], bytes: &mut Bytes, log: &mut Log) -> Session {
+    let after = turn(t, m, line, bytes, log);
     let k = after.kept;
     let n = if k.len == 0 {
         print_back(line, log)
@@ -129,16 +110,6 @@ fn refill(before: Input, buffer: &mut Buffer) -> Input {
     t
 }
 
-fn take(before: Input, b: u8, line: &mut Line) -> Input {
-    let mut t = before;
-    t.at = read::onward(t.at, 1, BUFFER);
-    t.ended = b == b'\n';
-    if !t.ended {
-        t.len = read::put(line, t.len, b);
-    }
-    t
-}
-
 fn read_line(before: Input, buffer: &mut Buffer, line: &mut Line) -> Input {
     let mut t = before;
     t.len = 0;
@@ -146,7 +117,12 @@ fn read_line(before: Input, buffer: &mut Buffer, line: &mut Line) -> Input {
     let mut turns = u64::MAX;
     while turns > 0 && t.more && !t.ended {
         if t.at < t.end {
-            t = take(t, read::byte_or(buffer, t.at, 0), line);
+            let b = read::byte_or(buffer, t.at, 0);
+            t.at = read::onward(t.at, 1, BUFFER);
+            t.ended = b == b'\n';
+            if !t.ended {
+                t.len = read::put(line, t.len, b);
+            }
         } else {
             t = refill(t, buffer);
         }
@@ -155,14 +131,17 @@ fn read_line(before: Input, buffer: &mut Buffer, line: &mut Line) -> Input {
     t
 }
 
+fn read_so_far(line: &Line, len: usize) -> &[u8] {
+    read::part(line, 0, len)
+}
+
 // The last line needs no newline.
-fn run(
-    buffer: &mut Buffer,
-    memory: &mut mirror::Memory,
-    line: &mut Line,
-    bytes: &mut forms::Bytes,
-    log: &mut Log,
-) -> bool {
+fn main() {
+    let mut buffer = [0u8; BUFFER];
+    let mut memory = [0u8; mirror::MEMORY];
+    let mut line = [0u8; LINE];
+    let mut bytes = [0u8; forms::BYTES];
+    let mut log = [0u8; show::LOG];
     let mut s = mirror::start();
     let mut t = Input {
         at: 0,
@@ -174,22 +153,14 @@ fn run(
     };
     let mut turns = u64::MAX;
     while turns > 0 && t.more {
-        t = read_line(t, buffer, line);
+        t = read_line(t, &mut buffer, &mut line);
         if t.ended || t.len > 0 {
-            s = answer(s, memory, read::part(line, 0, t.len), bytes, log);
+            let words = read_so_far(&line, t.len);
+            s = answer(s, &mut memory, words, &mut bytes, &mut log);
         }
         turns -= 1;
     }
-    t.whole
-}
-
-fn main() {
-    let mut buffer = [0u8; BUFFER];
-    let mut memory = [0u8; mirror::MEMORY];
-    let mut line = [0u8; LINE];
-    let mut bytes = [0u8; forms::BYTES];
-    let mut log = [0u8; show::LOG];
-    if !run(&mut buffer, &mut memory, &mut line, &mut bytes, &mut log) {
+    if !t.whole {
         let text = b"shell: standard input was not read to its end\n";
         io::write_all(libc::STDERR_FILENO, text);
     }

@@ -63,8 +63,8 @@ pub fn start() -> Session {
 
 fn say(log: &mut Log, at: usize, s: Said) -> usize {
     let table =
-        b"Ffed D D D D D D|pplaces D|ccount D|hheld D|kpoked|ssent |rrefused D|+ clean|! dirt|\
-dD records|iS,i,S|fS,f,W|tS,s,|aat D|nnone";
+        b"Ffed U U U U U U|pplaces U|ccount U|hheld U|kpoked|ssent |rrefused U|+ clean|! dirt|\
+dU records|iS,i,S|fS,f,H|tS,s,|aat U|nnone";
     show::say(log, at, table, s)
 }
 
@@ -83,15 +83,11 @@ fn fed(a: answer::FeedAnswer, c: answer::Counts) -> Said {
     }
 }
 
-fn decoder(s: State, fresh: bool) -> State {
-    if fresh { State::fresh() } else { s }
-}
-
 pub fn feed(s: State, before: Kept, memory: &mut [u8], bytes: &[u8], log: &mut Log) -> Session {
     let mut k = before;
     let size = k.size;
     if size <= memory.len() {
-        let first = decoder(s, k.fresh);
+        let first = if k.fresh { State::fresh() } else { s };
         let r = wing_mirror::feed::feed(first, &mut memory[0..size], k.count, bytes);
         let a = r.answer;
         let c = r.counts;
@@ -126,11 +122,6 @@ fn sent(log: &mut Log, w: Written, out: &[u8]) -> usize {
     cleanness(log, at, show::all_same(out, n, MARK))
 }
 
-fn recalled(table: &[u8], count: usize, out: &mut [u8]) -> SetReply {
-    let answer = recall::recall(table, count, out);
-    SetReply { answer, count }
-}
-
 // A set or a recall.
 fn written(a: Asked, table: &mut [u8], count: usize, out: &mut [u8], s: &[u8]) -> SetReply {
     let n = a.numbers;
@@ -140,56 +131,48 @@ fn written(a: Asked, table: &mut [u8], count: usize, out: &mut [u8], s: &[u8]) -
         b'I' => set::set_int(table, count, out, id, int(n[1])),
         b'F' => set::set_float(table, count, out, id, (n[1] % 0x1_0000_0000) as u32),
         b'S' => set::set_string(table, count, out, id, s),
-        _ => recalled(table, count, out),
+        _ => {
+            let answer = recall::recall(table, count, out);
+            SetReply { answer, count }
+        }
     }
 }
 
 // The room is the last of the numbers.
-fn send_into(
-    before: Kept,
-    memory: &mut [u8],
-    a: Asked,
-    s: &[u8],
-    out: &mut [u8],
-    log: &mut Log,
-) -> Kept {
+fn into(before: Kept, m: &mut [u8], a: Asked, s: &[u8], out: &mut [u8], log: &mut Log) -> Kept {
     let mut k = before;
     let size = k.size;
     let room = forms::last_number(a) as usize;
-    if size <= memory.len() {
-        if room <= out.len() {
-            let r = written(a, &mut memory[0..size], k.count, &mut out[0..room], s);
-            let w = r.answer;
-            k.count = r.count;
-            k.len = sent(log, w, read::part(out, 0, room));
-        }
+    if size <= m.len() && room <= out.len() {
+        let r = written(a, &mut m[0..size], k.count, &mut out[0..room], s);
+        let w = r.answer;
+        k.count = r.count;
+        k.len = sent(log, w, read::part(out, 0, room));
     }
     k
 }
 
 pub fn send(k: Kept, memory: &mut [u8], a: Asked, s: &[u8], log: &mut Log) -> Kept {
     let mut out = [MARK; ROOM];
-    send_into(k, memory, a, s, &mut out, log)
+    into(k, memory, a, s, &mut out, log)
 }
 
 fn value(id: u64, v: Value) -> Said {
     match v {
         Value::Integer(x) => show::two(b'i', id, show::bits(x)),
         Value::Float(bits) => show::two(b'f', id, bits as u64),
-        Value::String(_) => show::one(b't', id),
-    }
-}
-
-fn string_len(v: Value) -> usize {
-    match v {
-        Value::String(n) => n as usize,
-        _ => 0,
+        Value::String(n) => show::two(b't', id, n as u64),
     }
 }
 
 fn node(log: &mut Log, at: usize, id: i32, v: Value, string: &[u8]) -> usize {
-    let end = say(log, at, value(show::bits(id), v));
-    show::front(log, end, string, string_len(v))
+    let s = value(show::bits(id), v);
+    let values = s.values;
+    let end = say(log, at, s);
+    if s.letter == b't' {
+        return show::front(log, end, string, values[1] as usize);
+    }
+    end
 }
 
 // A record as mirror lists it.

@@ -94,12 +94,12 @@ pub fn number_of(good: bool, value: u64) -> Number {
     Number { good, value }
 }
 
-// The value of a hex digit, 16 for any other byte.
-fn digit(c: u8) -> u8 {
+// The value of a hex digit, 256 for any other byte.
+fn digit(c: u8) -> u64 {
     match c {
-        b'0'..=b'9' => c - b'0',
-        b'a'..=b'f' => c - b'a' + 10,
-        _ => 16,
+        b'0'..=b'9' => (c - b'0') as u64,
+        b'a'..=b'f' => (c - b'a' + 10) as u64,
+        _ => 256,
     }
 }
 
@@ -109,7 +109,7 @@ pub fn unsigned(word: &[u8], least: u64, most: u64) -> Number {
     let mut i = 0;
     while i < word.len() {
         let d = digit(word[i]);
-        n = number_of(n.good && d < 10, n.value % 1_000_000_000 * 10 + d as u64);
+        n = number_of(n.good && d < 10, n.value % 1_000_000_000 * 10 + d % 10);
         i += 1;
     }
     number_of(n.good && least <= n.value && n.value <= most, n.value)
@@ -124,10 +124,9 @@ pub fn signed(word: &[u8]) -> Number {
     unsigned(word, 0, 0x7fff_ffff)
 }
 
-// The byte that two hex digits spell.
-fn pair(high: u8, low: u8) -> Number {
-    let value = high as u64 % 16 * 16 + low as u64 % 16;
-    number_of(high < 16 && low < 16, value)
+// The byte that two hex digits spell from a place on; over 255 where they are none.
+fn pair(word: &[u8], at: usize) -> u64 {
+    digit(byte_or(word, at, 0)) % 257 * 16 + digit(byte_or(word, after(at), 0)) % 257
 }
 
 // The bytes that a word spells go into a body from a place on; the number is the place after them. `-` spells none.
@@ -141,12 +140,9 @@ pub fn pairs(word: &[u8], body: &mut [u8], from: usize) -> Number {
     let mut at = from;
     let mut i = 0;
     while i < count {
-        let p = pair(
-            digit(byte_or(word, 2 * i, 0)),
-            digit(byte_or(word, 2 * i + 1, 0)),
-        );
-        good = good && p.good;
-        at = put(body, at, (p.value % 256) as u8);
+        let b = pair(word, 2 * i);
+        good = good && b < 256;
+        at = put(body, at, (b % 256) as u8);
         i += 1;
     }
     number_of(good, at as u64)

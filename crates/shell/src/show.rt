@@ -80,27 +80,19 @@ fn signed(log: &mut Log, at: usize, bits: u64) -> usize {
     decimal(log, to, read::less(0x1_0000_0000, bits))
 }
 
-fn width(letter: u8) -> usize {
-    match letter {
-        b'F' => 1,
-        b'B' => 2,
-        b'H' => 4,
-        _ => 8,
-    }
-}
-
 fn number(log: &mut Log, at: usize, letter: u8, n: u64) -> usize {
     match letter {
         b'N' => at,
-        b'D' => decimal(log, at, n),
+        b'U' => decimal(log, at, n),
         b'S' => signed(log, at, n),
         b'R' => hex(log, at, n % 100 / 10 * 16 + n % 10, 2),
-        _ => hex(log, at, n, width(letter)),
+        _ => hex(log, at, n, (letter % 32) as usize),
     }
 }
 
-// A text in which each capital letter stands for the next number: D in decimal, S in decimal with the sign of its 32 bits,
-// R the number of a refusal in two decimal digits, N not at all; in hex F a flag, B a byte, H 16 bits and W 32 bits.
+// A text in which each capital letter stands for the next number: U in decimal, S in decimal with the sign of its 32 bits,
+// R the number of a refusal in two decimal digits, N not at all; A to P in as many hex digits as the letter has its place in
+// the alphabet: A for a flag, B for a byte, D for 16 bits and H for 32.
 fn spell(log: &mut Log, at: usize, s: &[u8], values: [u64; 6]) -> usize {
     let mut to = at;
     let mut k = 0;
@@ -201,10 +193,10 @@ fn sum(s: &[u8]) -> u64 {
     total
 }
 
-// The text of n bytes gives way to its sum; no text stays none.
-pub fn summed(log: &mut Log, n: usize) -> usize {
-    if n == 0 {
-        return 0;
+// The text of n bytes gives way to its sum where that is asked; no text stays none.
+pub fn summed(log: &mut Log, n: usize, asked: bool) -> usize {
+    if n == 0 || !asked {
+        return n;
     }
     let total = sum(read::part(log, 0, n));
     hex(log, 0, total, 8)

@@ -28,32 +28,25 @@ fn class_digit(class: Class) -> u8 {
 }
 
 fn say(log: &mut Log, at: usize, s: Said) -> usize {
-    let table = b"p pending=B|n pending=none|t token=between|s token=string left=D of D|\
-b token=body left=D of D stored=D|c token=number |l left=D value=W|o store=";
+    let table = b"p pending=B|n pending=none|t token=between|s token=string left=U of U|\
+b token=body left=U of U stored=U|0 token=number skipped left=U value=H|\
+1 token=number integer left=U value=H|2 token=number string left=U value=H|\
+3 token=number length left=U value=H|4 token=number int16 left=U value=H|\
+5 token=number int32 left=U value=H|6 token=number float left=U value=H|\
+7 token=number node left=U value=H|8 token=number end left=U value=H|\
+9 token=number count left=U value=H|: token=number zerocount left=U value=H|o store=";
     show::say(log, at, table, s)
 }
 
-fn in_number(log: &mut Log, at: usize, class: Class, rest: Said) -> usize {
-    let table =
-        b"0skipped|1integer|2string|3length|4int16|5int32|6float|7node|8end|9count|:zerocount";
-    let class_at = say(log, at, show::none(b'c'));
-    let left_at = show::say(log, class_at, table, show::none(class_digit(class)));
-    say(log, left_at, rest)
-}
-
-fn token(log: &mut Log, at: usize, t: Token) -> usize {
+pub fn token(t: Token) -> Said {
     match t {
-        Token::Between => say(log, at, show::none(b't')),
+        Token::Between => show::none(b't'),
         Token::Number { class, left, value } => {
-            in_number(log, at, class, show::two(b'l', left as u64, value as u64))
+            show::two(class_digit(class), left as u64, value as u64)
         }
-        Token::String { want, left } => say(log, at, show::two(b's', left as u64, want as u64)),
+        Token::String { want, left } => show::two(b's', left as u64, want as u64),
         Token::Body { want, left, stored } => {
-            say(
-                log,
-                at,
-                show::three(b'b', left as u64, want as u64, stored as u64),
-            )
+            show::three(b'b', left as u64, want as u64, stored as u64)
         }
     }
 }
@@ -65,18 +58,15 @@ fn pending(p: Pending) -> Said {
     }
 }
 
-fn past(n: usize, i: usize, b: u8) -> usize {
-    if b == 0 { n } else { i }
-}
-
 // How many bytes there are up to the last that is not 0.
 fn used(store: &[u8]) -> usize {
     let mut n = 0;
     let mut i = 0;
     while i < store.len() {
-        let b = store[i];
+        if store[i] != 0 {
+            n = i + 1;
+        }
         i += 1;
-        n = past(n, i, b);
     }
     n
 }
@@ -89,7 +79,7 @@ pub fn state(log: &mut Log, at: usize, s: State) -> usize {
     let store = s.store;
     let p = e.pending;
     let token_at = say(log, at, pending(p));
-    let store_at = token(log, token_at, t);
+    let store_at = say(log, token_at, token(t));
     let bytes_at = say(log, store_at, show::none(b'o'));
     show::bytes(log, bytes_at, read::part(&store, 0, used(&store)))
 }

@@ -8,12 +8,10 @@ use crate::show::Said;
 use crate::states;
 use wing_wire::escape;
 use wing_wire::lent;
-use wing_wire::reader;
-use wing_wire::reader::Reply;
+use wing_wire::lent::LentReply;
 use wing_wire::state;
 use wing_wire::state::Control;
 use wing_wire::state::State;
-use wing_wire::state::Token;
 use wing_wire::unit::Answer;
 
 // How a stream is cut: at two places, and after these into pieces of a size; or each call gets a piece, through the lent
@@ -41,9 +39,6 @@ struct Progress {
 // A stream of n bytes, at most 70,000, gives at most n + 1 answers and one 'more' for each piece.
 const TURNS: u32 = 200000;
 
-// 01: the most bytes of one call.
-const CALL: usize = 65536;
-
 fn sized(size: usize, inside: bool) -> Pieces {
     Pieces {
         inside,
@@ -56,14 +51,10 @@ fn sized(size: usize, inside: bool) -> Pieces {
     }
 }
 
-fn random(seed: u32) -> u32 {
-    (seed % 0x10000 * 25173 + 13849) % 0x10000 / 256
-}
-
 // The size of the piece for the call of a number.
 fn size_of(p: Pieces, call: u32) -> usize {
     if p.lent {
-        return (random(call) % 9) as usize;
+        return ((call % 0x10000 * 25173 + 13849) % 0x10000 / 256 % 9) as usize;
     }
     if p.count == 0 {
         return p.size;
@@ -84,8 +75,8 @@ fn piece_end(p: Pieces, at: usize, len: usize, call: u32) -> usize {
 }
 
 fn say(log: &mut Log, at: usize, s: Said) -> usize {
-    let table = b"iiWW|ffWW|ssW|bb|ee|rrNR|::|@@W|..FWWF|=sound=F |xdiffers at D|zD same|\
-Uunits|u B|+ B+|;; channel=S escaped=F";
+    let table = b"iiHH|ffHH|ssH|bb|ee|rrNR|::|@@H|..AHHA|=sound=A |xdiffers at U|zU same|\
+Uunits|u B|+ B+|;; channel=S escaped=A";
     show::say(log, at, table, s)
 }
 
@@ -130,39 +121,23 @@ fn event(log: &mut Log, at: usize, e: Said, node: i32, string: &[u8], bytes: &[u
 }
 
 // With the place reached.
-fn placed(log: &mut Log, at: usize, r: Reply, e: Said, place: usize) -> usize {
-    let s = r.state;
-    let c = s.control;
+fn placed(log: &mut Log, at: usize, r: LentReply, e: Said, node: i32, place: usize) -> usize {
     let string = r.string;
     let bytes = r.body;
-    let end = event(log, at, e, c.node, &string, &bytes);
+    let end = event(log, at, e, node, &string, &bytes);
     if e.letter == b'.' {
         return end;
     }
     say(log, end, show::one(b'@', place as u64))
 }
 
-fn of_parted(p: lent::Parted) -> Reply {
-    let state = p.state;
-    let r = p.reply;
-    let answer = r.answer;
-    let string = r.string;
-    let body = r.body;
-    Reply {
-        answer,
-        taken: r.taken,
-        state,
-        string,
-        body,
-    }
-}
-
-// The lent next is called through next_over, since a program that lends a struct would be proved by hand.
-fn next(is_lent: bool, s: State, bytes: &[u8]) -> Reply {
+// The lent next is called through next_over, since a program that lends a struct would be proved by hand; the other by
+// next_parted, which parts its reply from the state.
+fn next(is_lent: bool, s: State, bytes: &[u8]) -> lent::Parted {
     if is_lent {
-        return of_parted(lent::next_over(s, bytes));
+        return lent::next_over(s, bytes);
     }
-    reader::next(s, bytes)
+    lent::next_parted(s, bytes)
 }
 
 // One call on what is left of the piece. After more, and by a list after every call, the next piece begins. A refusal of the
@@ -170,14 +145,16 @@ fn next(is_lent: bool, s: State, bytes: &[u8]) -> Reply {
 fn turn(log: &mut Log, before: Progress, c: Pieces, bytes: &[u8], call: u32) -> Progress {
     let mut p = before;
     let s = p.state;
-    let r = next(c.lent, s, read::part(bytes, p.at, p.end));
+    let n = next(c.lent, s, read::part(bytes, p.at, p.end));
+    let r = n.reply;
     let a = r.answer;
-    let after = r.state;
+    let after = n.state;
+    let control = after.control;
     let e = event_of(a);
     let more = e.letter == b'.';
     p.state = after;
     p.at = read::onward(p.at, r.taken, bytes.len());
-    p.text = placed(log, p.text, r, e, p.at);
+    p.text = placed(log, p.text, r, e, control.node, p.at);
     p.done = more && p.at == bytes.len() || show::first(e, b'r') >= 8;
     if more || c.count > 0 {
         p.end = piece_end(c, p.at, bytes.len(), call);
@@ -202,13 +179,6 @@ fn read_all(log: &mut Log, text: usize, s: State, bytes: &[u8], c: Pieces) -> Pr
     p
 }
 
-fn waits(t: Token) -> u64 {
-    match t {
-        Token::Between => 0,
-        _ => 1,
-    }
-}
-
 // By itself, so that the field's range is known where it is widened.
 fn wide(x: i8) -> i32 {
     x as i32
@@ -218,9 +188,11 @@ fn wide(x: i8) -> i32 {
 fn last(log: &mut Log, at: usize, c: Control) -> usize {
     let e = c.escape;
     let t = c.token;
+    let token = states::token(t);
+    let waits = show::flag(token.letter != b't');
     let channel = show::bits(wide(e.channel));
     let node = show::bits(c.node);
-    let values = [show::flag(e.escaped), channel, node, waits(t), 0, 0];
+    let values = [show::flag(e.escaped), channel, node, waits, 0, 0];
     say(log, at, show::said_of(b'.', values))
 }
 
@@ -236,14 +208,19 @@ fn read_and_tell(log: &mut Log, text: usize, s: State, bytes: &[u8], c: Pieces) 
     end
 }
 
-// A stream from a fresh state in pieces of one size.
-pub fn stream(log: &mut Log, text: usize, bytes: &[u8], size: usize) -> usize {
-    read_and_tell(log, text, State::fresh(), bytes, sized(size, false))
+// A stream from a fresh state in any cut.
+fn cut_stream(log: &mut Log, text: usize, bytes: &[u8], c: Pieces) -> usize {
+    read_and_tell(log, text, State::fresh(), bytes, c)
 }
 
-// In one call.
+// In pieces of one size.
+pub fn stream(log: &mut Log, text: usize, bytes: &[u8], size: usize) -> usize {
+    cut_stream(log, text, bytes, sized(size, false))
+}
+
+// In one call, which by 01 has at most 65,536 bytes.
 fn whole(log: &mut Log, bytes: &[u8]) -> usize {
-    if CALL < bytes.len() {
+    if 65536 < bytes.len() {
         return 0;
     }
     stream(log, 0, bytes, bytes.len())
@@ -254,7 +231,7 @@ fn listed(log: &mut Log, a: Asked, bytes: &[u8]) -> usize {
     let list = a.numbers;
     c.list = list;
     c.count = a.count;
-    read_and_tell(log, 0, State::fresh(), bytes, c)
+    cut_stream(log, 0, bytes, c)
 }
 
 fn from_state(log: &mut Log, number: u64, bytes: &[u8]) -> usize {
@@ -263,18 +240,13 @@ fn from_state(log: &mut Log, number: u64, bytes: &[u8]) -> usize {
     read_and_tell(log, text, s, bytes, sized(bytes.len(), true))
 }
 
-// A stream from a fresh state in a cut, and all of the state after it.
-fn inside(log: &mut Log, text: usize, bytes: &[u8], c: Pieces) -> usize {
-    read_and_tell(log, text, State::fresh(), bytes, c)
-}
-
 // Through the lent next; after it, in the same log, by value, to be held against it.
 fn lent(log: &mut Log, bytes: &[u8]) -> usize {
     let whole = sized(bytes.len(), true);
     let mut c = whole;
     c.lent = true;
-    let n = inside(log, 0, bytes, c);
-    let end = inside(log, n, bytes, whole);
+    let n = cut_stream(log, 0, bytes, c);
+    let end = cut_stream(log, n, bytes, whole);
     show::same_again(log, n, end)
 }
 
@@ -302,7 +274,7 @@ fn cut_of(k: usize, len: usize) -> Pieces {
 
 // The text of a cut, after the whole stream's text of n bytes, to be held against it.
 fn is_same(log: &mut Log, n: usize, bytes: &[u8], c: Pieces) -> bool {
-    let end = inside(log, n, bytes, c);
+    let end = cut_stream(log, n, bytes, c);
     show::is_again(log, n, end)
 }
 
@@ -312,7 +284,7 @@ fn splits(log: &mut Log, bytes: &[u8]) -> usize {
     if LONG <= len {
         return 0;
     }
-    let n = inside(log, 0, bytes, sized(len, true));
+    let n = cut_stream(log, 0, bytes, sized(len, true));
     let count = cuts_of(len);
     let mut k = 0;
     while k < count {

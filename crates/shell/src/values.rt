@@ -11,7 +11,7 @@ use wing_node::value::Value;
 use wing_wire::state::zeros_from;
 
 fn say(log: &mut Log, at: usize, letter: u8, number: u64) -> usize {
-    show::say(log, at, b"fF|-W-|sWs", show::one(letter, number))
+    show::say(log, at, b"fA|-H-|sHs", show::one(letter, number))
 }
 
 fn characters(log: &mut Log, at: usize, s: &[u8]) -> usize {
@@ -71,26 +71,23 @@ fn got(log: &mut Log, v: Value, bytes: [u8; 256]) -> usize {
     show::expect(log, end, zeros_from(&found, n))
 }
 
-// A string of at most 256 bytes; the bytes past it are none that a getter may give.
-fn string(log: &mut Log, length: u16, s: &[u8]) -> usize {
-    if 256 < s.len() {
+// A value whose bytes are so many; those past them are none that a getter may give.
+fn sized(log: &mut Log, v: Value, s: &[u8], least: usize, most: usize) -> usize {
+    if s.len() < least || most < s.len() {
         return 0;
     }
-    got(log, Value::String(length), filled(s, 0xee))
+    got(log, v, filled(s, 0xee))
 }
 
-fn number(log: &mut Log, v: Value, s: &[u8]) -> usize {
-    if s.len() != 4 {
-        return 0;
-    }
-    got(log, v, [0xeeu8; 256])
+fn string(log: &mut Log, length: u64, s: &[u8]) -> usize {
+    sized(log, Value::String((length % 0x1_0000) as u16), s, 0, 256)
 }
 
 fn getters(log: &mut Log, kind: u64, s: &[u8]) -> usize {
     match kind {
-        0 => number(log, Value::Integer(field::i32_at(s, 0)), s),
-        1 => number(log, Value::Float(field::u32_at(s, 0)), s),
-        _ => string(log, (s.len() % 0x1_0000) as u16, s),
+        0 => sized(log, Value::Integer(field::i32_at(s, 0)), s, 4, 4),
+        1 => sized(log, Value::Float(field::u32_at(s, 0)), s, 4, 4),
+        _ => string(log, s.len() as u64, s),
     }
 }
 
@@ -102,6 +99,6 @@ pub fn order(log: &mut Log, a: Asked, bytes: &[u8]) -> usize {
         b'f' => one_more(log, bytes, 255, false),
         b's' => one_more(log, bytes, 63, true),
         b'g' => getters(log, n[0], bytes),
-        _ => string(log, (n[0] % 0x1_0000) as u16, bytes),
+        _ => string(log, n[0], bytes),
     }
 }

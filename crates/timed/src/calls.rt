@@ -1,23 +1,12 @@
 // The libraries' calls as bench/ times them: slices and numbers alone, since no enum crosses the border to Rust.
-use wing_mirror::feed::feed;
-use wing_mirror::recall::recall;
-use wing_node::definition::Parsed;
-use wing_node::definition::from_bytes;
+use wing_node::definition;
 use wing_node::field::of_i32;
-use wing_node::utf8::is_utf8;
-use wing_wire::meter::MetersRead;
-use wing_wire::meter::read_meters;
-use wing_wire::reader::Reply;
-use wing_wire::reader::next;
-use wing_wire::set::set_float;
-use wing_wire::set::set_int;
-use wing_wire::set::set_string;
-use wing_wire::state::Control;
-use wing_wire::state::State;
-use wing_wire::stream::Advanced;
-use wing_wire::stream::advance;
-use wing_wire::stream::is_more;
-use wing_wire::stream::release;
+use wing_node::utf8;
+use wing_wire::meter;
+use wing_wire::reader;
+use wing_wire::set;
+use wing_wire::state;
+use wing_wire::stream;
 use wing_wire::unit::Answer;
 use wing_wire::write::Written;
 
@@ -57,45 +46,36 @@ fn plus(total: u64, n: u32) -> u64 {
 
 // How far the core is: the control, the bytes taken, the sum of the answers, and whether the last one was more.
 struct Sum {
-    control: Control,
+    control: state::Control,
     at: usize,
     total: u64,
     more: bool,
 }
 
-fn sum_of(r: Advanced, at: usize, total: u64) -> Sum {
-    let a = r.answer;
-    let c = r.control;
-    Sum {
-        control: c,
-        at: at,
-        total: plus(total, value(a)),
-        more: is_more(a),
-    }
-}
-
-fn turn(s: Sum, store: &mut [u8], bytes: &[u8]) -> Sum {
+fn turn(before: Sum, store: &mut [u8], bytes: &[u8]) -> Sum {
+    let mut s = before;
     let c = s.control;
-    let r = advance(c, store, rest(bytes, s.at));
+    let r = stream::advance(c, store, rest(bytes, s.at));
     let a = r.answer;
-    release(store, a);
-    sum_of(r, onward(s.at, r.taken, bytes.len()), s.total)
-}
-
-fn fresh() -> Sum {
-    let c = Control::fresh();
-    Sum {
-        control: c,
-        at: 0,
-        total: 0,
-        more: false,
-    }
+    let control = r.control;
+    stream::release(store, a);
+    s.control = control;
+    s.at = onward(s.at, r.taken, bytes.len());
+    s.total = plus(s.total, value(a));
+    s.more = stream::is_more(a);
+    s
 }
 
 // Every answer of the core, as feed takes them; the store is 4,096 bytes of 0.
 #[no_mangle]
 pub extern "C" fn port_decode(bytes: &[u8], store: &mut [u8]) -> u64 {
-    let mut s = fresh();
+    let control = state::Control::fresh();
+    let mut s = Sum {
+        control,
+        at: 0,
+        total: 0,
+        more: false,
+    };
     let mut turns = u64::MAX;
     while turns > 0 && !s.more {
         s = turn(s, store, bytes);
@@ -106,35 +86,31 @@ pub extern "C" fn port_decode(bytes: &[u8], store: &mut [u8]) -> u64 {
 
 // The same by the next call, whose state, string and body go by value.
 struct Nexts {
-    state: State,
+    state: state::State,
     at: usize,
     total: u64,
     more: bool,
 }
 
-fn nexts_of(r: Reply, at: usize, total: u64) -> Nexts {
-    let a = r.answer;
-    let s = r.state;
-    Nexts {
-        state: s,
-        at: at,
-        total: plus(total, value(a)),
-        more: is_more(a),
-    }
-}
-
-fn one_next(n: Nexts, bytes: &[u8]) -> Nexts {
+fn one_next(before: Nexts, bytes: &[u8]) -> Nexts {
+    let mut n = before;
     let s = n.state;
-    let r = next(s, rest(bytes, n.at));
-    nexts_of(r, onward(n.at, r.taken, bytes.len()), n.total)
+    let r = reader::next(s, rest(bytes, n.at));
+    let a = r.answer;
+    let state = r.state;
+    n.state = state;
+    n.at = onward(n.at, r.taken, bytes.len());
+    n.total = plus(n.total, value(a));
+    n.more = stream::is_more(a);
+    n
 }
 
 // At most 65,536 bytes.
 #[no_mangle]
 pub extern "C" fn port_next(bytes: &[u8]) -> u64 {
-    let s = State::fresh();
+    let state = state::State::fresh();
     let mut n = Nexts {
-        state: s,
+        state,
         at: 0,
         total: 0,
         more: false,
@@ -150,10 +126,10 @@ pub extern "C" fn port_next(bytes: &[u8]) -> u64 {
 // The id of a definition, all of whose fields and items are read; 0 for one that is refused.
 #[no_mangle]
 pub extern "C" fn port_from_bytes(body: &[u8]) -> u32 {
-    let parsed = from_bytes(body);
+    let parsed = definition::from_bytes(body);
     match parsed {
-        Parsed::Good(d) => of_i32(d.id),
-        Parsed::Refused(_) => 0,
+        definition::Parsed::Good(d) => of_i32(d.id),
+        definition::Parsed::Refused(_) => 0,
     }
 }
 
@@ -166,33 +142,33 @@ fn length(w: Written) -> usize {
 
 #[no_mangle]
 pub extern "C" fn port_set_int(out: &mut [u8], id: i32, x: i32) -> usize {
-    length(set_int(out, id, x))
+    length(set::set_int(out, id, x))
 }
 
 #[no_mangle]
 pub extern "C" fn port_set_float(out: &mut [u8], id: i32, bits: u32) -> usize {
-    length(set_float(out, id, bits))
+    length(set::set_float(out, id, bits))
 }
 
 #[no_mangle]
 pub extern "C" fn port_set_string(out: &mut [u8], id: i32, s: &[u8]) -> usize {
-    length(set_string(out, id, s))
+    length(set::set_string(out, id, s))
 }
 
 #[no_mangle]
 pub extern "C" fn port_read_meters(packet: &[u8], out: &mut [i16]) -> usize {
-    let r = read_meters(packet, out);
+    let r = meter::read_meters(packet, out);
     match r {
-        MetersRead::Readings { id: _, count } => count,
-        MetersRead::Refused(_) => 0,
+        meter::MetersRead::Readings { id: _, count } => count,
+        meter::MetersRead::Refused(_) => 0,
     }
 }
 
 // At most 65,536 bytes into a mirror with a fresh decoder; the number of records.
 #[no_mangle]
 pub extern "C" fn port_feed(table: &mut [u8], count: usize, bytes: &[u8]) -> usize {
-    let s = State::fresh();
-    let r = feed(s, table, count, bytes);
+    let s = state::State::fresh();
+    let r = wing_mirror::feed::feed(s, table, count, bytes);
     r.count
 }
 
@@ -211,10 +187,10 @@ pub extern "C" fn port_mirror_set(
 
 #[no_mangle]
 pub extern "C" fn port_recall(table: &[u8], count: usize, out: &mut [u8]) -> usize {
-    length(recall(table, count, out))
+    length(wing_mirror::recall::recall(table, count, out))
 }
 
 #[no_mangle]
 pub extern "C" fn port_is_utf8(s: &[u8]) -> u32 {
-    if is_utf8(s) { 1 } else { 0 }
+    if utf8::is_utf8(s) { 1 } else { 0 }
 }

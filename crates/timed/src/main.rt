@@ -22,8 +22,6 @@ fn main() {
     print(b"core ", calls::port_decode(&bytes[..n], &mut store));
     print(b"next ", calls::port_next(&bytes[..n]));
     let mut table = [0u8; TABLE];
-    print(
-        b"records ",
-        calls::port_feed(&mut table, 0, &bytes[..n]) as u64,
-    );
+    let count = calls::port_feed(&mut table, 0, &bytes[..n]);
+    print(b"records ", count as u64);
 }

@@ -1,3 +1,4 @@
+-- The array keeps its 64 entries, so an index below 64 is within it; 64 less the index falls.
 use borrow.Author.Needs.{needs}
 use lib.ListN.{length}
 use mathlib.Core.Path.{_≡_}

@@ -1,3 +1,4 @@
+-- The output that is lent is an array of so many equal bytes, which has that length.
 use mathlib.Core.Path.{sym}
 use Prim.Native.Nat.{ℕ}
 use lib.ListN.{length-replicate}

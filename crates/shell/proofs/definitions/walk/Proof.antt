@@ -1,3 +1,4 @@
+-- The steps left, one more than the items, fall with every turn.
 use borrow.Author.Needs.{needs}
 use Prim.Native.Nat.{_≤_}
 use Rattle.shell.proofs.definitions.walk.Statement.{statement}

@@ -1,3 +1,4 @@
+-- The turns left fall with every entry; no place in the table is used unchecked.
 use borrow.Author.Needs.{needs}
 use Prim.Native.Nat.{_≤_}
 use Rattle.shell.proofs.forms.by_table.Statement.{statement}

@@ -1,3 +1,4 @@
+-- One factor is below 65,536 and the other below 2 ^ 32, so the product fits.
 use native.Mathlib.Omega.{arith}
 use borrow.Author.Needs.{needs, scaled-fits}
 use Rattle.shell.proofs.forms.product.Statement.{statement}

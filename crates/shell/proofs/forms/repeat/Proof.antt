@@ -1,3 +1,4 @@
+-- The bytes left fall with every turn; each place is checked where it is read and written.
 use borrow.Author.Needs.{needs}
 use Prim.Native.Nat.{_≤_}
 use Rattle.shell.proofs.forms.repeat.Statement.{statement}

@@ -1,3 +1,4 @@
+-- The turns left fall with every size; no place in the word is used unchecked.
 use borrow.Author.Needs.{needs}
 use Prim.Native.Nat.{_≤_}
 use Rattle.shell.proofs.forms.with_list.Statement.{statement}

@@ -1,3 +1,4 @@
+-- The letters left fall with every word; no place in the line is used unchecked.
 use borrow.Author.Needs.{needs}
 use lib.ListN.{length}
 use Prim.Native.Nat.{_≤_, _-_}

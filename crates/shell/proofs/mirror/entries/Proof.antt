@@ -1,3 +1,4 @@
+-- The records left fall with every turn.
 use borrow.Author.Needs.{needs}
 use Prim.Native.Nat.{_≤_, _-_}
 use Rattle.shell.proofs.mirror.entries.Statement.{statement}

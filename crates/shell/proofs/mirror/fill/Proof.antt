@@ -1,3 +1,4 @@
+-- The memory keeps its length, so an index below it is within; what is left falls.
 use borrow.Author.Needs.{needs}
 use lib.ListN.{length}
 use mathlib.Core.Path.{_≡_}

@@ -1,3 +1,4 @@
+-- The bytes left fall with every turn; each place is checked where it is written.
 use borrow.Author.Needs.{needs}
 use lib.ListN.{length}
 use mathlib.Core.Path.{_≡_}

@@ -1,3 +1,4 @@
+-- The bytes left fall with every pair. The index is below half the length of the word, so twice it fits.
 use borrow.Author.Needs.{needs}
 use lib.ListN.{length}
 use mathlib.Core.Path.{_≡_}
@@ -29,26 +30,8 @@ less-requires c κs = search needs
 loop-holds : tie.Need-loop-holds Inv-loop μ-loop
 loop-holds c = search needs
 
-mul-byte-or : tie.Need-mul-byte-or Inv-loop μ-loop
-mul-byte-or c = search needs
-
-byte-or-requires : tie.Need-byte-or-requires Inv-loop μ-loop
-byte-or-requires c κs = search needs
-
-digit-requires : tie.Need-digit-requires Inv-loop μ-loop
-digit-requires c κs = search needs
-
-mul-byte-or-2 : tie.Need-mul-byte-or-2 Inv-loop μ-loop
-mul-byte-or-2 c = search needs
-
-add-byte-or : tie.Need-add-byte-or Inv-loop μ-loop
-add-byte-or c = search needs
-
-byte-or-requires-2 : tie.Need-byte-or-requires-2 Inv-loop μ-loop
-byte-or-requires-2 c κs = search needs
-
-digit-requires-2 : tie.Need-digit-requires-2 Inv-loop μ-loop
-digit-requires-2 c κs = search needs
+mul-pair : tie.Need-mul-pair Inv-loop μ-loop
+mul-pair c = search needs
 
 pair-requires : tie.Need-pair-requires Inv-loop μ-loop
 pair-requires c κs = search needs
@@ -89,13 +72,7 @@ pairs-spec =
     returns
     less-requires
     loop-holds
-    mul-byte-or
-    byte-or-requires
-    digit-requires
-    mul-byte-or-2
-    add-byte-or
-    byte-or-requires-2
-    digit-requires-2
+    mul-pair
     pair-requires
     cast-put
     put-requires

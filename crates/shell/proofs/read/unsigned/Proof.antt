@@ -1,3 +1,4 @@
+-- The digits left fall with every turn; the remainder keeps the number small enough for one digit more.
 use borrow.Author.Needs.{needs}
 use lib.ListN.{length}
 use Prim.Native.Nat.{_≤_, _-_}
@@ -24,9 +25,6 @@ digit-requires c κs = search needs
 
 mul-number-of : tie.Need-mul-number-of Inv-loop μ-loop
 mul-number-of c = search needs
-
-cast-number-of : tie.Need-cast-number-of Inv-loop μ-loop
-cast-number-of c = search needs
 
 add-number-of : tie.Need-add-number-of Inv-loop μ-loop
 add-number-of c = search needs
@@ -60,7 +58,6 @@ unsigned-spec =
     shared-slice-read-digit
     digit-requires
     mul-number-of
-    cast-number-of
     add-number-of
     number-of-requires-2
     add-i

@@ -1,3 +1,4 @@
+-- The bytes left fall with every pair; each is read only where it is there.
 use borrow.Author.Needs.{needs}
 use Prim.Native.Nat.{_≤_, _-_}
 use Rattle.shell.proofs.show.front.Statement.{statement}

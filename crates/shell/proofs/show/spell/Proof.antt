@@ -1,3 +1,4 @@
+-- The letters left fall with every turn; a number past the last is 0.
 use borrow.Author.Needs.{needs}
 use lib.ListN.{length}
 use Prim.Native.Nat.{_≤_, _-_}

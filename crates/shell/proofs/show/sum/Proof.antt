@@ -1,3 +1,4 @@
+-- The index is below the length, which every turn comes nearer to.
 use borrow.Author.Needs.{needs}
 use lib.ListN.{length}
 use Prim.Native.Nat.{_≤_, _-_}

@@ -1,3 +1,4 @@
+-- The calls made are at most 200,000, and those left fall with every turn.
 use borrow.Author.Needs.{needs}
 use Prim.Native.Nat.{_≤_, _-_}
 use Rattle.shell.proofs.streams.read_all.Statement.{statement}

@@ -1,3 +1,4 @@
+-- The cuts left fall with every turn.
 use borrow.Author.Needs.{needs}
 use Prim.Native.Nat.{_≤_, _-_}
 use Rattle.shell.proofs.streams.splits.Statement.{statement}
@@ -15,8 +16,8 @@ returns c = search needs
 sized-requires : tie.Need-sized-requires Inv-loop μ-loop
 sized-requires c κs = search needs
 
-inside-requires : tie.Need-inside-requires Inv-loop μ-loop
-inside-requires c κs = search needs
+cut-stream-requires : tie.Need-cut-stream-requires Inv-loop μ-loop
+cut-stream-requires c κs = search needs
 
 cuts-of-requires : tie.Need-cuts-of-requires Inv-loop μ-loop
 cuts-of-requires c κs = search needs
@@ -65,7 +66,7 @@ splits-spec =
     μ-loop
     returns
     sized-requires
-    inside-requires
+    cut-stream-requires
     cuts-of-requires
     loop-holds
     cut-of-requires

@@ -1,6 +1,6 @@
+-- A number of 8 bits fits 32.
 use native.Mathlib.Omega.{arith}
 use mir.Facts.{toZ-ofZ}
-use borrow.Author.Needs.{needs}
 use borrow.Author.Needs.{needs}
 use Rattle.shell.proofs.streams.wide.Statement.{statement}
 use Rattle.shell.proofs.streams.wide.Tie as tie

@@ -1,3 +1,4 @@
+-- The array keeps its 256 bytes, so an index below 256 is within it; 256 less the index falls.
 use borrow.Author.Needs.{needs}
 use lib.ListN.{length}
 use mathlib.Core.Path.{_≡_}

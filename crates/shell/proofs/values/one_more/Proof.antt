@@ -1,3 +1,4 @@
+-- The last byte is at most 256, and what is left to that falls with every turn.
 use borrow.Author.Needs.{needs}
 use Prim.Native.Nat.{_≤_, _-_}
 use Rattle.shell.proofs.values.one_more.Statement.{statement}
