@@ -46,11 +46,15 @@ pub fn hex(line: &mut [u8], at: usize, n: u64, width: usize) -> usize {
     text(line, at, &digits[..k])
 }
 
+fn pair(line: &mut [u8], at: usize, b: u8) -> usize {
+    hex(line, at, b as u64, 2)
+}
+
 pub fn pairs(line: &mut [u8], at: usize, s: &[u8]) -> usize {
     let mut to = at;
     let mut i = 0;
     while i < s.len() {
-        to = hex(line, to, s[i] as u64, 2);
+        to = pair(line, to, s[i]);
         i += 1;
     }
     to
@@ -59,7 +63,7 @@ pub fn pairs(line: &mut [u8], at: usize, s: &[u8]) -> usize {
 // The first n bytes; none where there are not so many.
 pub fn front(s: &[u8], n: usize) -> &[u8] {
     if n <= s.len() {
-        return &s[..n];
+        return &s[0..n];
     }
     &s[..0]
 }

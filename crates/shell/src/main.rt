@@ -110,16 +110,6 @@ fn refill(before: Input, buffer: &mut Buffer) -> Input {
     t
 }
 
-fn take(before: Input, b: u8, line: &mut Line) -> Input {
-    let mut t = before;
-    t.at = read::onward(t.at, 1, BUFFER);
-    t.ended = b == b'\n';
-    if !t.ended {
-        t.len = read::put(line, t.len, b);
-    }
-    t
-}
-
 fn read_line(before: Input, buffer: &mut Buffer, line: &mut Line) -> Input {
     let mut t = before;
     t.len = 0;
@@ -127,7 +117,12 @@ fn read_line(before: Input, buffer: &mut Buffer, line: &mut Line) -> Input {
     let mut turns = u64::MAX;
     while turns > 0 && t.more && !t.ended {
         if t.at < t.end {
-            t = take(t, read::byte_or(buffer, t.at, 0), line);
+            let b = read::byte_or(buffer, t.at, 0);
+            t.at = read::onward(t.at, 1, BUFFER);
+            t.ended = b == b'\n';
+            if !t.ended {
+                t.len = read::put(line, t.len, b);
+            }
         } else {
             t = refill(t, buffer);
         }

@@ -9,6 +9,7 @@ use crate::states;
 use wing_wire::escape;
 use wing_wire::lent;
 use wing_wire::lent::LentReply;
+use wing_wire::reader;
 use wing_wire::state;
 use wing_wire::state::Control;
 use wing_wire::state::State;
@@ -38,9 +39,6 @@ struct Progress {
 
 // A stream of n bytes, at most 70,000, gives at most n + 1 answers and one 'more' for each piece.
 const TURNS: u32 = 200000;
-
-// 01: the most bytes of one call.
-const CALL: usize = 65536;
 
 fn sized(size: usize, inside: bool) -> Pieces {
     Pieces {
@@ -134,13 +132,28 @@ fn placed(log: &mut Log, at: usize, r: LentReply, e: Said, node: i32, place: usi
     say(log, end, show::one(b'@', place as u64))
 }
 
-// The lent next is called through next_over, since a program that lends a struct would be proved by hand; the other by
-// next_parted, which parts its reply from the state.
+// next by value, with its reply parted from the state as the lent form has it.
+fn by_value(s: State, bytes: &[u8]) -> lent::Parted {
+    let r = reader::next(s, bytes);
+    let answer = r.answer;
+    let string = r.string;
+    let body = r.body;
+    let state = r.state;
+    let reply = LentReply {
+        answer,
+        taken: r.taken,
+        string,
+        body,
+    };
+    lent::Parted { state, reply }
+}
+
+// The lent next is called through next_over, since a program that lends a struct would be proved by hand.
 fn next(is_lent: bool, s: State, bytes: &[u8]) -> lent::Parted {
     if is_lent {
         return lent::next_over(s, bytes);
     }
-    lent::next_parted(s, bytes)
+    by_value(s, bytes)
 }
 
 // One call on what is left of the piece. After more, and by a list after every call, the next piece begins. A refusal of the
@@ -221,9 +234,9 @@ pub fn stream(log: &mut Log, text: usize, bytes: &[u8], size: usize) -> usize {
     cut_stream(log, text, bytes, sized(size, false))
 }
 
-// In one call.
+// In one call, which by 01 has at most 65,536 bytes.
 fn whole(log: &mut Log, bytes: &[u8]) -> usize {
-    if CALL < bytes.len() {
+    if 65536 < bytes.len() {
         return 0;
     }
     stream(log, 0, bytes, bytes.len())

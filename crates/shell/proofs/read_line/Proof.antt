@@ -16,8 +16,11 @@ loop-holds c = search needs
 byte-or-requires : tie.Need-byte-or-requires Inv-loop μ-loop
 byte-or-requires c κs = search needs
 
-take-requires : tie.Need-take-requires Inv-loop μ-loop
-take-requires c κs = search needs
+onward-requires : tie.Need-onward-requires Inv-loop μ-loop
+onward-requires c κs = search needs
+
+put-requires : tie.Need-put-requires Inv-loop μ-loop
+put-requires c κs = search needs
 
 refill-requires : tie.Need-refill-requires Inv-loop μ-loop
 refill-requires c κs = search needs
@@ -48,7 +51,8 @@ read-line-spec =
     μ-loop
     loop-holds
     byte-or-requires
-    take-requires
+    onward-requires
+    put-requires
     refill-requires
     sub-turns
     loop-less
