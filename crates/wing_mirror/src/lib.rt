@@ -8,6 +8,7 @@ mod order;
 pub mod query;
 pub mod recall;
 mod record;
+mod send;
 pub mod set;
 mod store;
 pub mod table;

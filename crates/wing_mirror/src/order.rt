@@ -1,6 +1,6 @@
 // Where a key stands in a table whose keys rise. Records of any width, the id their first four bytes.
 ghost use mathlib.Core.Path.{_≡_};
-ghost use Prim.Native.Nat.{_+_, _*_, _≤_, _<_};
+ghost use Prim.Native.Nat.{_+_, _*_, _/_, _≤_, _<_};
 ghost use lib.ListN.{length};
 ghost use Rattle.wing_mirror.specs.Rows.{row as rowOf, records, nextAbove};
 ghost use Rattle.wing_mirror.specs.Record.{keyOf};
@@ -12,6 +12,14 @@ use crate::record;
 pub struct Position {
     pub number: usize,
     pub found: bool,
+}
+
+// The places of a buffer for records of a width.
+pub(crate) fn places_of(table: &[u8], width: usize) -> usize
+    requires { ⌜ 1 ≤ width ⌝ }
+    ensures { λ r. ⌜ r ≡ length (now (table .entry)) / width ⌝ }
+{
+    table.len() / width
 }
 
 // The record of a number.

@@ -10,7 +10,7 @@ ghost use Rattle.wing_mirror.specs.Recall.{recallBytes, recallOf};
 ghost use Rattle.wing_mirror.specs.Sending.{orderIn, ordersOf, sizeIn};
 use crate::order::row;
 use crate::record;
-use crate::set::send;
+use crate::send::send;
 use crate::table::is_usable;
 use wing_wire::state::State;
 use wing_wire::write::Written;

@@ -4,8 +4,6 @@ ghost use mathlib.Core.Bool.{true};
 ghost use Prim.Native.Nat.{_≤_};
 ghost use lib.ListN.{length};
 ghost use Rattle.wing_node.specs.Value.{integer, float, string as stringOf, nodeValue};
-ghost use Rattle.wing_wire.specs.Write.{writeEffect, writeOf};
-ghost use Rattle.wing_wire.specs.Command.{setBytes};
 ghost use Rattle.wing_mirror.specs.Entry.{storable};
 ghost use Rattle.wing_mirror.specs.Record.{width, full};
 ghost use Rattle.wing_mirror.specs.Table.{table as tableOf, usable};
@@ -13,13 +11,12 @@ ghost use Rattle.wing_mirror.specs.Mirror.{mirrorSet, setEffect};
 ghost use Rattle.wing_mirror.specs.Sets.{replied, keptOf, refusedSetReply};
 use crate::answer::SetReply;
 use crate::record::lay_record;
+use crate::send::send;
 use crate::store::has_room;
 use crate::store::put;
 use crate::table::is_usable;
-use wing_node::field::least;
 use wing_node::utf8::is_utf8;
 use wing_node::value::Value;
-use wing_wire::set;
 use wing_wire::state::State;
 use wing_wire::write::Written;
 
@@ -29,21 +26,6 @@ fn refused(why: u8, count: usize) -> SetReply
     SetReply {
         answer: Written::Refused(why),
         count: count,
-    }
-}
-
-// The command of a value; a string's bytes stand beside its length.
-pub(crate) fn send(out: &mut [u8], id: i32, value: Value, string: &[u8]) -> Written
-    requires { ⌜ storable (nodeValue value (now string)) ≡ true ⌝ }
-    ensures { λ r. ⌜ writeEffect r (now (out .exit)) ≡ writeOf (setBytes id (nodeValue value (now (string .entry)))) (now (out .entry)) ⌝ }
-{
-    match value {
-        Value::Integer(x) => set::set_int(out, id, x),
-        Value::Float(bits) => set::set_float(out, id, bits),
-        Value::String(n) => {
-            let len = least(n as usize, string.len());
-            set::set_string(out, id, &string[..len])
-        }
     }
 }
 

@@ -8,9 +8,9 @@ ghost use Rattle.wing_mirror.specs.Puts.{putEffect};
 ghost use Rattle.wing_mirror.specs.Order.{InOrder, putRow};
 use crate::bytes::lay;
 use crate::bytes::open_gap;
+use crate::order::places_of;
 use crate::order::search;
 use crate::record;
-use crate::table::places_of;
 
 // Whether the record is in the table now, and how many there are.
 pub struct Kept {

@@ -6,17 +6,10 @@ ghost use Rattle.wing_mirror.specs.Rows.{records};
 ghost use Rattle.wing_mirror.specs.Record.{width, wellFormed, full};
 ghost use Rattle.wing_mirror.specs.Table.{table as tableOf, rowAt, passesAt, checked, soundTable, usable};
 use crate::order::is_below_next;
+use crate::order::places_of;
 use crate::order::row;
 use crate::record;
 use wing_wire::state::State;
-
-// The places of a buffer for records of a width.
-pub(crate) fn places_of(table: &[u8], width: usize) -> usize
-    requires { ⌜ 1 ≤ width ⌝ }
-    ensures { λ r. ⌜ r ≡ length (now (table .entry)) / width ⌝ }
-{
-    table.len() / width
-}
 
 // 01: places = buffer length div 264.
 pub fn places(table: &[u8]) -> usize

@@ -14,8 +14,8 @@ use Rattle.wing_wire.specs.Command.{setBytes}
 use Rattle.wing_mirror.specs.Entry.{storable}
 use Rattle.wing_mirror.proofs.Calls.Orders.{string-sent}
 use borrow.Author.Needs.{needs}
-use Rattle.wing_mirror.proofs.set.send.Statement.{statement}
-use Rattle.wing_mirror.proofs.set.send.Tie as tie
+use Rattle.wing_mirror.proofs.send.send.Statement.{statement}
+use Rattle.wing_mirror.proofs.send.send.Tie as tie
 
 enum-known-value : tie.Need-enum-known-value
 enum-known-value c = search needs
