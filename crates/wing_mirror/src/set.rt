@@ -32,7 +32,7 @@ fn refused(why: u8, count: usize) -> SetReply
 }
 
 // The command of a value; a string's bytes stand beside its length.
-pub(crate) fn send(out: &mut [u8], id: i32, value: Value, string: &[u8]) -> Written
+fn send(out: &mut [u8], id: i32, value: Value, string: &[u8]) -> Written
     requires { ⌜ storable (meant value (now string)) ≡ true ⌝ }
     ensures { λ r. ⌜ wrote r (now (out .exit)) ≡ writeOf (setBytes id (meant value (now (string .entry)))) (now (out .entry)) ⌝ }
 {
