@@ -1,12 +1,11 @@
 -- The table: records of any layout at the front of a lent buffer, and how many.
-use Prim.Native.Nat.{ℕ, _+_, _*_}
+use Prim.Native.Nat.{ℕ}
 use mathlib.Core.Bool.{Bool, true, false}
 use mathlib.Core.List.{List, [], _∷_}
-use lib.Dec.{ltb, leb, eqb}
+use lib.Dec.{leb}
 use lib.IntN.{ℤ}
-use lib.ListN.{take, drop}
 use Rattle.wing_node.specs.Bool.{if}
-use Rattle.wing_mirror.specs.Rows.{Table, Found, rising, places, rowsOf, takes, store, numberOf}
+use Rattle.wing_mirror.specs.Rows.{Table, Found, row, rising, places, rowsOf, nextAbove, takes, store, numberOf}
 use Rattle.wing_mirror.specs.Entry.{Entry, rankOf}
 use Rattle.wing_mirror.specs.Layout.{Layout}
 use Rattle.wing_mirror.specs.Record.{full}
@@ -59,16 +58,8 @@ module _ (L : Layout) where
 
 -- the record of a number
 abbrev pub rowAt : ℕ → List ℕ → List ℕ
-rowAt number buffer = take (full .width) (drop (full .width * number) buffer)
-
--- the record of a number is there and has this key
-unfoldable pub hasKeyAt : List ℕ → ℕ → ℕ → ℕ → Bool
-hasKeyAt buffer count number key = if (ltb number count) (eqb (full .keyOf (rowAt number buffer)) key) false
-
--- the record after that of a number, if there is one, has a higher key
-unfoldable pub belowNext : List ℕ → ℕ → ℕ → Bool
-belowNext buffer count number = if (ltb (number + 1) count) (ltb (full .keyOf (rowAt number buffer)) (full .keyOf (rowAt (number + 1) buffer))) true
+rowAt number buffer = row (full .width) number buffer
 
 -- the record of a number has 01's form, and stands before the next
 unfoldable pub passesAt : List ℕ → ℕ → ℕ → Bool
-passesAt buffer count number = if (full .wellFormed (rowAt number buffer)) (belowNext buffer count number) false
+passesAt buffer count number = if (full .wellFormed (rowAt number buffer)) (nextAbove (full .width) (full .keyOf) buffer count number) false

@@ -1,4 +1,4 @@
-// The set order of a value, for a set and for recall.
+// The command that a set through the mirror writes.
 ghost use mathlib.Core.Path.{_≡_};
 ghost use mathlib.Core.Bool.{true};
 ghost use Rattle.wing_node.specs.Value.{nodeValue};

@@ -63,14 +63,22 @@ module _ (r : List ℕ) (wide : length r ≡ 264) (id : ℤ) (eid : id ≡ signe
 
 -- what a record that holds v says, its string's bytes in p
 module _ (id : ℤ) (v : Value) (p r : List ℕ) (e : entry id (nodeValue v p) ≡ entryIn r) where
+  pub integer-held : (x : ℤ) → v ≡ Integer x → entry id (integer x) ≡ entryIn r
+  unfolding nodeValue
+  integer-held x q = rw q at e
+
+  pub float-held : (bits : ℕ) → v ≡ Float bits → entry id (float bits) ≡ entryIn r
+  unfolding nodeValue
+  float-held bits q = rw q at e
+
+  pub string-held : (n : ℕ) → v ≡ String n → entry id (string (take n p)) ≡ entryIn r
+  unfolding nodeValue
+  string-held n q = rw q at e
+
   pub integer-said : (x : ℤ) → v ≡ Integer x → besideZeros id v ≡ readOf (entryIn r)
-  unfolding nodeValue readOf valueOf bytesBeside
-  integer-said x q = rw q (ap readOf (rw q at e))
+  unfolding readOf valueOf bytesBeside
+  integer-said x q = rw q (ap readOf (integer-held x q))
 
   pub float-said : (bits : ℕ) → v ≡ Float bits → besideZeros id v ≡ readOf (entryIn r)
-  unfolding nodeValue readOf valueOf bytesBeside
-  float-said bits q = rw q (ap readOf (rw q at e))
-
-  pub string-is-said : (n : ℕ) → v ≡ String n → readOf (entry id (string (take n p))) ≡ readOf (entryIn r)
-  unfolding nodeValue
-  string-is-said n q = ap readOf (rw q at e)
+  unfolding readOf valueOf bytesBeside
+  float-said bits q = rw q (ap readOf (float-held bits q))

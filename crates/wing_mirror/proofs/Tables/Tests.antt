@@ -13,7 +13,7 @@ use lib.Seq.{drop-drop}
 use Rattle.wing_node.specs.Bool.{if}
 use Rattle.wing_mirror.specs.Rows.{row, records, over, rising, nextAbove}
 use Rattle.wing_mirror.specs.Record.{keyOf, wellFormed, full}
-use Rattle.wing_mirror.specs.Table.{every, belowNext, passesAt, checked}
+use Rattle.wing_mirror.specs.Table.{every, passesAt, checked}
 
 module _ (w : ℕ) where
   -- the records from the i-th on
@@ -75,7 +75,7 @@ module _ (w : ℕ) where
 
 -- 01's form and 264 bytes
 pub turn : (n i : ℕ) (b : List ℕ) → i < n → checked full (from 264 n i b) ≡ if (passesAt b n i) (checked full (from 264 n (i + 1) b)) false
-unfolding checked passesAt belowNext nextAbove
+unfolding checked passesAt
 turn = turn-of 264 wellFormed
 
 pub all-passed : (n i : ℕ) (b : List ℕ) → n ≤ i → checked full (from 264 n i b) ≡ true

@@ -10,7 +10,7 @@ use Rattle.wing_node.specs.Value.{string}
 use Rattle.wing_mirror.specs.Entry.{entry}
 use Rattle.wing_mirror.specs.Record.{payloadIn}
 use Rattle.wing_mirror.specs.Query.{readOf}
-use Rattle.wing_mirror.proofs.Records.Said.{integer-said, float-said, string-is-said}
+use Rattle.wing_mirror.proofs.Records.Said.{integer-said, float-said, string-held}
 use borrow.Author.Needs.{needs}
 use Rattle.wing_mirror.proofs.query.read_record.Statement.{statement}
 use Rattle.wing_mirror.proofs.query.read_record.Tie as tie
@@ -70,7 +70,7 @@ returns-3 c =
     let back : toZ w32 (ofZ w32 (h .result .id)) ≡ h .result .id = search needs in
     c .string-read .ensures
     ∙ rw back (ap (λ (p : List ℕ). readOf (entry (h .result .id) (string (take n p)))) (at-payload .payload .ensures)
-    ∙ string-is-said (h .result .id) (h .result .value) (payloadIn r) r (h .ensures) n (at-value .value .given .1))
+    ∙ ap readOf (string-held (h .result .id) (h .result .value) (payloadIn r) r (h .ensures) n (at-value .value .given .1)))
 
 pub read-record-spec : {M : Type 1} → statement M
 read-record-spec =

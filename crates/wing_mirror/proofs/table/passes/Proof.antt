@@ -1,6 +1,5 @@
--- Both returns are the branches of `passesAt`, by the contracts of `formed_at` and `is_below_next`, at the width of 264.
-use Rattle.wing_mirror.specs.Table.{belowNext, passesAt}
-use Rattle.wing_mirror.specs.Rows.{nextAbove}
+-- Both returns are the branches of `passesAt`, by the contracts of `formed_at` and `is_below_next`.
+use Rattle.wing_mirror.specs.Table.{passesAt}
 use borrow.Author.Needs.{needs}
 use Rattle.wing_mirror.proofs.table.passes.Statement.{statement}
 use Rattle.wing_mirror.proofs.table.passes.Tie as tie
@@ -12,7 +11,7 @@ is-below-next-requires : tie.Need-is-below-next-requires
 is-below-next-requires c κs = search needs
 
 returns : tie.Need-returns
-unfolding passesAt belowNext nextAbove
+unfolding passesAt
 returns c = simp (← c .before .before .formed-at .ensures, c .before .if1 .taken, c .is-below-next .ensures)
 
 returns-2 : tie.Need-returns-2
