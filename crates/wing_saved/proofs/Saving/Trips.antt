@@ -1,0 +1,220 @@
+-- A sound state's bytes read as that state, and bytes that read as a state are its bytes.
+use Prim.Native.Nat.{ℕ, zero, suc, _+_, _-_, _^_, _≤_, _<_}
+use mathlib.Core.Bool.{Bool, true, false}
+use mathlib.Core.Path.{_≡_, refl, sym, _∙_, ap, subst}
+use mathlib.Core.List.{List, [], _∷_, _++_, append-nil}
+use native.Mathlib.Omega.{arith}
+use borrow.Author.Tests.{eq-eqb, eqb-true, ltb-false, le-ltb}
+use lib.Dec.{eqb, ltb}
+use lib.ListN.{length, take, drop, getD, replicate, length-append, length-drop, drop-of-length-le}
+use lib.Seq.{length-take-le}
+use Rattle.wing_node.specs.Result.{Result, ok, refused}
+use Rattle.wing_node.specs.Digits.{digitsIn}
+use Rattle.wing_node.specs.Field.{fieldAt}
+use Rattle.wing_node.specs.Bool.{if}
+use Rattle.wing_node.proofs.Numerals.Numbers.{Digits, digits-take, digits-drop, number-below}
+use Rattle.wing_node.proofs.Numerals.Signs.{signed-in}
+use Rattle.wing_wire.specs.Token.{widthOf}
+use Rattle.wing_wire.specs.State.{bodyLimit, stateOf, soundEscape, soundToken, soundState, freshControl}
+use Rattle.wing_wire.specs.Range.{AreBytes, noBytes, byteThen, PendingByte, noPending, pendingByte, TokenWithin, NumberIn, InRange}
+use Rattle.wing_saved.specs.Saved.{savedSize, fieldsOf, headBytes, stateBytes, pendingIn, tokenIn, fieldsIn, controlIn, begins, soundOnly, stateFrom, loadedAs, loadedResult, pendingFlag, pendingByteOf, CountIn, Saves, LoadedSound, saveOf, SavedLaws}
+use Rattle.wing_wire.specs.declared.token.Class.{Class}
+use Rattle.wing_wire.specs.declared.token.Class.the-variants.{NoEvent, Integer, String, Length, Int16, Int32, Float, Node, End, Count, ZeroCount}
+use Rattle.wing_wire.specs.declared.state.Token.{Token}
+use Rattle.wing_wire.specs.declared.state.Token.the-variants.{Between, Number, String as InString, Body as InBody}
+use Rattle.wing_wire.specs.declared.state.State.{State}
+use Rattle.wing_wire.specs.Write.{writeEffect, writeOf}
+use Rattle.wing_wire.specs.declared.write.Written.the-variants.{Bytes}
+use Rattle.wing_saved.specs.declared.TokenFields.{TokenFields}
+use Rattle.wing_node.proofs.Branches.{branch, and-left, and-right}
+use Rattle.wing_wire.proofs.Reading.Sound.{Sound, parts, escape-parts, sound-within}
+use Rattle.wing_saved.proofs.Saving.Fronts.{begins-joined, begins-parts}
+use Rattle.wing_saved.proofs.Saving.Heads.{Fits, head-size, after-head, channel-fits, control-back}
+
+-- ---- a state's bytes read back
+
+pub state-size : (s : State) → length (s .store) ≡ bodyLimit → length (stateBytes s) ≡ savedSize
+unfolding stateBytes
+state-size s l = length-append (headBytes (s .control)) (s .store) ∙ omega (arith, head-size (s .control))
+
+-- no class has more than four units
+narrow : (c : Class) → widthOf c ≤ 4
+unfolding widthOf
+narrow NoEvent = omega arith
+narrow Integer = omega arith
+narrow String = omega arith
+narrow Length = omega arith
+narrow Int16 = omega arith
+narrow Int32 = omega arith
+narrow Float = omega arith
+narrow Node = omega arith
+narrow End = omega arith
+narrow Count = omega arith
+narrow ZeroCount = omega arith
+
+-- the numbers of a sound token are within their fields
+token-fits : (t : Token) (store : List ℕ) → Sound t store → TokenWithin t → NumberIn t → CountIn t → Fits (fieldsOf t)
+unfolding fieldsOf
+token-fits Between store g w v n = record { want = omega arith; left = omega arith; stored = omega arith; value = omega arith }
+token-fits (Number class left value) store g w v n =
+    record { want = omega arith; left = omega (arith, g .fits, narrow class); stored = omega arith; value = v }
+token-fits (InString want left) store g w v n =
+    record { want = omega arith; left = omega (arith, g .fits); stored = omega arith; value = omega arith }
+token-fits (InBody want left stored) store g w v n =
+    record { want = n; left = omega (arith, g .fits); stored = omega arith; value = omega arith }
+
+module _ (s : State) (range : InRange (s .control) (s .store)) (count : CountIn (s .control .token)) (sound : soundState s ≡ true) where
+  sound-escape : soundEscape (s .control .escape) ≡ true
+  sound-escape = and-left (soundEscape (s .control .escape)) (soundToken (s .control .token) (s .store)) (unfold soundState in sound)
+
+  sound-token : soundToken (s .control .token) (s .store) ≡ true
+  sound-token = and-right (soundEscape (s .control .escape)) (soundToken (s .control .token) (s .store)) (unfold soundState in sound)
+
+  said : controlIn (stateBytes s) ≡ s .control
+  unfolding stateBytes
+  said =
+      let e = escape-parts (s .control .escape) sound-escape in
+      let f = token-fits (s .control .token) (s .store) (parts (s .control .token) (s .store) sound-token) (sound-within s sound) (range .number) count in
+      control-back (s .control) (s .store) f (channel-fits (s .control .escape .channel) (e .low) (e .high)) (range .node)
+
+  rest : drop 27 (stateBytes s) ≡ s .store
+  unfolding stateBytes
+  rest = after-head (s .control) (s .store)
+
+  front : begins (headBytes (s .control)) (stateBytes s) ≡ true
+  unfolding stateBytes
+  front = begins-joined (headBytes (s .control)) (s .store)
+
+  reads-back : stateFrom (stateBytes s) ≡ ok s
+  unfolding stateFrom soundOnly
+  reads-back = rw (eq-eqb (length (stateBytes s)) savedSize (state-size s (range .store .size)), said, front, rest, sound)
+
+back : (bytes : List ℕ) (s : State) → Saves bytes s → stateFrom bytes ≡ ok s
+back bytes s g = subst (λ (l : List ℕ). stateFrom l ≡ ok s) (g .laid) (reads-back s (g .typed .range) (g .typed .count) (g .sound))
+
+-- ---- bytes that read are the state's
+
+-- bytes as digits of base 256
+are-digits : (s : List ℕ) → AreBytes s → Digits 256 s
+are-digits [] noBytes i = omega arith
+are-digits (b ∷ s) (byteThen h hs) zero = h
+are-digits (b ∷ s) (byteThen h hs) (suc i) = are-digits s hs i
+
+bytes-rest : (n : ℕ) (s : List ℕ) → AreBytes s → AreBytes (drop n s)
+bytes-rest zero s h = h
+bytes-rest (suc n) [] h = h
+bytes-rest (suc n) (b ∷ s) (byteThen l ls) = bytes-rest n s ls
+
+-- a field of w bytes is below 256 to w
+field-below : (w at : ℕ) (s : List ℕ) → Digits 256 s → 0 < 256 ^ w → fieldAt w s at < 256 ^ w
+unfolding fieldAt
+field-below w at s d some =
+    branch (λ (n : ℕ). n < 256 ^ w) (ltb (length s - at) w) _ _ (λ _. some)
+    (λ e.
+    let room : w ≤ length s - at = ltb-false _ _ e in
+    let l : length (take w (drop at s)) ≡ w = length-take-le w (drop at s) (omega (arith, length-drop at s)) in
+    rw l at (number-below 256 (take w (drop at s)) (digits-take 256 w (drop at s) (digits-drop 256 at s d))))
+
+module _ (bytes : List ℕ) (are : AreBytes bytes) where
+  digits : Digits 256 bytes
+  digits = are-digits bytes are
+
+  pending-in : (mark : ℕ) (b : ℕ) → b < 256 → PendingByte (pendingIn mark b)
+  unfolding pendingIn
+  pending-in mark b h = branch PendingByte (eqb mark 1) _ _ (λ _. pendingByte h) (λ _. noPending)
+
+  number-in : (k : TokenFields) → k .value < 2 ^ 32 → NumberIn (tokenIn k)
+  unfolding tokenIn
+  number-in k h =
+      branch NumberIn (eqb (k .kind) 1) _ _ (λ _. h)
+      (λ _. branch NumberIn (eqb (k .kind) 2) _ _ (λ _. tt) (λ _. branch NumberIn (eqb (k .kind) 3) _ _ (λ _. tt) (λ _. tt)))
+
+  count-in : (k : TokenFields) → k .want < 2 ^ 16 → CountIn (tokenIn k)
+  unfolding tokenIn
+  count-in k h =
+      branch CountIn (eqb (k .kind) 1) _ _ (λ _. tt)
+      (λ _. branch CountIn (eqb (k .kind) 2) _ _ (λ _. tt) (λ _. branch CountIn (eqb (k .kind) 3) _ _ (λ _. h) (λ _. tt)))
+
+  range-in : length bytes ≡ savedSize → InRange (controlIn bytes) (drop 27 bytes)
+  unfolding controlIn fieldsIn
+  range-in l = record {
+    pending = pending-in (getD bytes 3 0) (getD bytes 4 0) (digits 4);
+    node = signed-in 31 (fieldAt 4 bytes 5) (field-below 4 5 bytes digits (omega arith));
+    number = number-in (fieldsIn bytes) (field-below 4 23 bytes digits (omega arith));
+    store = record { size = length-drop 27 bytes ∙ omega arith; bytes = bytes-rest 27 bytes are };
+  }
+
+  counts-in : CountIn (controlIn bytes .token)
+  unfolding controlIn fieldsIn
+  counts-in = count-in (fieldsIn bytes) (field-below 2 13 bytes digits (omega arith))
+
+  laid-again : begins (headBytes (controlIn bytes)) bytes ≡ true → stateBytes (stateOf (controlIn bytes) (drop 27 bytes)) ≡ bytes
+  unfolding stateBytes
+  laid-again e =
+      ap (λ (n : ℕ). headBytes (controlIn bytes) ++ drop n bytes) (sym (head-size (controlIn bytes))) ∙ begins-parts (headBytes (controlIn bytes)) bytes e
+
+  said-saves : (s : State) → stateFrom bytes ≡ ok s → Saves bytes s
+  unfolding stateFrom soundOnly
+  said-saves s e = go (eqb (length bytes) savedSize) (begins (headBytes (controlIn bytes)) bytes) (soundState read) refl refl refl e
+    where
+      read : State
+      read = stateOf (controlIn bytes) (drop 27 bytes)
+
+      go : (p q r : Bool) → eqb (length bytes) savedSize ≡ p → begins (headBytes (controlIn bytes)) bytes ≡ q → soundState read ≡ r →
+          if p (if q (if r (ok read) (refused 8)) (refused 8)) (refused 8) ≡ ok s → Saves bytes s
+      go true true true a b c f =
+          let same : read ≡ s = cc in
+          subst (Saves bytes) same (record { typed = record { range = range-in (eqb-true (length bytes) savedSize a); count = counts-in }; sound = c; laid = laid-again b })
+      go true true false a b c f = absurd (let z : _≡_ {A = ℕ} 0 1 = cc in omega arith)
+      go true false r a b c f = absurd (let z : _≡_ {A = ℕ} 0 1 = cc in omega arith)
+      go false q r a b c f = absurd (let z : _≡_ {A = ℕ} 0 1 = cc in omega arith)
+
+refusal : (bytes : List ℕ) (n : ℕ) → stateFrom bytes ≡ refused n → n ≡ 8
+unfolding stateFrom soundOnly
+refusal bytes n e = go (eqb (length bytes) savedSize) (begins (headBytes (controlIn bytes)) bytes) (soundState (stateOf (controlIn bytes) (drop 27 bytes))) e
+  where
+    go : (p q r : Bool) → if p (if q (if r (ok (stateOf (controlIn bytes) (drop 27 bytes))) (refused 8)) (refused 8)) (refused 8) ≡ refused n → n ≡ 8
+    go true true true f = absurd (let z : _≡_ {A = ℕ} 0 1 = cc in omega arith)
+    go true true false f = let z : 8 ≡ n = cc in sym z
+    go true false r f = let z : 8 ≡ n = cc in sym z
+    go false q r f = let z : 8 ≡ n = cc in sym z
+
+-- what reads as a state reads as a sound one
+loaded-sound : (bytes : List ℕ) (s : State) → stateFrom bytes ≡ ok s → LoadedSound bytes s
+unfolding stateFrom soundOnly
+loaded-sound bytes s e = go (eqb (length bytes) savedSize) (begins (headBytes (controlIn bytes)) bytes) (soundState read) refl refl e
+  where
+    read : State
+    read = stateOf (controlIn bytes) (drop 27 bytes)
+
+    go : (p q r : Bool) → eqb (length bytes) savedSize ≡ p → soundState read ≡ r → if p (if q (if r (ok read) (refused 8)) (refused 8)) (refused 8) ≡ ok s → LoadedSound bytes s
+    go true true true a c f =
+        let same : read ≡ s = cc in
+        let l : length bytes ≡ savedSize = eqb-true (length bytes) savedSize a in
+        subst (LoadedSound bytes) same (record { sound = c; size = l; store = length-drop 27 bytes ∙ omega arith })
+    go true true false a c f = absurd (let z : _≡_ {A = ℕ} 0 1 = cc in omega arith)
+    go true false r a c f = absurd (let z : _≡_ {A = ℕ} 0 1 = cc in omega arith)
+    go false q r a c f = absurd (let z : _≡_ {A = ℕ} 0 1 = cc in omega arith)
+
+-- a sound state fills an output of the size
+kept : (s : State) (out : List ℕ) → soundState s ≡ true → length (s .store) ≡ bodyLimit → length out ≡ savedSize →
+    saveOf s out ≡ writeEffect (Bytes savedSize) (stateBytes s)
+unfolding saveOf writeOf
+kept s out e l n =
+    let m : length (stateBytes s) ≡ savedSize = state-size s l in
+    rw (e, le-ltb (length out) (length (stateBytes s)) (omega arith), m, drop-of-length-le out {i = savedSize} (omega arith), append-nil (stateBytes s))
+
+-- what was loaded, in 01's words
+pub loaded-result : (r : Result State) → loadedResult (loadedAs r .answer) (loadedAs r .state) ≡ r
+unfolding loadedAs loadedResult
+loaded-result (ok s) = refl
+loaded-result (refused n) = refl
+
+-- the form at work: a fresh state is 01 00 ff and then zeros
+fresh-head : headBytes freshControl ≡ 0x01 ∷ 0x00 ∷ 0xff ∷ replicate 24 0
+unfolding headBytes fieldsOf pendingFlag pendingByteOf digitsIn
+fresh-head = refl
+
+-- what a user of the two calls may rely on
+pub saved-laws : SavedLaws
+saved-laws = record { size = state-size; back = back; again = λ bytes s are e. said-saves bytes are s e; refusal = refusal; loaded = loaded-sound; kept = kept }
