@@ -1,0 +1,47 @@
+-- From what the library's call leaves to what is left here: the same, with numbers for its answer.
+use Prim.Native.Nat.{ℕ}
+use mathlib.Core.Path.{_≡_, _∙_, ap}
+use mathlib.Core.List.{List}
+use lib.IntN.{ℤ}
+use Rattle.wing_wire.specs.Write.{WriteEffect, writeEffect}
+use Rattle.wing_wire.specs.Meter.{RequestEffect, requestEffect, PacketEffect, packetEffect}
+use Rattle.wing_wire.specs.declared.write.Written.{Written}
+use Rattle.wing_wire.specs.declared.meter.Requested.{Requested}
+use Rattle.wing_wire.specs.declared.meter.MetersRead.{MetersRead}
+use Rattle.wing_mirror.specs.Mirror.{SetEffect, setEffect, FeedEffect, feedEffect}
+use Rattle.wing_mirror.specs.declared.answer.SetReply.{SetReply}
+use Rattle.wing_mirror.specs.declared.answer.FeedReply.{FeedReply}
+use Rattle.wing_c.specs.Numbers.{writtenNumbers, setNumbers, requestedNumbers, metersNumbers, feedStatus, fedNumbers}
+use Rattle.wing_c.specs.Written.{command, commandOf, setOrder, setOrderOf, request, requestOf, packet, packetFrom}
+use Rattle.wing_c.specs.Kept.{keptFeed, stateAfter, feedFrom}
+use Rattle.wing_c.specs.declared.answers.WingWritten.{WingWritten}
+use Rattle.wing_c.specs.declared.answers.WingSet.{WingSet}
+use Rattle.wing_c.specs.declared.answers.WingFed.{WingFed}
+use Rattle.wing_c.specs.declared.answers.WingRequested.{WingRequested}
+use Rattle.wing_c.specs.declared.answers.WingMeters.{WingMeters}
+
+-- a command
+pub command-as : {r : WingWritten} (w : Written) {out : List ℕ} {e : WriteEffect} → r ≡ writtenNumbers w → writeEffect w out ≡ e → command r out ≡ commandOf e
+command-as w {out} p q = ap (λ (x : WingWritten). command x out) p ∙ ap commandOf q
+
+-- a set through the mirror
+pub set-as : {r : WingSet} (s : SetReply) {out buffer : List ℕ} {e : SetEffect} → r ≡ setNumbers (s .answer) (s .count) → setEffect s out buffer ≡ e →
+    setOrder r out buffer ≡ setOrderOf e
+set-as s {out} {buffer} p q = ap (λ (x : WingSet). setOrder x out buffer) p ∙ ap setOrderOf q
+
+-- a meter request
+pub request-as : {r : WingRequested} (w : Requested) {out : List ℕ} {e : RequestEffect} → r ≡ requestedNumbers w → requestEffect w out ≡ e →
+    request r out ≡ requestOf e
+request-as w {out} p q = ap (λ (x : WingRequested). request x out) p ∙ ap requestOf q
+
+-- a meter packet
+pub packet-as : {r : WingMeters} (w : MetersRead) {out : List ℤ} {e : PacketEffect} → r ≡ metersNumbers w → packetEffect w out ≡ e → packet r out ≡ packetFrom e
+packet-as w {out} p q = ap (λ (x : WingMeters). packet x out) p ∙ ap packetFrom q
+
+-- a feed
+pub feed-as : {r : WingFed} (f : FeedReply) (before : List ℕ) {state buffer : List ℕ} {e : FeedEffect} → r ≡ fedNumbers (feedStatus (f .answer)) (f .counts) (f .count) →
+    state ≡ stateAfter (f .answer) (f .state) before → feedEffect f buffer ≡ e → keptFeed r state buffer ≡ feedFrom e before
+feed-as f before {state} {buffer} p s q =
+    ap (λ (x : WingFed). keptFeed x state buffer) p ∙
+    ap (λ (x : List ℕ). keptFeed (fedNumbers (feedStatus (f .answer)) (f .counts) (f .count)) x buffer) s ∙
+    ap (λ (x : FeedEffect). feedFrom x before) q

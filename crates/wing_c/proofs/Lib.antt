@@ -1,0 +1,4 @@
+mod Signs
+mod Effects
+mod Loads
+mod Pairs

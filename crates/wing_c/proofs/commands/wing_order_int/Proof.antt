@@ -1,0 +1,24 @@
+-- The contract of the wire's call, with its answer by numbers (`command-as`).
+use mir.Facts.{toZ-ofZ}
+use Rattle.wing_c.proofs.Effects.{command-as}
+use borrow.Author.Needs.{needs}
+use Rattle.wing_c.proofs.commands.wing_order_int.Statement.{statement}
+use Rattle.wing_c.proofs.commands.wing_order_int.Tie as tie
+
+set-int-requires : tie.Need-set-int-requires
+set-int-requires c κs = search needs
+
+written-requires : tie.Need-written-requires
+written-requires c κs = search needs
+
+same-length : tie.Need-same-length
+same-length c = search needs
+
+returns : tie.Need-returns
+returns c =
+    let entry = c .before .before .before .before .before .before in
+    let call = c .before .before .before .set-int in
+    command-as (call .result) (c .written .ensures) (rw (toZ-ofZ (entry .fits .id), toZ-ofZ (entry .fits .value)) at (call .ensures))
+
+pub wing-order-int-spec : {M : Type 1} → statement M
+wing-order-int-spec = tie.close (tie.spec set-int-requires written-requires same-length returns)

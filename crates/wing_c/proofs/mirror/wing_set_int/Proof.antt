@@ -1,0 +1,28 @@
+-- The contract of the mirror's set, with its answer by numbers (`set-as`).
+use mir.Facts.{toZ-ofZ}
+use Rattle.wing_c.proofs.Effects.{set-as}
+use borrow.Author.Needs.{needs}
+use Rattle.wing_c.proofs.mirror.wing_set_int.Statement.{statement}
+use Rattle.wing_c.proofs.mirror.wing_set_int.Tie as tie
+
+set-int-requires : tie.Need-set-int-requires
+set-int-requires c κs = search needs
+
+set-requires : tie.Need-set-requires
+set-requires c κs = search needs
+
+same-length : tie.Need-same-length
+same-length c = search needs
+
+same-length-2 : tie.Need-same-length-2
+same-length-2 c = search needs
+
+returns : tie.Need-returns
+returns c =
+    let entry = c .before .before .before .before .before .before .before .before .before .before in
+    let call = c .before .before .before .before .before .set-int in
+    set-as (call .result) (c .set .ensures) (rw (toZ-ofZ (entry .fits .id), toZ-ofZ (entry .fits .value)) at (call .ensures))
+
+pub wing-set-int-spec : {M : Type 1} → statement M
+wing-set-int-spec =
+    tie.close (tie.spec set-int-requires set-requires same-length same-length-2 returns)

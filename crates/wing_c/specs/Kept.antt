@@ -1,0 +1,126 @@
+-- A decoder state kept as bytes: what a feed, a next call and a check make of it.
+use Prim.Native.Nat.{ℕ}
+use mathlib.Core.List.{List, []}
+use lib.Dec.{leb}
+use lib.IntN.{ℤ, pos}
+use lib.ListN.{length}
+use Rattle.wing_node.specs.Bool.{if}
+use Rattle.wing_node.specs.Result.{Result, ok, refused}
+use Rattle.wing_node.specs.Value.{NodeValue, integer, float, string}
+use Rattle.wing_wire.specs.State.{bodyLimit}
+use Rattle.wing_wire.specs.Reader.{Event, more, value, body, end, refused as refusal, over, nextOf, nextEvent}
+use Rattle.wing_wire.specs.declared.state.State.{State}
+use Rattle.wing_wire.specs.declared.reader.Reply.{Reply}
+use Rattle.wing_wire.specs.declared.unit.Answer.{Answer}
+use Rattle.wing_wire.specs.declared.unit.Answer.the-variants.{More, Integer, Float, String, Body, End, Refused as NextRefused}
+use Rattle.wing_saved.specs.Saved.{stateFrom, saveOf}
+use Rattle.wing_mirror.specs.Rows.{Table}
+use Rattle.wing_mirror.specs.Record.{full}
+use Rattle.wing_mirror.specs.Counts.{zeroCounts}
+use Rattle.wing_mirror.specs.Mirror.{FeedEffect, mirrorFeed}
+use Rattle.wing_mirror.specs.declared.answer.FeedAnswer.{FeedAnswer}
+use Rattle.wing_mirror.specs.declared.answer.FeedAnswer.the-variants.{Taken, Refused}
+use Rattle.wing_c.specs.Numbers.{minus, feedStatus, fedNumbers, noEvent, eventNumbers}
+use Rattle.wing_c.specs.declared.answers.WingFed.{WingFed}
+use Rattle.wing_c.specs.declared.answers.WingEvent.{WingEvent}
+
+-- 0 for the bytes of a sound state, else 8
+abbrev pub stateStatus : Result State → ℤ
+stateStatus (ok s) = pos 0
+stateStatus (refused n) = minus n
+
+-- the bytes that keep a state, where others stood
+abbrev pub keptAs : State → List ℕ → List ℕ
+keptAs s state = saveOf s state .out
+
+-- ---- feed
+
+-- what a feed leaves: its numbers, the bytes of the state and the table buffer
+pub record KeptFeed : Type 0 where
+  pub numbers : WingFed
+  pub state : List ℕ
+  pub table : List ℕ
+
+-- numbers, the state's bytes and a table buffer
+abbrev pub keptFeed : WingFed → List ℕ → List ℕ → KeptFeed
+keptFeed r state buffer = record { numbers = r; state = state; table = buffer }
+
+-- a feed that is taken leaves its state; a refused one leaves the bytes as they were
+abbrev pub stateAfter : FeedAnswer → State → List ℕ → List ℕ
+stateAfter Taken s state = keptAs s state
+stateAfter (Refused n) s state = state
+
+-- the library's effect, with numbers for its answer and bytes for its state
+abbrev pub feedFrom : FeedEffect → List ℕ → KeptFeed
+feedFrom e state =
+    keptFeed (fedNumbers (feedStatus (e .answer)) (e .counts) (e .table .count)) (stateAfter (e .answer) (e .state) state) (e .table .buffer)
+
+-- 8 for bytes that are no sound state's, and all is as it was; else the library's feed
+unfoldable pub feedWith : Result State → List ℕ → Table → List ℕ → KeptFeed
+feedWith (ok s) state t bytes = feedFrom (mirrorFeed full s t bytes) state
+feedWith (refused n) state t bytes = keptFeed (fedNumbers (minus n) zeroCounts (t .count)) state (t .buffer)
+
+-- a feed on the bytes of a state; 8, 7, 14
+abbrev pub feedKept : List ℕ → Table → List ℕ → KeptFeed
+feedKept state t bytes = feedWith (stateFrom state) state t bytes
+
+-- ---- next
+
+-- what a next call leaves: its numbers, the bytes of the state and the output
+pub record KeptNext : Type 0 where
+  pub numbers : WingEvent
+  pub state : List ℕ
+  pub out : List ℕ
+
+-- numbers, the state's bytes and an output
+abbrev pub keptNext : WingEvent → List ℕ → List ℕ → KeptNext
+keptNext r state out = record { numbers = r; state = state; out = out }
+
+-- the bytes of a value: those of a string
+unfoldable pub stringBytes : NodeValue → List ℕ
+stringBytes (integer x) = []
+stringBytes (float bits) = []
+stringBytes (string s) = s
+
+-- the bytes that an event hands out: those of a string or a body
+unfoldable pub eventBytes : Event → List ℕ
+eventBytes more = []
+eventBytes (value v) = stringBytes v
+eventBytes (body b) = b
+eventBytes end = []
+eventBytes (refusal n) = []
+
+-- how many bytes of a string or a body an answer has
+abbrev pub answerBytes : Answer → ℕ
+answerBytes More = 0
+answerBytes (Integer x) = 0
+answerBytes (Float bits) = 0
+answerBytes (String n) = n
+answerBytes (Body n) = n
+answerBytes End = 0
+answerBytes (NextRefused n) = 0
+
+-- the library's reply and event: numbers, the state's bytes, and the bytes of a string or a body at the front of the output
+abbrev pub nextFrom : Reply → Event → List ℕ → List ℕ → KeptNext
+nextFrom r e state out =
+    keptNext (eventNumbers (r .answer) (r .state .control .node) (r .taken)) (keptAs (r .state) state) (over (eventBytes e) out)
+
+-- a refused call, with all as it was
+abbrev pub nextRefused : ℕ → ℤ → List ℕ → List ℕ → KeptNext
+nextRefused n node state out = keptNext (noEvent (minus n) node 0) state out
+
+-- 14 for more than 65,536 bytes, 9 for an output that is shorter than the longest body; else the library's next
+unfoldable pub nextSound : State → List ℕ → List ℕ → List ℕ → KeptNext
+nextSound s state bytes out =
+    if (leb (length bytes) 65536)
+    (if (leb bodyLimit (length out)) (nextFrom (nextOf s bytes) (nextEvent s bytes) state out) (nextRefused 9 (s .control .node) state out))
+    (nextRefused 14 (s .control .node) state out)
+
+-- 8 for bytes that are no sound state's
+unfoldable pub nextWith : Result State → List ℕ → List ℕ → List ℕ → KeptNext
+nextWith (ok s) state bytes out = nextSound s state bytes out
+nextWith (refused n) state bytes out = nextRefused n (pos 0) state out
+
+-- a next call on the bytes of a state; 8, 14, 9
+abbrev pub nextKept : List ℕ → List ℕ → List ℕ → KeptNext
+nextKept state bytes out = nextWith (stateFrom state) state bytes out

@@ -1,0 +1,5 @@
+pub mod Numbers
+pub mod Written
+pub mod Kept
+pub mod Meters
+pub mod Definitions

@@ -1,0 +1,7 @@
+// The libraries for C and Rust to call: slices and numbers in, a struct of numbers out. A refusal is its number with a minus sign.
+// A mirror is the bytes of a decoder state, a table buffer and its count, all kept by the caller.
+pub mod answers;
+pub mod commands;
+pub mod definitions;
+pub mod mirror;
+pub mod state;
