@@ -5,4 +5,5 @@ mod Parses
 mod NextCalls
 mod Decodes
 mod Writers
+mod Savers
 mod Calls

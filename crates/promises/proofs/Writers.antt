@@ -35,17 +35,20 @@ past-front bytes out n e = rw (← e) (drop-append-seam bytes (drop (length byte
 
 -- ---- commands
 
-abbrev came : WriteEffect → Result (List ℕ)
+-- what a command came to
+abbrev pub came : WriteEffect → Result (List ℕ)
 came x = writtenResult (x .answer) (x .out)
 
-abbrev Kept : List ℕ → WriteEffect → Type 0
+-- the output is as it was
+abbrev pub Kept : List ℕ → WriteEffect → Type 0
 Kept out x = (x .out ≡ out) × Unit {0}
 
-abbrev Rest : List ℕ → WriteEffect → Type 0
+-- the bytes past what is written are as they were
+abbrev pub Rest : List ℕ → WriteEffect → Type 0
 Rest out x = (n : ℕ) → x .answer ≡ Bytes n → drop n (x .out) ≡ drop n out
 
 -- a refusal wrote nothing
-refused-rest : (k : ℕ) (out after : List ℕ) → Rest out (writeEffect (Refused k) after)
+pub refused-rest : (k : ℕ) (out after : List ℕ) → Rest out (writeEffect (Refused k) after)
 refused-rest k out after n e = absurd (let z : _≡_ {A = ℕ} 0 1 = cc in omega arith)
 
 pub written-rest : (bytes out : List ℕ) → Rest out (writeOf bytes out)

@@ -2,3 +2,4 @@ pub mod Lines
 pub mod Node
 pub mod Wire
 pub mod Mirror
+pub mod Saved

@@ -1,5 +1,5 @@
 // The three demands. What is promised of a call is the contract of a function of the same name that does nothing but the call
-// (node.rt, wire.rt, mirror.rt), so that it hangs on the code. What is promised of whole streams and histories is the contract of a
+// (node.rt, wire.rt, saved.rt, mirror.rt), so that it hangs on the code. What is promised of whole streams and histories is the contract of a
 // function with an empty body, here. The gate prints a 'proved' line for each.
 ghost use mathlib.Core.Path.{_≡_};
 ghost use mathlib.Core.List.{map};
@@ -8,6 +8,7 @@ ghost use Rattle.wing_wire.specs.RoundTrip.{RoundTrip, RoundTripPieces};
 ghost use Rattle.wing_wire.specs.Repeated.{UntilMore};
 ghost use Rattle.wing_wire.specs.Tokens.{Tokens};
 ghost use Rattle.wing_wire.specs.Cases.{Case, cases};
+ghost use Rattle.wing_saved.specs.Saved.{SavedLaws};
 ghost use Rattle.wing_mirror.specs.Record.{full};
 ghost use Rattle.wing_mirror.specs.History.{Agreement, Equality, Rebuilding, Histories};
 ghost use Rattle.promises.specs.Node.{Walks};
@@ -16,6 +17,7 @@ ghost use Rattle.promises.specs.Mirror.{UnplacedStays};
 
 pub mod mirror;
 pub mod node;
+pub mod saved;
 pub mod wire;
 
 // Demand 1, console bytes. Whatever bytes are fed from between tokens, their units are cut into tokens of 01's table, and what is handed on is what
@@ -84,6 +86,12 @@ pub fn demand_3_recall()
 // the bounds of the counts.
 pub fn demand_3_whole()
     ensures { λ _. ⌜ Histories full ⌝ }
+{}
+
+// A decoder state as bytes: a sound state's bytes read back as that state, bytes that read as a state are its bytes, and any other
+// bytes are 8. Of the bytes that save's own answer tells, its contract says it.
+pub fn saved_states()
+    ensures { λ _. ⌜ SavedLaws ⌝ }
 {}
 
 // The cases that 01 marks #: what the definitions give in each is what 01 wants.

@@ -1,6 +1,6 @@
 -- A sound state's bytes read as that state, and bytes that read as a state are its bytes.
-use Prim.Native.Nat.{ℕ, zero, suc, _+_, _-_, _^_, _≤_, _<_}
-use mathlib.Core.Bool.{Bool, true, false}
+use Prim.Native.Nat.{ℕ, zero, suc, _-_, _^_, _≤_, _<_}
+use mathlib.Core.Bool.{true}
 use mathlib.Core.Path.{_≡_, refl, sym, _∙_, ap, subst}
 use mathlib.Core.List.{List, [], _∷_, _++_, append-nil}
 use native.Mathlib.Omega.{arith}
@@ -11,23 +11,24 @@ use lib.Seq.{length-take-le}
 use Rattle.wing_node.specs.Result.{Result, ok, refused}
 use Rattle.wing_node.specs.Digits.{digitsIn}
 use Rattle.wing_node.specs.Field.{fieldAt}
-use Rattle.wing_node.specs.Bool.{if}
+use Rattle.wing_node.proofs.Branches.{branch}
 use Rattle.wing_node.proofs.Numerals.Numbers.{Digits, digits-take, digits-drop, number-below}
 use Rattle.wing_node.proofs.Numerals.Signs.{signed-in}
 use Rattle.wing_wire.specs.Token.{widthOf}
-use Rattle.wing_wire.specs.State.{bodyLimit, stateOf, soundEscape, soundToken, soundState, freshControl}
+use Rattle.wing_wire.specs.State.{bodyLimit, stateOf, soundState, freshControl}
 use Rattle.wing_wire.specs.Range.{AreBytes, noBytes, byteThen, PendingByte, noPending, pendingByte, TokenWithin, NumberIn, InRange}
-use Rattle.wing_saved.specs.Saved.{savedSize, fieldsOf, headBytes, stateBytes, pendingIn, tokenIn, fieldsIn, controlIn, begins, soundOnly, stateFrom, loadedAs, loadedResult, pendingFlag, pendingByteOf, CountIn, Saves, LoadedSound, saveOf, SavedLaws}
+use Rattle.wing_wire.specs.Write.{writeEffect, writeOf}
 use Rattle.wing_wire.specs.declared.token.Class.{Class}
 use Rattle.wing_wire.specs.declared.token.Class.the-variants.{NoEvent, Integer, String, Length, Int16, Int32, Float, Node, End, Count, ZeroCount}
 use Rattle.wing_wire.specs.declared.state.Token.{Token}
 use Rattle.wing_wire.specs.declared.state.Token.the-variants.{Between, Number, String as InString, Body as InBody}
 use Rattle.wing_wire.specs.declared.state.State.{State}
-use Rattle.wing_wire.specs.Write.{writeEffect, writeOf}
 use Rattle.wing_wire.specs.declared.write.Written.the-variants.{Bytes}
+use Rattle.wing_wire.proofs.Reading.Ranges.{bytes-drop}
+use Rattle.wing_wire.proofs.Reading.Sound.{Sound, state-parts, sound-within}
+use Rattle.wing_saved.specs.Saved.{savedSize, pendingFlag, pendingByteOf, fieldsOf, headBytes, stateBytes, pendingIn, tokenIn, fieldsIn, controlIn, begins, soundOnly, stateFrom}
+use Rattle.wing_saved.specs.Saved.{saveOf, loadedAs, loadedResult, CountIn, Saves, LoadedSound, SavedLaws}
 use Rattle.wing_saved.specs.declared.TokenFields.{TokenFields}
-use Rattle.wing_node.proofs.Branches.{branch, and-left, and-right}
-use Rattle.wing_wire.proofs.Reading.Sound.{Sound, parts, escape-parts, sound-within}
 use Rattle.wing_saved.proofs.Saving.Fronts.{begins-joined, begins-parts}
 use Rattle.wing_saved.proofs.Saving.Heads.{Fits, head-size, after-head, channel-fits, control-back}
 
@@ -64,18 +65,12 @@ token-fits (InBody want left stored) store g w v n =
     record { want = n; left = omega (arith, g .fits); stored = omega arith; value = omega arith }
 
 module _ (s : State) (range : InRange (s .control) (s .store)) (count : CountIn (s .control .token)) (sound : soundState s ≡ true) where
-  sound-escape : soundEscape (s .control .escape) ≡ true
-  sound-escape = and-left (soundEscape (s .control .escape)) (soundToken (s .control .token) (s .store)) (unfold soundState in sound)
-
-  sound-token : soundToken (s .control .token) (s .store) ≡ true
-  sound-token = and-right (soundEscape (s .control .escape)) (soundToken (s .control .token) (s .store)) (unfold soundState in sound)
-
   said : controlIn (stateBytes s) ≡ s .control
   unfolding stateBytes
   said =
-      let e = escape-parts (s .control .escape) sound-escape in
-      let f = token-fits (s .control .token) (s .store) (parts (s .control .token) (s .store) sound-token) (sound-within s sound) (range .number) count in
-      control-back (s .control) (s .store) f (channel-fits (s .control .escape .channel) (e .low) (e .high)) (range .node)
+      let g = state-parts s (range .pending) sound in
+      let f = token-fits (s .control .token) (s .store) (g .token) (sound-within s sound) (range .number) count in
+      control-back (s .control) (s .store) f (channel-fits (s .control .escape .channel) (g .escape .low) (g .escape .high)) (range .node)
 
   rest : drop 27 (stateBytes s) ≡ s .store
   unfolding stateBytes
@@ -94,16 +89,42 @@ back bytes s g = subst (λ (l : List ℕ). stateFrom l ≡ ok s) (g .laid) (read
 
 -- ---- bytes that read are the state's
 
+-- the state that bytes say
+abbrev said-by : List ℕ → State
+said-by bytes = stateOf (controlIn bytes) (drop 27 bytes)
+
+-- the tests that bytes passed which read as s
+record Passed (bytes : List ℕ) (s : State) : Type 0 where
+  size : length bytes ≡ savedSize
+  front : begins (headBytes (controlIn bytes)) bytes ≡ true
+  sound : soundState (said-by bytes) ≡ true
+  same : said-by bytes ≡ s
+
+passed : (bytes : List ℕ) (s : State) → stateFrom bytes ≡ ok s → Passed bytes s
+unfolding stateFrom soundOnly
+passed bytes s =
+    branch P (eqb (length bytes) savedSize) _ _
+    (λ a. branch P (begins (headBytes (controlIn bytes)) bytes) _ _
+    (λ b. branch P (soundState (said-by bytes)) _ _
+    (λ c e. record { size = eqb-true (length bytes) savedSize a; front = b; sound = c; same = let z : said-by bytes ≡ s = cc in z })
+    (λ _. none)) (λ _. none)) (λ _. none)
+  where
+    P : Result State → Type 0
+    P r = r ≡ ok s → Passed bytes s
+
+    none : P (refused 8)
+    none e = absurd (let z : _≡_ {A = ℕ} 0 1 = cc in omega arith)
+
+laid-again : (bytes : List ℕ) → begins (headBytes (controlIn bytes)) bytes ≡ true → stateBytes (said-by bytes) ≡ bytes
+unfolding stateBytes
+laid-again bytes e =
+    ap (λ (n : ℕ). headBytes (controlIn bytes) ++ drop n bytes) (sym (head-size (controlIn bytes))) ∙ begins-parts (headBytes (controlIn bytes)) bytes e
+
 -- bytes as digits of base 256
 are-digits : (s : List ℕ) → AreBytes s → Digits 256 s
 are-digits [] noBytes i = omega arith
 are-digits (b ∷ s) (byteThen h hs) zero = h
 are-digits (b ∷ s) (byteThen h hs) (suc i) = are-digits s hs i
-
-bytes-rest : (n : ℕ) (s : List ℕ) → AreBytes s → AreBytes (drop n s)
-bytes-rest zero s h = h
-bytes-rest (suc n) [] h = h
-bytes-rest (suc n) (b ∷ s) (byteThen l ls) = bytes-rest n s ls
 
 -- a field of w bytes is below 256 to w
 field-below : (w at : ℕ) (s : List ℕ) → Digits 256 s → 0 < 256 ^ w → fieldAt w s at < 256 ^ w
@@ -141,60 +162,40 @@ module _ (bytes : List ℕ) (are : AreBytes bytes) where
     pending = pending-in (getD bytes 3 0) (getD bytes 4 0) (digits 4);
     node = signed-in 31 (fieldAt 4 bytes 5) (field-below 4 5 bytes digits (omega arith));
     number = number-in (fieldsIn bytes) (field-below 4 23 bytes digits (omega arith));
-    store = record { size = length-drop 27 bytes ∙ omega arith; bytes = bytes-rest 27 bytes are };
+    store = record { size = length-drop 27 bytes ∙ omega arith; bytes = bytes-drop 27 bytes are };
   }
 
   counts-in : CountIn (controlIn bytes .token)
   unfolding controlIn fieldsIn
   counts-in = count-in (fieldsIn bytes) (field-below 2 13 bytes digits (omega arith))
 
-  laid-again : begins (headBytes (controlIn bytes)) bytes ≡ true → stateBytes (stateOf (controlIn bytes) (drop 27 bytes)) ≡ bytes
-  unfolding stateBytes
-  laid-again e =
-      ap (λ (n : ℕ). headBytes (controlIn bytes) ++ drop n bytes) (sym (head-size (controlIn bytes))) ∙ begins-parts (headBytes (controlIn bytes)) bytes e
-
   said-saves : (s : State) → stateFrom bytes ≡ ok s → Saves bytes s
-  unfolding stateFrom soundOnly
-  said-saves s e = go (eqb (length bytes) savedSize) (begins (headBytes (controlIn bytes)) bytes) (soundState read) refl refl refl e
-    where
-      read : State
-      read = stateOf (controlIn bytes) (drop 27 bytes)
+  said-saves s e =
+      let p = passed bytes s e in
+      subst (Saves bytes) (p .same) (record { typed = record { range = range-in (p .size); count = counts-in }; sound = p .sound; laid = laid-again bytes (p .front) })
 
-      go : (p q r : Bool) → eqb (length bytes) savedSize ≡ p → begins (headBytes (controlIn bytes)) bytes ≡ q → soundState read ≡ r →
-          if p (if q (if r (ok read) (refused 8)) (refused 8)) (refused 8) ≡ ok s → Saves bytes s
-      go true true true a b c f =
-          let same : read ≡ s = cc in
-          subst (Saves bytes) same (record { typed = record { range = range-in (eqb-true (length bytes) savedSize a); count = counts-in }; sound = c; laid = laid-again b })
-      go true true false a b c f = absurd (let z : _≡_ {A = ℕ} 0 1 = cc in omega arith)
-      go true false r a b c f = absurd (let z : _≡_ {A = ℕ} 0 1 = cc in omega arith)
-      go false q r a b c f = absurd (let z : _≡_ {A = ℕ} 0 1 = cc in omega arith)
-
+-- no other number than 8
 refusal : (bytes : List ℕ) (n : ℕ) → stateFrom bytes ≡ refused n → n ≡ 8
 unfolding stateFrom soundOnly
-refusal bytes n e = go (eqb (length bytes) savedSize) (begins (headBytes (controlIn bytes)) bytes) (soundState (stateOf (controlIn bytes) (drop 27 bytes))) e
+refusal bytes =
+    branch Eight (eqb (length bytes) savedSize) _ _
+    (λ _. branch Eight (begins (headBytes (controlIn bytes)) bytes) _ _ (λ _. branch Eight (soundState (said-by bytes)) _ _ (λ _. taken) (λ _. eight)) (λ _. eight))
+    (λ _. eight)
   where
-    go : (p q r : Bool) → if p (if q (if r (ok (stateOf (controlIn bytes) (drop 27 bytes))) (refused 8)) (refused 8)) (refused 8) ≡ refused n → n ≡ 8
-    go true true true f = absurd (let z : _≡_ {A = ℕ} 0 1 = cc in omega arith)
-    go true true false f = let z : 8 ≡ n = cc in sym z
-    go true false r f = let z : 8 ≡ n = cc in sym z
-    go false q r f = let z : 8 ≡ n = cc in sym z
+    Eight : Result State → Type 0
+    Eight r = (n : ℕ) → r ≡ refused n → n ≡ 8
+
+    eight : Eight (refused 8)
+    eight n e = let z : 8 ≡ n = cc in sym z
+
+    taken : Eight (ok (said-by bytes))
+    taken n e = absurd (let z : _≡_ {A = ℕ} 0 1 = cc in omega arith)
 
 -- what reads as a state reads as a sound one
 loaded-sound : (bytes : List ℕ) (s : State) → stateFrom bytes ≡ ok s → LoadedSound bytes s
-unfolding stateFrom soundOnly
-loaded-sound bytes s e = go (eqb (length bytes) savedSize) (begins (headBytes (controlIn bytes)) bytes) (soundState read) refl refl e
-  where
-    read : State
-    read = stateOf (controlIn bytes) (drop 27 bytes)
-
-    go : (p q r : Bool) → eqb (length bytes) savedSize ≡ p → soundState read ≡ r → if p (if q (if r (ok read) (refused 8)) (refused 8)) (refused 8) ≡ ok s → LoadedSound bytes s
-    go true true true a c f =
-        let same : read ≡ s = cc in
-        let l : length bytes ≡ savedSize = eqb-true (length bytes) savedSize a in
-        subst (LoadedSound bytes) same (record { sound = c; size = l; store = length-drop 27 bytes ∙ omega arith })
-    go true true false a c f = absurd (let z : _≡_ {A = ℕ} 0 1 = cc in omega arith)
-    go true false r a c f = absurd (let z : _≡_ {A = ℕ} 0 1 = cc in omega arith)
-    go false q r a c f = absurd (let z : _≡_ {A = ℕ} 0 1 = cc in omega arith)
+loaded-sound bytes s e =
+    let p = passed bytes s e in
+    subst (LoadedSound bytes) (p .same) (record { sound = p .sound; size = p .size; store = length-drop 27 bytes ∙ omega (arith, p .size) })
 
 -- a sound state fills an output of the size
 kept : (s : State) (out : List ℕ) → soundState s ≡ true → length (s .store) ≡ bodyLimit → length out ≡ savedSize →

@@ -35,7 +35,8 @@ count-typed (Number class left value) vs r = tt
 count-typed (String want left) vs r = tt
 count-typed (Body want left stored) vs r = r .1 .1 .1 .1 .0 .1
 
-are-bytes : (s : List ℕ) → ((i : ℕ) → getD s i 0 < 256) → AreBytes s
+-- a list whose elements are bytes at every place
+pub are-bytes : (s : List ℕ) → ((i : ℕ) → getD s i 0 < 256) → AreBytes s
 are-bytes [] h = noBytes
 are-bytes (b ∷ s) h = byteThen (h 0) (are-bytes s (λ i. h (suc i)))
 

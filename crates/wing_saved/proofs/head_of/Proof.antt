@@ -88,13 +88,19 @@ put-u32-requires-4 c κs = search needs
 returns : tie.Need-returns
 unfolding headBytes
 returns c =
-    let a = c .before .before .before .before .before .before .before .before .before .before .before .before .before .before .before .before .before .before .before .before .before .before .before .before .before .before .args .c in
-    let x = a .escape .channel in
-    let y = a .node in
-    let k : toZ w8 (ofZ w8 x) ≡ x = toZ-ofZ (record { sfits = c .before .before .before .before .before .before .before .before .before .before .before .before .before .before .before .before .before .before .before .before .before .before .struct-told .given .1 .0 .1 }) in
-    let l : toZ w32 (ofZ w32 y) ≡ y = toZ-ofZ (record { sfits = c .before .before .before .before .before .before .before .before .before .before .before .before .before .before .before .before .before .struct-told2 .given .1 .0 .1 }) in
-    fields-put _ _ _ _ _ _ _ _ _ _ _ (c .before .before .before .before .before .before .before .before .before .before .before .before .before .before .before .before .put-i32 .ensures) (c .before .before .before .before .before .before .before .before .before .before .before .before .put-u32 .ensures) (c .before .before .before .before .before .before .before .before .put-u322 .ensures) (c .before .before .before .before .put-u323 .ensures) (c .before .put-u324 .ensures)
-    ∙ rw (c .before .before .before .before .before .before .before .before .before .before .before .before .before .before .before .before .before .before .before .before .before .before .before .flag .ensures, c .before .before .before .before .before .before .before .before .before .before .before .before .before .before .before .before .before .before .before .before .before .of-i8 .ensures, c .before .before .before .before .before .before .before .before .before .before .before .before .before .before .before .before .before .before .before .before .pending-flag .ensures, c .before .before .before .before .before .before .before .before .before .before .before .before .before .before .before .before .before .before .before .pending-byte .ensures, c .before .before .before .before .before .before .before .before .before .before .before .before .before .before .before .before .before .before .before .before .before .before .before .before .fields-of .ensures, k, l)
+    let value = c .before in
+    let stored = value .before .before .before in
+    let left = stored .before .before .before .before in
+    let want = left .before .before .before .before in
+    let node = want .before .before .before .before in
+    let pending = node .before .before .before in
+    let channel = pending .before .before in
+    let escaped = channel .before .before in
+    let a = escaped .before .before .before .args .c in
+    let k : toZ w8 (ofZ w8 (a .escape .channel)) ≡ a .escape .channel = toZ-ofZ (record { sfits = channel .before .struct-told .given .1 .0 .1 }) in
+    let l : toZ w32 (ofZ w32 (a .node)) ≡ a .node = toZ-ofZ (record { sfits = node .before .struct-told2 .given .1 .0 .1 }) in
+    fields-put _ _ _ _ _ _ _ _ _ _ _ (node .put-i32 .ensures) (want .put-u32 .ensures) (left .put-u322 .ensures) (stored .put-u323 .ensures) (value .put-u324 .ensures)
+    ∙ rw (escaped .flag .ensures, channel .of-i8 .ensures, pending .before .pending-flag .ensures, pending .pending-byte .ensures, escaped .before .fields-of .ensures, k, l)
 
 pub head-of-spec : {M : Type 1} → statement M
 head-of-spec =

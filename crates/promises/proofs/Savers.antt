@@ -1,0 +1,62 @@
+-- What is promised of a state as bytes, as specs/Saved states it.
+use Prim.Native.Nat.{ℕ}
+use mathlib.Core.Bool.{true}
+use mathlib.Core.Path.{_≡_, refl, sym, _∙_, ap}
+use mathlib.Core.List.{List, _++_}
+use native.Mathlib.Omega.{arith}
+use lib.Dec.{ltb}
+use lib.ListN.{length, take, drop}
+use Rattle.wing_node.specs.Result.{Result, ok, refused}
+use Rattle.wing_node.proofs.Branches.{branch}
+use Rattle.wing_wire.specs.State.{soundState, freshState}
+use Rattle.wing_wire.specs.Range.{AreBytes}
+use Rattle.wing_wire.specs.Write.{WriteEffect, writeEffect, writeOf}
+use Rattle.wing_wire.specs.Answers.{writtenResult}
+use Rattle.wing_wire.specs.declared.state.State.{State}
+use Rattle.wing_wire.specs.declared.write.Written.the-variants.{Bytes, Refused}
+use Rattle.wing_saved.specs.Saved.{stateBytes, stateFrom, saveOf, loadedAs, loadedResult, loadOf, Typed, Saves}
+use Rattle.wing_saved.proofs.Saving.Trips.{loaded-result, saved-laws}
+use Rattle.promises.specs.Saved.{SaveCall, LoadCall}
+use Rattle.promises.proofs.Lines.{unless}
+use Rattle.promises.proofs.Writers.{at-front, came, Kept, Rest, refused-rest, written-rest, command-writes}
+
+-- what a call says that it wrote is kept as the state's
+abbrev Saved : State → WriteEffect → Type 0
+Saved s x = (n : ℕ) → x .answer ≡ Bytes n → Saves (take n (x .out)) s
+
+refused-saved : (s : State) (k : ℕ) (out : List ℕ) → Saved s (writeEffect (Refused k) out)
+refused-saved s k out n e = absurd (let z : _≡_ {A = ℕ} 0 1 = cc in omega arith)
+
+written-saved : (s : State) (out : List ℕ) → Typed s → soundState s ≡ true → Saved s (writeOf (stateBytes s) out)
+unfolding writeOf
+written-saved s out t e =
+    branch (Saved s) (ltb (length out) (length (stateBytes s))) _ _ (λ _. refused-saved s 9 out)
+    (λ _ n q.
+    let z : length (stateBytes s) ≡ n = cc in
+    record { typed = t; sound = e; laid = sym (ap (λ (m : ℕ). take m (stateBytes s ++ drop (length (stateBytes s)) out)) (sym z) ∙ at-front (stateBytes s) out) })
+
+pub save-call : (s : State) (out : List ℕ) → Typed s → SaveCall s out (saveOf s out .answer) (saveOf s out .out)
+unfolding saveOf writtenResult
+save-call s out t = record {
+  writes = record {
+    answered = unless came (Kept out) (stateBytes s) (soundState s) 8 _ _ _ refl (refl, tt) (command-writes (stateBytes s) out .answered);
+    rest = branch (Rest out) (soundState s) _ _ (λ _. written-rest (stateBytes s) out) (λ _. refused-rest 8 out out);
+  };
+  saves = branch (Saved s) (soundState s) _ _ (λ e. written-saved s out t e) (λ _. refused-saved s 8 out);
+}
+
+-- beside a refusal stands a fresh state
+beside : (r : Result State) (n : ℕ) → r ≡ refused n → loadedAs r .state ≡ freshState
+unfolding loadedAs
+beside (ok s) n e = absurd (let z : _≡_ {A = ℕ} 0 1 = cc in omega arith)
+beside (refused m) n e = refl
+
+pub load-call : (bytes : List ℕ) → AreBytes bytes → LoadCall bytes (loadOf bytes .answer) (loadOf bytes .state)
+unfolding loadOf
+load-call bytes are =
+    let e = loaded-result (stateFrom bytes) in
+    record {
+      back = λ s g. e ∙ saved-laws .back bytes s g;
+      again = λ s p. saved-laws .again bytes s are (sym e ∙ p);
+      refusal = λ n p. (saved-laws .refusal bytes n (sym e ∙ p), beside (stateFrom bytes) n (sym e ∙ p));
+    }
