@@ -2,6 +2,7 @@ pub mod Rows
 pub mod Entry
 pub mod Layout
 pub mod Record
+pub mod Form
 pub mod Table
 pub mod Lists
 pub mod Query

@@ -23,6 +23,27 @@ every p (x ∷ xs) = if (p x) (every p xs) false
 unfoldable pub placesAllowed : ℕ → Bool
 placesAllowed n = if (leb 1 n) (leb n 1024) false
 
+-- ---- records of any width, key and form
+
+-- records of the form, in strictly rising order
+unfoldable pub checkedOf : (List ℕ → ℕ) → (List ℕ → Bool) → List (List ℕ) → Bool
+checkedOf key form rs = if (every form rs) (rising key rs) false
+
+module _ (w : ℕ) (key : List ℕ → ℕ) (form : List ℕ → Bool) where
+  -- the record of a number has the form, and stands before the next
+  unfoldable pub passesAt : List ℕ → ℕ → ℕ → Bool
+  passesAt buffer count number = if (form (row w number buffer)) (nextAbove w key buffer count number) false
+
+  -- no more records than places, each of the form and in its order
+  unfoldable pub soundOf : Table → Bool
+  soundOf t = if (leb (t .count) (places w t)) (checkedOf key form (rowsOf w t)) false
+
+  -- a sound table with as many places as are allowed
+  unfoldable pub usableOf : Table → Bool
+  usableOf t = if (placesAllowed (places w t)) (soundOf t) false
+
+-- ---- those of a layout
+
 module _ (L : Layout) where
   open Layout L using (width, keyOf, recordOf, wellFormed)
 
@@ -31,16 +52,16 @@ module _ (L : Layout) where
   rows t = rowsOf width t
 
   -- records of the form, in strictly rising order
-  unfoldable pub checked : List (List ℕ) → Bool
-  checked rs = if (every wellFormed rs) (rising keyOf rs) false
+  abbrev pub checked : List (List ℕ) → Bool
+  checked rs = checkedOf keyOf wellFormed rs
 
   -- 01: a table is sound when its count is at most its places, its records have this form and order and its strings are UTF-8
-  unfoldable pub soundTable : Table → Bool
-  soundTable t = if (leb (t .count) (places width t)) (checked (rows t)) false
+  abbrev pub soundTable : Table → Bool
+  soundTable t = soundOf width keyOf wellFormed t
 
   -- 01: what is not usable gets 7
-  unfoldable pub usable : Table → Bool
-  usable t = if (placesAllowed (places width t)) (soundTable t) false
+  abbrev pub usable : Table → Bool
+  usable t = usableOf width keyOf wellFormed t
 
   -- an entry stored: in its place, or instead of the record with its id
   unfoldable pub put : Entry → Table → Table
@@ -54,12 +75,6 @@ module _ (L : Layout) where
   unfoldable pub lookupOf : ℤ → Table → Found ℕ
   lookupOf id t = numberOf keyOf (rankOf id) (rows t)
 
--- ---- the records of a full table by number, as the code reads them
-
--- the record of a number
+-- the record of a number in a full table
 abbrev pub rowAt : ℕ → List ℕ → List ℕ
 rowAt number buffer = row (full .width) number buffer
-
--- the record of a number has 01's form, and stands before the next
-unfoldable pub passesAt : List ℕ → ℕ → ℕ → Bool
-passesAt buffer count number = if (full .wellFormed (rowAt number buffer)) (nextAbove (full .width) (full .keyOf) buffer count number) false

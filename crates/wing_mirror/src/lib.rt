@@ -3,6 +3,7 @@ pub mod answer;
 mod bytes;
 mod counts;
 pub mod feed;
+mod form;
 mod keep;
 mod order;
 pub mod query;

@@ -13,7 +13,7 @@ use Rattle.wing_mirror.specs.Entry.{Entry}
 use Rattle.wing_mirror.specs.Layout.{Layout, ValidEntry}
 use Rattle.wing_mirror.specs.Machine.{sameId, has, putIn, room}
 use Rattle.wing_mirror.specs.History.{rank, inOrder}
-use Rattle.wing_mirror.proofs.Tables.Ordered.{all-insert, insert-again, insert-swap, rising-insert, holds-insert, length-insert}
+use Rattle.wing_mirror.proofs.Tables.Ordered.{suc-if, all-insert, insert-again, insert-swap, rising-insert, holds-insert, length-insert}
 use Rattle.wing_mirror.proofs.Records.Ids.{same-rank}
 
 -- a node is in the map exactly if its rank is in the order
@@ -48,14 +48,10 @@ unfolding putIn has
 length-put e [] = refl
 length-put e (x ∷ m) = go (sameId (x .id) (e .id)) (length-put e m)
   where
-    pull : (t : Bool) (n : ℕ) → suc (if t n (suc n)) ≡ if t (suc n) (suc (suc n))
-    pull true n = refl
-    pull false n = refl
-
     go : (t : Bool) → length (putIn e m) ≡ if (has (e .id) m) (length m) (suc (length m)) →
         length (if t (e ∷ m) (x ∷ putIn e m)) ≡ if (if t true (has (e .id) m)) (suc (length m)) (suc (suc (length m)))
     go true ih = refl
-    go false ih = ap suc ih ∙ pull (has (e .id) m) (length m)
+    go false ih = ap suc ih ∙ suc-if (has (e .id) m) (length m)
 
 -- a put takes no entry away
 pub put-grows : (e : Entry) (m : List Entry) → length m ≤ length (putIn e m)

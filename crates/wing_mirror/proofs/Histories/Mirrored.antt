@@ -11,7 +11,7 @@ use Rattle.wing_node.specs.Bool.{if}
 use Rattle.wing_mirror.specs.Rows.{Table, records, laid, holds, insert, takes, store, All}
 use Rattle.wing_mirror.specs.Entry.{Entry}
 use Rattle.wing_mirror.specs.Layout.{Layout, ValidEntry, Lawful}
-use Rattle.wing_mirror.specs.Table.{table, rows, checked, soundTable, placesAllowed, usable, put, fits}
+use Rattle.wing_mirror.specs.Table.{table, rows, checkedOf, checked, soundOf, soundTable, usableOf, placesAllowed, usable, put, fits}
 use Rattle.wing_mirror.specs.Machine.{has, putIn, room}
 use Rattle.wing_mirror.specs.History.{rank, inOrder, placesIn}
 use Rattle.wing_mirror.proofs.Tables.Chunks.{Wide, records-laid, length-laid, drop-laid, laid-again}
@@ -55,7 +55,7 @@ module _ {L : Layout} (laws : Lawful L) where
 
     -- the records have the form and order
     recs-checked : checked L (recs L m) ≡ true
-    unfolding checked
+    unfolding checkedOf
     recs-checked =
         rw (
           every-all wellFormed (recs L m) (all-map recordOf (ValidEntry L) (λ (r : List ℕ). wellFormed r ≡ true) (inOrder m) (λ e p. laws .formed e (p .text) (p .isKept)) (all-order (ValidEntry L) m (g .valid))),
@@ -92,7 +92,7 @@ module _ {L : Layout} (laws : Lawful L) where
 
     -- 7 by the places alone
     pub usable-image : usable L (tableOf L buffer m) ≡ placesAllowed (placesIn L buffer)
-    unfolding usable soundTable
+    unfolding usableOf soundOf
     usable-image =
         rw (size-image, le-leb (length m) (placesIn L buffer) (g .few), rows-image, recs-checked (placesIn L buffer) m g) (go (placesAllowed (placesIn L buffer)))
       where

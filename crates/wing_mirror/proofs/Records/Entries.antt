@@ -14,7 +14,7 @@ use Rattle.wing_wire.specs.Range.{AreBytes, noBytes, byteThen}
 use Rattle.wing_mirror.specs.Rows.{Table, places, records, rising, All}
 use Rattle.wing_mirror.specs.Entry.{Entry, risingIds, ids}
 use Rattle.wing_mirror.specs.Layout.{Layout, ValidEntry, Row, Lawful}
-use Rattle.wing_mirror.specs.Table.{rows, every, checked, soundTable, usable}
+use Rattle.wing_mirror.specs.Table.{rows, every, checkedOf, soundOf, soundTable, usable}
 use Rattle.wing_mirror.specs.History.{rank}
 use Rattle.wing_mirror.proofs.Tables.Images.{Stands, rising-map, all-map, all-also}
 use Rattle.wing_mirror.proofs.Records.Ids.{rising-ids}
@@ -75,7 +75,7 @@ module _ {L : Layout} (laws : Lawful L) where
 
   -- where the records are there and have the form, a table is sound exactly if their signed ids rise
   pub rows-signed : (t : Table) → AreBytes (t .buffer) → t .count ≤ places width t → every wellFormed (rows L t) ≡ true → soundTable L t ≡ risingIds (ids (map entryIn (rows L t)))
-  unfolding soundTable checked
+  unfolding soundOf checkedOf
   rows-signed t b h e =
       let es : List Entry = map entryIn (rows L t) in
       let each : All (Row L) (rows L t) = all-rows (t .count) (t .buffer) (few-room L t h) b e in

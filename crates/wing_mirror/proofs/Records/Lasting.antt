@@ -10,7 +10,7 @@ use Rattle.wing_node.proofs.Branches.{if-both}
 use Rattle.wing_mirror.specs.Rows.{Table, StoreLaws, insert, places, takes, store}
 use Rattle.wing_mirror.specs.Entry.{Entry, storable}
 use Rattle.wing_mirror.specs.Layout.{Layout, Lawful, kept}
-use Rattle.wing_mirror.specs.Table.{rows, every, checked, soundTable, usable, put, fits}
+use Rattle.wing_mirror.specs.Table.{rows, every, checkedOf, soundOf, usableOf, usable, put, fits}
 use Rattle.wing_mirror.specs.Puts.{PutEffect, putOf}
 use Rattle.wing_mirror.proofs.Tables.Ordered.{Cmp, cmp, low, same, high, insert-low, insert-same, insert-high}
 use Rattle.wing_mirror.proofs.Tables.Stays.{stored}
@@ -37,7 +37,7 @@ module _ (L : Layout) (r : List ℕ) (t : Table) (wide : length r ≡ L .width) 
   put-stored f = stored width keyOf r t wide (few L t u) (up L t u) f
 
   pub store-usable : takes width keyOf r t ≡ true → usable L (store width keyOf r t) ≡ true
-  unfolding usable soundTable checked
+  unfolding usableOf soundOf checkedOf
   store-usable f =
       let s = put-stored f in
       rw (

@@ -11,7 +11,7 @@ use Rattle.wing_node.specs.Bool.{if}
 use Rattle.wing_node.proofs.Branches.{if-both}
 use Rattle.wing_mirror.specs.Rows.{Table, places, rising}
 use Rattle.wing_mirror.specs.Layout.{Layout}
-use Rattle.wing_mirror.specs.Table.{rows, every, checked, soundTable, placesAllowed, usable}
+use Rattle.wing_mirror.specs.Table.{rows, every, checkedOf, checked, soundOf, soundTable, usableOf, placesAllowed, usable}
 
 module _ (L : Layout) (t : Table) where
   open Layout L using (width, keyOf, wellFormed)
@@ -22,13 +22,13 @@ module _ (L : Layout) (t : Table) where
 
   module _ (u : usable L t ≡ true) where
     range-and-sound : (placesAllowed (places width t) ≡ true) × (soundTable L t ≡ true)
-    range-and-sound = if-both _ _ (unfold usable in u)
+    range-and-sound = if-both _ _ (unfold usableOf in u)
 
     pub in-range : placesAllowed (places width t) ≡ true
     in-range = range-and-sound .0
 
     few-and-checked : (leb (t .count) (places width t) ≡ true) × (checked L (rows L t) ≡ true)
-    few-and-checked = if-both _ _ (unfold soundTable in range-and-sound .1)
+    few-and-checked = if-both _ _ (unfold soundOf in range-and-sound .1)
 
     pub few : t .count ≤ places width t
     few = leb-true _ _ (few-and-checked .0)
@@ -37,7 +37,7 @@ module _ (L : Layout) (t : Table) where
     room = few-room few
 
     pub formed : every wellFormed (rows L t) ≡ true
-    formed = if-both (every wellFormed (rows L t)) (rising keyOf (rows L t)) (unfold checked in few-and-checked .1) .0
+    formed = if-both (every wellFormed (rows L t)) (rising keyOf (rows L t)) (unfold checkedOf in few-and-checked .1) .0
 
     pub up : rising keyOf (rows L t) ≡ true
-    up = if-both (every wellFormed (rows L t)) (rising keyOf (rows L t)) (unfold checked in few-and-checked .1) .1
+    up = if-both (every wellFormed (rows L t)) (rising keyOf (rows L t)) (unfold checkedOf in few-and-checked .1) .1

@@ -23,6 +23,11 @@ cmp a b = go (ltb a b) refl (eqb a b) refl
     go false p true q = same (eqb-true a b q)
     go false p false q = let n = eqb-false a b q in let l = ltb-false a b p in high (omega (arith, n))
 
+-- one more, of a number and the next
+pub suc-if : (t : Bool) (n : ℕ) → suc (if t n (suc n)) ≡ if t (suc n) (suc (suc n))
+suc-if true n = refl
+suc-if false n = refl
+
 module _ {A : Type 0} (key : A → ℕ) where
   pub insert-low : (e x : A) (xs : List A) → key x < key e → insert key e (x ∷ xs) ≡ x ∷ insert key e xs
   unfolding insert
@@ -145,12 +150,8 @@ module _ {A : Type 0} (key : A → ℕ) where
   length-insert e [] r = refl
   length-insert e (x ∷ xs) r = go (cmp (key x) (key e)) (length-insert e xs (rising-tail x xs r))
     where
-      pull : (t : Bool) (n : ℕ) → suc (if t n (suc n)) ≡ if t (suc n) (suc (suc n))
-      pull true n = refl
-      pull false n = refl
-
       go : Cmp (key x) (key e) → length (insert key e xs) ≡ if (holds key (key e) xs) (length xs) (suc (length xs)) → length (insert key e (x ∷ xs)) ≡ if (holds key (key e) (x ∷ xs)) (length (x ∷ xs)) (suc (length (x ∷ xs)))
-      go (low p) ih = rw (insert-low e x xs p, ne-eqb (key x) (key e) (omega arith), ih) (pull (holds key (key e) xs) (length xs))
+      go (low p) ih = rw (insert-low e x xs p, ne-eqb (key x) (key e) (omega arith), ih) (suc-if (holds key (key e) xs) (length xs))
       go (same p) ih = rw (insert-same e x xs p, eq-eqb (key x) (key e) p)
       go (high p) ih = rw (insert-high e x xs p, ne-eqb (key x) (key e) (omega arith), over-holds (key e) (key x) xs (rising-tail x xs r) (rising-head x xs r) (omega arith))
 

@@ -1,4 +1,4 @@
--- The test of a table, record by record: records of any width and form, and those of 264 bytes.
+-- The test of a table, record by record: records of any width and form.
 use Prim.Native.Nat.{ℕ, suc, _+_, _-_, _*_, _≤_, _<_}
 use mathlib.Core.Bool.{Bool, true, false}
 use mathlib.Core.Path.{_≡_, refl, _∙_, ap}
@@ -12,8 +12,8 @@ use lib.ListN.{drop}
 use lib.Seq.{drop-drop}
 use Rattle.wing_node.specs.Bool.{if}
 use Rattle.wing_mirror.specs.Rows.{row, records, over, rising, nextAbove}
-use Rattle.wing_mirror.specs.Record.{keyOf, wellFormed, full}
-use Rattle.wing_mirror.specs.Table.{every, passesAt, checked}
+use Rattle.wing_mirror.specs.Record.{keyOf}
+use Rattle.wing_mirror.specs.Table.{every, passesAt, checkedOf}
 
 module _ (w : ℕ) where
   -- the records from the i-th on
@@ -48,11 +48,11 @@ module _ (w : ℕ) where
 
   -- records of a form, in rising order
   module _ (form : List ℕ → Bool) where
-    abbrev pub tested : List (List ℕ) → Bool
-    tested rs = if (every form rs) (rising keyOf rs) false
+    abbrev tested : List (List ℕ) → Bool
+    tested rs = checkedOf keyOf form rs
 
     tested-cons : (x : List ℕ) (xs : List (List ℕ)) → tested (x ∷ xs) ≡ if (if (form x) (over keyOf (keyOf x) xs) false) (tested xs) false
-    unfolding every rising
+    unfolding checkedOf every rising
     tested-cons x xs = go (form x) (over keyOf (keyOf x) xs) (every form xs) (rising keyOf xs)
       where
         go : (f o e r : Bool) → (if (if f e false) (if o r false) false) ≡ if (if f o false) (if e r false) false
@@ -63,21 +63,12 @@ module _ (w : ℕ) where
         go false o e r = refl
 
     -- one record more
-    pub turn-of : (n i : ℕ) (b : List ℕ) → i < n → tested (from n i b) ≡ if (if (form (row w i b)) (nextAbove w keyOf b n i) false) (tested (from n (i + 1) b)) false
-    unfolding nextAbove
-    turn-of n i b h =
+    pub turn : (n i : ℕ) (b : List ℕ) → i < n → tested (from n i b) ≡ if (passesAt w keyOf form b n i) (tested (from n (i + 1) b)) false
+    unfolding nextAbove passesAt
+    turn n i b h =
         ap tested (from-next n i b h) ∙ tested-cons (row w i b) (from n (i + 1) b)
         ∙ ap (λ (t : Bool). if (if (form (row w i b)) t false) (tested (from n (i + 1) b)) false) (over-from (keyOf (row w i b)) n (i + 1) b)
 
-    pub none-left : (n i : ℕ) (b : List ℕ) → n ≤ i → tested (from n i b) ≡ true
-    unfolding every rising
-    none-left n i b h = ap tested (from-none n i b h)
-
--- 01's form and 264 bytes
-pub turn : (n i : ℕ) (b : List ℕ) → i < n → checked full (from 264 n i b) ≡ if (passesAt b n i) (checked full (from 264 n (i + 1) b)) false
-unfolding checked passesAt
-turn = turn-of 264 wellFormed
-
-pub all-passed : (n i : ℕ) (b : List ℕ) → n ≤ i → checked full (from 264 n i b) ≡ true
-unfolding checked
-all-passed = none-left 264 wellFormed
+    pub all-passed : (n i : ℕ) (b : List ℕ) → n ≤ i → tested (from n i b) ≡ true
+    unfolding checkedOf every rising
+    all-passed n i b h = ap tested (from-none n i b h)

@@ -181,14 +181,14 @@ module _ (body : List ℕ) where
       go (ok d) q = over (record { definition = d; says = q }) (leb (countIn body) n) refl
       go (refused j) q = let z : j ≡ k = omega (arith, ap mark (sym (numbered-refused n j q) ∙ e)) in inl (q ∙ ap refused z)
 
-  numbered-told : (n k : ℕ) → Why n k → numberSays body n ≡ refused k
-  numbered-told n k (inl e) = numbered-refused n k e
-  numbered-told n k (inr (g, l, z)) = ap (itemResult body) (numbered-past n g l) ∙ ap refused (sym z)
+  why-refused : (n k : ℕ) → Why n k → numberSays body n ≡ refused k
+  why-refused n k (inl e) = numbered-refused n k e
+  why-refused n k (inr (g, l, z)) = ap (itemResult body) (numbered-past n g l) ∙ ap refused (sym z)
 
   pub by-number : (n : ℕ) → ByNumber body n
   by-number n =
       record {
-        refusals = λ k. (numbered-refusals n k, numbered-told n k);
+        refusals = λ k. (numbered-refusals n k, why-refused n k);
         given = λ g l. numbered-item body (taken body .0 g) n l;
         said = λ g l. numbered-said body (taken body .0 g) n l;
       }

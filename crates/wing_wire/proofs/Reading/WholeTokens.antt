@@ -3,14 +3,14 @@ use Prim.Native.Nat.{ℕ, zero, suc, _+_, _-_, _*_, _%_, _^_, _≤_, _<_}
 use mathlib.Core.Bool.{Bool, true, false}
 use mathlib.Core.Path.{_≡_, refl, sym, _∙_, ap, subst}
 use mathlib.Core.List.{List, [], _∷_, _++_}
-use mathlib.Core.Logic.{_⊎_, inl, inr}
+use mathlib.Core.Logic.{inl, inr}
 use native.Mathlib.Omega.{arith}
 use native.Mathlib.Nat.{pow-suc, pow-le-pow-right}
-use lib.Dec.{leb, eqb}
+use lib.Dec.{leb}
 use lib.IntN.{ℤ, pos}
-use lib.ListN.{length, take, set}
+use lib.ListN.{length, take, drop, set}
 use lib.Seq.{sets}
-use borrow.Author.Tests.{eqb-true, eqb-false, leb-true, leb-false, lt-ltb, lt-leb, le-leb, ne-eqb, eq-eqb}
+use borrow.Author.Tests.{leb-true, leb-false, lt-ltb, lt-leb, le-leb, ne-eqb, eq-eqb}
 use Rattle.wing_node.proofs.Branches.{branch}
 use Rattle.wing_node.specs.Bool.{if}
 use Rattle.wing_node.specs.Digits.{numberFrom, numberIn}
@@ -322,47 +322,57 @@ module _ {M : Type 0} (h : ℤ → Event → M → M) where
 
 -- ---- the table
 
-rule-small : (t : ℕ) → From 0x00 0x3f t → ruleOf t ≡ rule Integer 0
-unfolding ruleOf ruleIn
-rule-small t (l, k) = rw (le-leb 0 t l, le-leb t 0x3f k)
+-- a first unit in the first row
+in-row : (r : Row) (rs : List Row) (t : ℕ) → From (r .low) (r .high) t → ruleIn (r ∷ rs) t ≡ r .ruleAt t
+unfolding ruleIn
+in-row r rs t (l, k) = rw (le-leb (r .low) t l, le-leb t (r .high) k)
 
-rule-80 : (t : ℕ) → From 0x80 0xbf t → ruleOf t ≡ rule String (t - 0x80 + 1)
-unfolding ruleOf ruleIn
-rule-80 t (l, k) = rw (le-leb 0 t (omega arith), lt-leb t 0x3f (omega arith), le-leb 0x80 t l, le-leb t 0xbf k)
+-- below a row or above it
+abbrev NotIn : Row → ℕ → Type 0
+NotIn r t = 1 ≤ (r .low - t) + (t - r .high)
 
-rule-c0 : (t : ℕ) → From 0xc0 0xcf t → ruleOf t ≡ rule String (t - 0xc0 + 1)
-unfolding ruleOf ruleIn
-rule-c0 t (l, k) = rw (le-leb 0 t (omega arith), lt-leb t 0x3f (omega arith), le-leb 0x80 t (omega arith), lt-leb t 0xbf (omega arith), le-leb 0xc0 t l, le-leb t 0xcf k)
-
-rule-float : (t : ℕ) → From 0xd5 0xd6 t → ruleOf t ≡ rule Float 4
-unfolding ruleOf ruleIn
-rule-float t (l, k) = go (eqb t 0xd5) refl
+past-row : (r : Row) (rs : List Row) (t : ℕ) → NotIn r t → ruleIn (r ∷ rs) t ≡ ruleIn rs t
+unfolding ruleIn
+past-row r rs t o = go (leb (r .low) t) refl
   where
-    go : (q : Bool) → eqb t 0xd5 ≡ q → ruleOf t ≡ rule Float 4
-    go true q = let z : t ≡ 0xd5 = eqb-true t 0xd5 q in rw z
-    go false q = let n = eqb-false t 0xd5 q in let z : t ≡ 0xd6 = omega arith in rw z
+    go : (q : Bool) → leb (r .low) t ≡ q → if q (if (leb t (r .high)) (r .ruleAt t) (ruleIn rs t)) (ruleIn rs t) ≡ ruleIn rs t
+    go true q = rw (lt-leb t (r .high) (omega (arith, leb-true (r .low) t q)))
+    go false q = refl
 
--- a first unit that is in no row
+-- in none of the rows
 abbrev Outside : List Row → ℕ → Type 0
 Outside [] t = Unit {0}
-Outside (r ∷ rs) t = ((t < r .low) ⊎ (r .high < t)) × Outside rs t
+Outside (r ∷ rs) t = NotIn r t × Outside rs t
 
-rule-outside : (rs : List Row) (t : ℕ) → Outside rs t → ruleIn rs t ≡ rule NoEvent 0
-unfolding ruleIn
-rule-outside [] t o = refl
-rule-outside (r ∷ rs) t (inl l, o) = rw (lt-leb (r .low) t l) (rule-outside rs t o)
-rule-outside (r ∷ rs) t (inr l, o) = rw (lt-leb t (r .high) l) (either (leb (r .low) t) ∙ rule-outside rs t o)
-  where
-    either : (q : Bool) → if q (ruleIn rs t) (ruleIn rs t) ≡ ruleIn rs t
-    either true = refl
-    either false = refl
+past-rows : (front rs : List Row) (t : ℕ) → Outside front t → ruleIn (front ++ rs) t ≡ ruleIn rs t
+past-rows [] rs t o = refl
+past-rows (r ∷ front) rs t (here, o) = past-row r (front ++ rs) t here ∙ past-rows front rs t o
+
+rule-small : (t : ℕ) → From 0x00 0x3f t → ruleOf t ≡ rule Integer 0
+unfolding ruleOf
+rule-small t h = in-row _ _ t h
+
+rule-80 : (t : ℕ) → From 0x80 0xbf t → ruleOf t ≡ rule String (t - 0x80 + 1)
+unfolding ruleOf
+rule-80 t h = past-rows (take 1 table) (drop 1 table) t (omega arith) ∙ in-row _ _ t h
+
+rule-c0 : (t : ℕ) → From 0xc0 0xcf t → ruleOf t ≡ rule String (t - 0xc0 + 1)
+unfolding ruleOf
+rule-c0 t h = past-rows (take 2 table) (drop 2 table) t (omega arith) ∙ in-row _ _ t h
+
+rule-float : (t : ℕ) → From 0xd5 0xd6 t → ruleOf t ≡ rule Float 4
+unfolding ruleOf
+rule-float t h = past-rows (take 7 table) (drop 7 table) t (omega arith) ∙ in-row _ _ t h
 
 rule-rest : (t : ℕ) → Rest t → ruleOf t ≡ rule NoEvent 0
-unfolding ruleOf ruleIn
-rule-rest t (inl (l, k)) = rule-outside table t (inr (omega arith), (inl (omega arith), (inl (omega arith), (inl (omega arith), (inl (omega arith), (inl (omega arith), (inl (omega arith), (inl (omega arith), (inl (omega arith), (inl (omega arith), (inl (omega arith), (inl (omega arith), (inl (omega arith), tt)))))))))))))
-rule-rest t (inr (inl (l, k))) = let z : t ≡ 0xd8 = omega arith in rw z
-rule-rest t (inr (inr (inl (l, k)))) = rule-outside table t (inr (omega arith), (inr (omega arith), (inr (omega arith), (inr (omega arith), (inr (omega arith), (inr (omega arith), (inr (omega arith), (inr (omega arith), (inr (omega arith), (inr (omega arith), (inr (omega arith), (inl (omega arith), (inl (omega arith), tt)))))))))))))
-rule-rest t (inr (inr (inr (l, k)))) = rule-outside table t (inr (omega arith), (inr (omega arith), (inr (omega arith), (inr (omega arith), (inr (omega arith), (inr (omega arith), (inr (omega arith), (inr (omega arith), (inr (omega arith), (inr (omega arith), (inr (omega arith), (inr (omega arith), (inr (omega arith), tt)))))))))))))
+unfolding ruleOf
+rule-rest t h = past-rows table [] t (off h) ∙ unfold ruleIn in refl
+  where
+    off : Rest t → Outside table t
+    off (inl r) = omega arith
+    off (inr (inl r)) = omega arith
+    off (inr (inr (inl r))) = omega arith
+    off (inr (inr (inr r))) = omega arith
 
 -- a number of n units is below 256 to n
 number-small : (us : List StreamUnit) (v j : ℕ) → AreBytes (values us) → v < 256 ^ j → numberFrom 256 v (values us) < 256 ^ (j + length us)
