@@ -47,3 +47,13 @@ fn constants_are_those_of_the_header() {
         assert!(header.contains(&format!("#define {name} {value}\n")), "{name} {value}");
     }
 }
+
+/// docs/BOX.md shows the function as it stands in the example.
+#[test]
+fn the_page_shows_the_box_as_it_is() {
+    let source = include_str!("../../examples/box.rs");
+    let from = &source[source.find("fn show(").unwrap()..];
+    let show = &from[..from.find("\n}\n").unwrap() + 3];
+    assert!(show.lines().count() > 20);
+    assert!(include_str!("../../../../docs/BOX.md").contains(show));
+}

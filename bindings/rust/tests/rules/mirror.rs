@@ -203,6 +203,8 @@ fn a_damaged_save_is_refused() {
     };
     assert_eq!(with(0, 2).unwrap_err(), Refusal::STATE);
     assert_eq!(with(STATE_SIZE - 1, 1).unwrap_err(), Refusal::STATE);
+    // 8 comes before 7.
+    assert_eq!(Mirror::restore(&[&[0; 2 * STATE_SIZE][..], &saved].concat()).unwrap_err(), Refusal::STATE);
     // The count, the places, the first record's kind and its zero byte.
     for (at, byte) in [(3, 2), (3, 4), (0, 255), (7, 2), (6, 255), (12, 3), (13, 1)] {
         assert_eq!(with(STATE_SIZE + at, byte).unwrap_err(), Refusal::TABLE, "{at}");
