@@ -62,7 +62,7 @@ impl Decoder {
     /// The events of a piece of any length, in order. What is not whole at its end waits for the next piece. Where it
     /// is dropped before its end, the rest of the piece is not read.
     pub fn events<'a>(&'a mut self, bytes: &'a [u8]) -> Events<'a> {
-        Events { decoder: self, bytes }
+        Events { decoder: self, bytes, ended: false }
     }
 
     /// The current node: the one that the next value belongs to.
@@ -99,22 +99,27 @@ impl Default for Decoder {
 pub struct Events<'a> {
     decoder: &'a mut Decoder,
     bytes: &'a [u8],
+    ended: bool,
 }
 
 impl Iterator for Events<'_> {
     type Item = Result<Event, Refusal>;
 
     fn next(&mut self) -> Option<Result<Event, Refusal>> {
-        loop {
+        while !self.ended {
             let most = self.bytes.len().min(FEED_MAX);
             let (event, taken) = self.decoder.next(&self.bytes[..most]);
             self.bytes = &self.bytes[taken..];
             match event {
                 Ok(Some(event)) => return Some(Ok(event)),
-                Err(why) => return Some(Err(why)),
-                Ok(None) if self.bytes.is_empty() => return None,
-                Ok(None) => {}
+                Err(why) => {
+                    // Another than 1 to 5 takes nothing and would come for ever. None does: the state is the decoder's own.
+                    self.ended = why > Refusal::DEFINITION_STRING;
+                    return Some(Err(why));
+                }
+                Ok(None) => self.ended = self.bytes.is_empty(),
             }
         }
+        None
     }
 }

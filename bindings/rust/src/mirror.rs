@@ -33,7 +33,8 @@ pub struct Counts {
 /// A fresh decoder state, made by the library.
 pub(crate) fn fresh_state() -> Box<[u8]> {
     let mut state = vec![0; STATE_SIZE].into_boxed_slice();
-    raw::state_fresh(&mut state);
+    let written = raw::state_fresh(&mut state);
+    debug_assert_eq!(written.len, STATE_SIZE, "the archive has states of another size");
     state
 }
 
