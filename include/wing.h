@@ -11,7 +11,7 @@
  * Status: 0 for a call that was taken (1 where that is said below), or a refusal's number with a minus sign: -9 is refusal 9. Where
  * several refusals apply, the first in the order given at the call is answered. A refused call has changed nothing that was lent, and
  * gives the count back as it was; the one exception are wing_next's own -1 to -3, said there. Where the status is a refusal, all other
- * fields of the answer are 0, except those that are said to stay.
+ * fields of the answer are 0, but for a count, an event's node and taken, and a step's walk.
  *
  * A mirror is three things that the caller keeps: the bytes of a decoder state (WING_STATE_SIZE), a table buffer of 1 to
  * WING_PLACES_MAX places of WING_PLACE_WIDTH bytes each, whatever they hold at first, and the count. No call keeps anything

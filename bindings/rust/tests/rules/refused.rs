@@ -70,6 +70,23 @@ fn a_damaged_table_is_7_at_every_call_and_nothing_is_written() {
 }
 
 #[test]
+fn beside_a_refusal_all_fields_are_0() {
+    let record = raw::record(&table(8, 0), 1, 1);
+    assert_eq!((record.status, record.id, record.value, record.len, record.kind), (-14, 0, 0, 0, 0));
+    assert_eq!(record.string, [0; 256]);
+    let (mut t, mut s) = (table(8, 0), Decoder::new().save());
+    let fed = raw::feed(&mut s, &mut t, 1, &[5; 65537]);
+    let zero = raw::WingFed { status: -14, count: 1, ..raw::feed(&mut s, &mut t, 1, &[]) };
+    assert_eq!((fed, fed.stored), (zero, 0));
+    let definition = raw::definition(&[0xff; 20]);
+    assert_eq!((definition.status, definition.id, definition.index, definition.read_only), (-4, 0, 0, false));
+    let step = raw::item_step(&[1], 0, 3, 5);
+    assert_eq!((step.item.status, step.item.len, step.walk.at, step.walk.left, step.walk.node_type), (-4, 0, 0, 3, 5));
+    let requested = raw::request_meter(&mut [], &[], 9, 9);
+    assert_eq!((requested.status, requested.id, requested.len), (-9, 0, 0));
+}
+
+#[test]
 fn a_refused_call_gives_the_count_back() {
     let (mut t, mut s, mut out) = (table(4, 3), Decoder::new().save(), [0; 64]);
     assert_eq!(raw::feed(&mut s, &mut t, 77, &[]).count, 77);
