@@ -1,12 +1,14 @@
-// Times the port and libwing side by side, on the same inputs in one run.
+// Times the port and libwing side by side, on the same inputs in one run, and calls through the Rust crate beside direct ones.
 //   bench            all parts: the median of each side's runs, and their ratio with its spread
 //   bench once PART port|libwing|none    one round of one part, for an instruction count
+//   bench crate PART crate|direct|none   the same of a call through the crate
 mod inputs;
 
 use inputs::{bodies, capture, orders, strings, values, Order, START, STREAMS};
 use std::collections::HashMap;
 use std::hint::black_box;
 use std::time::Instant;
+use whistleloam::Mirror;
 use wing::{WingConsole, WingNodeData, WingNodeDef, WingResponse};
 
 // A slice goes over the border as its start and its length.
@@ -260,8 +262,85 @@ fn alone() {
     print_alone("recall", |n| n > 6 * 1024, Box::new(move || unsafe { port_recall(black_box(&recalled).as_ptr(), m, count, out.as_mut_ptr(), out.len()) as u64 }));
 }
 
+// A call on a mirror of 1,024 records, made directly and through the crate; both leave the mirror as it was.
+struct Pair {
+    name: &'static str,
+    direct: Work,
+    by_crate: Work,
+}
+
+// The mirror of the capture, and its table.
+fn loaded() -> (Mirror, Vec<u8>) {
+    let mut mirror = Mirror::new(1024).unwrap();
+    mirror.feed(&capture()).unwrap();
+    let table = mirror.table().to_vec();
+    (mirror, table)
+}
+
+fn feeding(name: &'static str, bytes: Vec<u8>) -> Pair {
+    let (mut mirror, mut table) = loaded();
+    let (same, m) = (bytes.clone(), table.len());
+    Pair {
+        name,
+        direct: Box::new(move || unsafe { port_feed(black_box(&mut table).as_mut_ptr(), m, 1024, black_box(&same).as_ptr(), same.len()) as u64 }),
+        by_crate: Box::new(move || {
+            black_box(mirror.feed(black_box(&bytes)).unwrap());
+            mirror.count() as u64
+        }),
+    }
+}
+
+fn recalling() -> Pair {
+    let (mirror, table) = loaded();
+    let mut out = vec![0u8; 2 + 395 * 1024];
+    let mut same = out.clone();
+    Pair {
+        name: "recall",
+        direct: Box::new(move || unsafe { port_recall(black_box(&table).as_ptr(), table.len(), 1024, same.as_mut_ptr(), same.len()) as u64 }),
+        by_crate: Box::new(move || mirror.recall_into(black_box(&mut out)).unwrap() as u64),
+    }
+}
+
+fn pairs() -> Vec<Pair> {
+    let most = capture().repeat(65536 / capture().len());
+    vec![feeding("feed up to 65,536 bytes", most), feeding("feed 1,024 values", capture()), feeding("feed 6 bytes", vec![0xd7, 0, 0, 3, 0xe8, 5]), recalling()]
+}
+
+fn measure_pair(p: &mut Pair) {
+    let calls = calls_for(&mut p.direct);
+    let mut each: Vec<(f64, f64)> = (0..41).map(|_| (seconds(&mut p.direct, calls), seconds(&mut p.by_crate, calls))).collect();
+    let mut ratios: Vec<f64> = each.iter().map(|e| e.1 / e.0).collect();
+    ratios.sort_by(f64::total_cmp);
+    each.sort_by(|a, b| a.0.total_cmp(&b.0));
+    let direct = each[20].0;
+    each.sort_by(|a, b| a.1.total_cmp(&b.1));
+    println!("{:<32} {:>10.1} {:>10.1} {:>7.3} {:>6.3}-{:<6.3}", p.name, direct * 1e6, each[20].1 * 1e6, ratios[20], ratios[4], ratios[36]);
+}
+
+fn through_the_crate() {
+    println!("{:<32} {:>10} {:>10} {:>7} {:>13}", "through the crate", "direct us", "crate us", "ratio", "10%-90%");
+    for p in &mut pairs() {
+        assert_eq!((p.direct)(), (p.by_crate)(), "{}: the two sides answer differently", p.name);
+        measure_pair(p);
+    }
+}
+
+// One round of one call, and its name.
+fn crate_once(part: &str, side: &str) {
+    let p = &mut pairs()[part.parse::<usize>().unwrap()];
+    let done = match side {
+        "crate" => (p.by_crate)(),
+        "direct" => (p.direct)(),
+        _ => 0,
+    };
+    println!("{} {done}", p.name);
+}
+
 fn main() {
     let words: Vec<String> = std::env::args().skip(1).collect();
+    if words.len() == 3 && words[0] == "crate" {
+        return crate_once(&words[1], &words[2]);
+    }
     let mut parts = parts();
     if words.len() == 3 && words[0] == "once" {
         let p = &mut parts[words[1].parse::<usize>().unwrap()];
@@ -284,4 +363,5 @@ fn main() {
     }
     println!("with 1,024 records:");
     alone();
+    through_the_crate();
 }

@@ -1,0 +1,88 @@
+//! Finds or makes the archive of the proved library, libwing_c.a, and links it.
+use std::env;
+use std::fs;
+use std::path::{Path, PathBuf};
+use std::process::Command;
+use std::time::SystemTime;
+
+/// The crates whose sources the archive is made of.
+const CRATES: [&str; 5] = ["wing_c", "wing_saved", "wing_mirror", "wing_wire", "wing_node"];
+
+fn main() {
+    println!("cargo:rerun-if-env-changed=WING_C_ARCHIVE");
+    if env::var("CARGO_CFG_TARGET_ARCH").as_deref() != Ok("x86_64") {
+        fail("libwing_c.a is made for x86-64 only, and this build is for another processor");
+    }
+    let archive = match env::var_os("WING_C_ARCHIVE") {
+        Some(path) => given(PathBuf::from(path)),
+        None => from_repository(),
+    };
+    println!("cargo:rerun-if-changed={}", archive.display());
+    let folder = archive.parent().unwrap_or(Path::new("."));
+    println!("cargo:rustc-link-search=native={}", folder.display());
+    println!("cargo:rustc-link-lib=static=wing_c");
+}
+
+fn fail(what: &str) -> ! {
+    eprintln!("whistleloam: {what}");
+    std::process::exit(1);
+}
+
+fn given(path: PathBuf) -> PathBuf {
+    if path.file_name().map_or(true, |name| name != "libwing_c.a") || !path.is_file() {
+        fail(&format!("WING_C_ARCHIVE is {}: no file libwing_c.a there", path.display()));
+    }
+    path.canonicalize().unwrap_or(path)
+}
+
+/// The repository's own archive, made anew where a source is newer.
+fn from_repository() -> PathBuf {
+    let top = Path::new(env!("CARGO_MANIFEST_DIR")).join("../..");
+    let top = top.canonicalize().unwrap_or(top);
+    let archive = top.join("target/staticlib/libwing_c.a");
+    let sources = newest_source(&top);
+    match (changed(&archive), sources) {
+        (Some(made), Some(source)) if made >= source => {}
+        (Some(_), None) => {}
+        (None, None) => fail(&format!(
+            "no archive: WING_C_ARCHIVE is not set, {} is not there, nor are the sources of wing_c to make it of",
+            archive.display()
+        )),
+        _ => make(&top, &archive),
+    }
+    archive
+}
+
+fn changed(path: &Path) -> Option<SystemTime> {
+    fs::metadata(path).and_then(|m| m.modified()).ok()
+}
+
+/// When a source was last changed; none if the sources are not all there.
+fn newest_source(top: &Path) -> Option<SystemTime> {
+    let mut newest = None;
+    for name in CRATES {
+        let folder = top.join("crates").join(name).join("src");
+        println!("cargo:rerun-if-changed={}", folder.display());
+        for entry in fs::read_dir(folder).ok()?.flatten() {
+            newest = newest.max(changed(&entry.path()));
+        }
+    }
+    newest
+}
+
+fn make(top: &Path, archive: &Path) {
+    let done = Command::new("rt").args(["staticlib", "wing_c"]).current_dir(top).output();
+    match done {
+        Err(e) => fail(&format!(
+            "{} is missing or older than its sources, and 'rt staticlib wing_c' cannot be run ({e}): put the kit's rt on the path, or set WING_C_ARCHIVE",
+            archive.display()
+        )),
+        Ok(out) if !out.status.success() || !archive.is_file() => fail(&format!(
+            "'rt staticlib wing_c' in {} failed:\n{}{}",
+            top.display(),
+            String::from_utf8_lossy(&out.stdout),
+            String::from_utf8_lossy(&out.stderr)
+        )),
+        Ok(_) => {}
+    }
+}

@@ -1,0 +1,344 @@
+//! Damaged buffers through the crate and through its raw parts: `damage N SEED`.
+//!
+//! States, tables, streams, definitions, packets, saved mirrors and orders, with bytes changed, left out or put in, each in a heap
+//! allocation of exactly its size, so that valgrind sees an access past the end. Every answer must be a value or a refusal that its
+//! call may give, and a refused call must have changed nothing. Ends with the totals; status 1 at the first fault.
+use std::process::exit;
+use whistleloam::raw;
+use whistleloam::{Decoder, Definition, Mirror, Refusal, Value, BODY_LIMIT, PLACE_WIDTH};
+
+struct Dice(u64);
+
+impl Dice {
+    fn below(&mut self, n: usize) -> usize {
+        self.0 ^= self.0 << 13;
+        self.0 ^= self.0 >> 7;
+        self.0 ^= self.0 << 17;
+        (self.0.wrapping_mul(0x2545_f491_4f6c_dd1d) >> 33) as usize % n
+    }
+
+    fn one_in(&mut self, n: usize) -> bool {
+        self.below(n) == 0
+    }
+
+    /// Bytes that the decoder tells apart come more often than chance has it.
+    fn byte(&mut self) -> u8 {
+        match self.below(3) {
+            0 => [0xdf, 0xde, 0xd7, 0xd1, 0x00, 0xff, 0x80, 0x01][self.below(8)],
+            _ => self.below(256) as u8,
+        }
+    }
+
+    fn bytes(&mut self, most: usize) -> Vec<u8> {
+        (0..self.below(most + 1)).map(|_| self.byte()).collect()
+    }
+
+    /// Some bytes changed, left out or put in; half of them near the front, where the fields are. Exactly as much memory as bytes.
+    fn damage(&mut self, good: &[u8], resize: bool) -> Box<[u8]> {
+        let mut bytes = good.to_vec();
+        for _ in 0..self.below(4) {
+            let near = if self.one_in(2) { 32 } else { usize::MAX };
+            let at = self.below(bytes.len().min(near) + 1);
+            match self.below(if resize { 8 } else { 6 }) {
+                6 => bytes.truncate(at),
+                7 => bytes.insert(at, self.byte()),
+                _ if at < bytes.len() => bytes[at] = self.byte(),
+                _ => {}
+            }
+        }
+        bytes.into_boxed_slice()
+    }
+}
+
+/// How many answers were values, and how many each refusal.
+#[derive(Default)]
+struct Totals {
+    values: u64,
+    refused: [u64; 15],
+}
+
+impl Totals {
+    /// A status, and the refusals that its call may give. Whether it was refused.
+    fn note(&mut self, call: &str, status: i32, may: &[u8]) -> bool {
+        if (0..=1).contains(&status) {
+            self.values += 1;
+            return false;
+        }
+        match may.iter().find(|n| i32::from(**n) == -status) {
+            Some(n) => self.refused[usize::from(*n)] += 1,
+            None => fault(call, &format!("status {status}")),
+        }
+        true
+    }
+
+    fn of<T>(&mut self, call: &str, answer: Result<T, Refusal>, may: &[u8]) -> Option<T> {
+        let status = answer.as_ref().map_or_else(|why| -i32::from(why.number()), |_| 0);
+        self.note(call, status, may);
+        answer.ok()
+    }
+}
+
+fn fault(call: &str, what: &str) -> ! {
+    eprintln!("{call}: {what}");
+    exit(1);
+}
+
+fn must(call: &str, good: bool) {
+    if !good {
+        fault(call, "a refused call changed what was lent, or an answer is out of bounds");
+    }
+}
+
+struct Pool {
+    dice: Dice,
+    totals: Totals,
+    capture: Vec<u8>,
+    states: Vec<Vec<u8>>,
+    mirrors: Vec<Mirror>,
+    bodies: Vec<Vec<u8>>,
+}
+
+/// Bodies of all eight types.
+fn bodies() -> Vec<Vec<u8>> {
+    let head = [0, 0, 0, 1, 0xff, 0xff, 0xff, 0xfe, 0, 3, 1, b'n', 2, 0xc3, 0x9f];
+    let details: [&[u8]; 8] = [
+        &[],
+        &[0; 12],
+        &[0xdf; 12],
+        &[],
+        &[0x80; 8],
+        &[0, 3, 1, b'a', 0, 2, b'b', b'c', 1, b'd', 0, 0],
+        &[0, 2, 0x3f, 0x80, 0, 0, 1, b'1', 0x7f, 0xc0, 0, 1, 0],
+        &[1, 0],
+    ];
+    (0..8).map(|t| [&head[..], &[0, t * 16 + t], details[usize::from(t)]].concat()).collect()
+}
+
+impl Pool {
+    fn new(seed: u64) -> Pool {
+        let path = concat!(env!("CARGO_MANIFEST_DIR"), "/../../samples/capture.bin");
+        let capture = std::fs::read(path).unwrap_or_else(|e| fault(path, &e.to_string()));
+        let mut pool = Pool {
+            dice: Dice(seed.wrapping_mul(0x9e37_79b9_7f4a_7c15) | 1),
+            totals: Totals::default(),
+            capture,
+            states: Vec::new(),
+            mirrors: Vec::new(),
+            bodies: bodies(),
+        };
+        pool.fill();
+        pool
+    }
+
+    /// States broken off anywhere in a stream, and mirrors of 1 to 70 places.
+    fn fill(&mut self) {
+        for _ in 0..200 {
+            let body = [&[0xdf, 0xde, 0, 31][..], &self.bodies[5]].concat();
+            let long = [&[0xdf, 0xde, 0x10, 0x01][..], &[0; 4096]].concat();
+            let stream = [&self.capture[..], &body, &[0xd1, 0xff], &[b'x'; 256], &long].concat();
+            let cut = stream.len() - if self.dice.one_in(8) { 0 } else { self.dice.below(stream.len() + 1) };
+            let mut decoder = Decoder::new();
+            decoder.events(&stream[..cut]).for_each(drop);
+            self.states.push(decoder.save());
+        }
+        for places in [1, 2, 3, 5, 70] {
+            let mut mirror = Mirror::new(places).unwrap_or_else(|e| fault("new", &e.to_string()));
+            self.totals.of("feed", mirror.feed(&self.capture), &[]);
+            self.mirrors.push(mirror);
+        }
+    }
+
+    fn piece(&mut self) -> Box<[u8]> {
+        let from = self.dice.below(self.capture.len());
+        let to = from + self.dice.below(80).min(self.capture.len() - from);
+        let piece = self.capture[from..to].to_vec();
+        self.dice.damage(&piece, true)
+    }
+
+    fn state(&mut self) {
+        let good = self.states[self.dice.below(self.states.len())].clone();
+        let resize = self.dice.one_in(8);
+        let (mut state, bytes) = (self.dice.damage(&good, resize), self.piece());
+        let (before, mut table) = (state.clone(), vec![0xaa; PLACE_WIDTH].into_boxed_slice());
+        let mut out = vec![0xaa; BODY_LIMIT - usize::from(self.dice.one_in(4))].into_boxed_slice();
+        let unsound = self.totals.note("state_check", raw::state_check(&state), &[8]);
+        let got = raw::next(&mut state, &bytes, &mut out);
+        if self.totals.note("next", got.status, &[8, 9, 1, 2, 3]) && got.status < -3 {
+            must("next", state == before && out.iter().all(|b| *b == 0xaa) && got.taken == 0);
+        }
+        must("next", got.taken <= bytes.len() && usize::from(got.len) <= out.len());
+        let (mut state, again) = (before.clone(), before);
+        let fed = raw::feed(&mut state, &mut table, 0, &bytes);
+        if self.totals.note("feed", fed.status, &[8]) {
+            must("feed", state == again && table.iter().all(|b| *b == 0xaa) && fed.count == 0);
+        } else {
+            self.totals.note("state_check after a feed", raw::state_check(&state), &[]);
+        }
+        must("feed", unsound == (fed.status == -8) && unsound == (got.status == -8));
+        if let Some(mut decoder) = self.totals.of("restore", Decoder::restore(&again), &[8]) {
+            self.events(&mut decoder, &bytes);
+        }
+    }
+
+    fn events(&mut self, decoder: &mut Decoder, bytes: &[u8]) {
+        for event in decoder.events(bytes) {
+            self.totals.of("events", event, &[1, 2, 3, 4, 5]);
+        }
+    }
+
+    fn table(&mut self) {
+        let mirror = self.mirrors[self.dice.below(self.mirrors.len())].clone();
+        let resize = self.dice.one_in(8);
+        let mut table = self.dice.damage(mirror.table(), resize);
+        let count = match self.dice.below(8) {
+            0 => self.dice.below(1030),
+            1 => usize::MAX - self.dice.below(3),
+            _ => mirror.count(),
+        };
+        let (before, id) = (table.clone(), self.dice.below(4000) as i32 - 1000);
+        let unsound = self.totals.note("table_check", raw::table_check(&table, count), &[7]);
+        let looked = raw::lookup(&table, count, id);
+        self.totals.note("lookup", looked.status, &[7]);
+        let read = raw::record(&table, count, self.dice.below(80));
+        self.totals.note("record", read.status, &[7, 14]);
+        let same = raw::same(&table, count, mirror.table(), mirror.count());
+        self.totals.note("same", same, &[7]);
+        let mut out = vec![0xaa; self.dice.below(1500)].into_boxed_slice();
+        let sent = raw::recall(&table, count, &mut out);
+        if self.totals.note("recall", sent.status, &[7, 9]) {
+            must("recall", out.iter().all(|b| *b == 0xaa));
+        }
+        for status in [looked.status, read.status, same, sent.status] {
+            must("table", unsound == (status == -7));
+        }
+        self.set(&mut table, count, id);
+        let parts = Mirror::from_parts(mirror.state(), before.into_vec(), count);
+        if let Some(mirror) = self.totals.of("from_parts", parts, &[7]) {
+            must("records", mirror.records().count() == count && mirror == mirror.clone());
+        }
+    }
+
+    fn set(&mut self, table: &mut [u8], count: usize, id: i32) {
+        let before = table.to_vec();
+        let value = self.dice.bytes(300).into_boxed_slice();
+        let mut out = vec![0xaa; self.dice.below(400)].into_boxed_slice();
+        let bits = self.dice.below(1 << 31) as u32;
+        let set = match self.dice.below(3) {
+            0 => raw::set_int(table, count, &mut out, id, bits as i32),
+            1 => raw::set_float(table, count, &mut out, id, bits),
+            _ => raw::set_string(table, count, &mut out, id, &value),
+        };
+        if self.totals.note("set", set.status, &[7, 10, 1, 6, 9]) {
+            must("set", *table == before[..] && out.iter().all(|b| *b == 0xaa) && set.count == count);
+        } else {
+            self.totals.note("table_check after a set", raw::table_check(table, set.count), &[]);
+            must("set", set.len <= out.len());
+        }
+    }
+
+    fn stream(&mut self) {
+        let mut mirror = self.mirrors[self.dice.below(4)].clone();
+        let mut decoder = Decoder::new();
+        for _ in 0..3 {
+            let piece = self.piece();
+            self.totals.of("feed", mirror.feed(&piece), &[]);
+            self.events(&mut decoder, &piece);
+        }
+        if self.dice.one_in(500) {
+            let long = vec![self.dice.byte(); 65535 + self.dice.below(3)].into_boxed_slice();
+            self.totals.of("feed", mirror.feed(&long), &[14]);
+        }
+        self.totals.note("state_check", raw::state_check(mirror.state()), &[]);
+        self.totals.note("table_check", raw::table_check(mirror.table(), mirror.count()), &[]);
+    }
+
+    fn definition(&mut self) {
+        let good = self.bodies[self.dice.below(8)].clone();
+        let body = self.dice.damage(&good, true);
+        let number = self.dice.below(6);
+        if let Some(d) = self.totals.of("definition", Definition::from_bytes(&body), &[4, 5]) {
+            let items = d.items().count();
+            let item = self.totals.of("item", d.item(number), &[14]);
+            must("item", item.is_some() == (number < items));
+        }
+        let at = if self.dice.one_in(4) { usize::MAX - self.dice.below(9) } else { self.dice.below(60) };
+        let step = raw::item_step(&body, at, self.dice.below(4) as u16, self.dice.below(9) as u8);
+        self.totals.note("item_step", step.item.status, &[4, 5]);
+        let (item, len) = (step.item, body.len());
+        must("item_step", item.start + item.len as usize <= len && item.long_start + item.long_len as usize <= len);
+        self.totals.note("items_begin", raw::items_begin(&body).status, &[4, 5]);
+        self.totals.note("item", raw::item(&body, number).status, &[4, 5, 14]);
+    }
+
+    fn packet(&mut self) {
+        let len = if self.dice.one_in(50) { 8185 + self.dice.below(12) } else { self.dice.below(70) };
+        let packet = vec![self.dice.byte(); len].into_boxed_slice();
+        let mut out = vec![0x5aa5; self.dice.below(45)].into_boxed_slice();
+        let got = raw::read_meters(&packet, &mut out);
+        if self.totals.note("read_meters", got.status, &[13, 9]) {
+            must("read_meters", out.iter().all(|x| *x == 0x5aa5));
+        }
+        must("read_meters", got.count <= out.len());
+    }
+
+    fn saved(&mut self) {
+        let good = self.mirrors[self.dice.below(self.mirrors.len())].save();
+        let resize = self.dice.one_in(4);
+        let bytes = self.dice.damage(&good, resize);
+        if let Some(mirror) = self.totals.of("restore", Mirror::restore(&bytes), &[8, 7]) {
+            must("restore", mirror.save() == *bytes);
+        }
+    }
+
+    fn orders(&mut self) {
+        let text = self.dice.bytes(300).into_boxed_slice();
+        let pairs = self.dice.bytes(140).into_boxed_slice();
+        let mut out = vec![0xaa; self.dice.below(420)].into_boxed_slice();
+        let id = self.dice.below(1 << 31) as i32;
+        let last = if self.dice.one_in(8) { 65535 } else { self.dice.below(65536) as u16 };
+        let statuses = [
+            (raw::order_string(&mut out, id, &text).status, &[10, 1, 9][..]),
+            (raw::order_int(&mut out, -id, id).status, &[9]),
+            (raw::order_float(&mut out, id, id as u32).status, &[9]),
+            (raw::request_node_definition(&mut out, id).status, &[9]),
+            (raw::request_node_data(&mut out, -id).status, &[9]),
+            (raw::request_meter(&mut out, &pairs, last, last).status, &[11, 12, 9]),
+            (raw::keep_alive_meters(&mut out, last % 40, last).status, &[9]),
+        ];
+        for (status, may) in statuses {
+            self.totals.note("orders", status, may);
+        }
+        must("is_utf8", raw::is_utf8(&text) == std::str::from_utf8(&text).is_ok());
+        if let Ok(text) = std::str::from_utf8(&text) {
+            let mut mirror = self.mirrors[0].clone();
+            self.totals.of("set", mirror.set(id, Value::from(text)), &[10, 6]);
+        }
+    }
+
+    fn one(&mut self) {
+        match self.dice.below(7) {
+            0 => self.state(),
+            1 => self.table(),
+            2 => self.stream(),
+            3 => self.definition(),
+            4 => self.packet(),
+            5 => self.saved(),
+            _ => self.orders(),
+        }
+    }
+}
+
+fn main() {
+    let words: Vec<u64> = std::env::args().skip(1).filter_map(|word| word.parse().ok()).collect();
+    let [number, seed] = words[..] else { fault("damage", "N SEED") };
+    let mut pool = Pool::new(seed);
+    for _ in 0..number {
+        pool.one();
+    }
+    let totals = pool.totals;
+    let each: String = (1..15).map(|n| format!(", {} refused with {n}", totals.refused[n])).collect();
+    println!("{number} damaged buffers: {} answers{each}", totals.values);
+    if number >= 20_000 && totals.refused[1..].contains(&0) {
+        fault("damage", "a refusal that never came: the buffers are not damaged enough");
+    }
+}

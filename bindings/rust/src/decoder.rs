@@ -1,0 +1,125 @@
+use crate::mirror::{fresh_state, value_of};
+use crate::raw;
+use crate::{Definition, Refusal, Value, BODY_LIMIT, FEED_MAX};
+
+/// What a console says: libwing's `WingResponse`.
+#[derive(Clone, Debug, PartialEq, Eq)]
+pub enum Event {
+    /// A node and its value: libwing's `NodeData`.
+    Value(i32, Value),
+    /// What a node is: libwing's `NodeDef`.
+    Definition(Definition),
+    /// The end of an answer: libwing's `RequestEnd`.
+    End,
+}
+
+/// Events one by one, over bytes that come in any pieces.
+///
+/// ```
+/// use whistleloam::{Decoder, Event, Value};
+///
+/// let mut decoder = Decoder::new();
+/// // The integer is not whole yet.
+/// assert_eq!(decoder.events(&[0xd7, 0, 0, 0, 7, 0xd3, 0xff]).count(), 0);
+/// let events: Vec<_> = decoder.events(&[0xfe, 0xde]).collect();
+/// assert_eq!(events, [Ok(Event::Value(7, Value::Int(-2))), Ok(Event::End)]);
+/// ```
+#[derive(Clone)]
+pub struct Decoder {
+    state: Box<[u8]>,
+    out: Box<[u8]>,
+    node: i32,
+}
+
+impl Decoder {
+    /// A decoder at the start of a connection.
+    pub fn new() -> Decoder {
+        Decoder { state: fresh_state(), out: store(), node: 0 }
+    }
+
+    /// The next event of these bytes, and how many of them it took; none when more bytes are wanted, and then all are
+    /// taken. Go on with the bytes that were not taken.
+    ///
+    /// Refusals 1 to 5 say what the bytes held: a string or definition that cannot be read. It is taken like an event,
+    /// and the reading goes on after it. Refused: 14, over 65,536 bytes, which takes nothing.
+    pub fn next(&mut self, bytes: &[u8]) -> (Result<Option<Event>, Refusal>, usize) {
+        let got = raw::next(&mut self.state, bytes, &mut self.out);
+        self.node = got.node;
+        (self.event(got), got.taken)
+    }
+
+    fn event(&self, got: raw::WingEvent) -> Result<Option<Event>, Refusal> {
+        if Refusal::check(got.status)? == 0 {
+            return Ok(None);
+        }
+        Ok(Some(match got.kind {
+            0..=2 => Event::Value(got.node, value_of(got.kind, got.value, got.len, &self.out)?),
+            3 => Event::Definition(Definition::from_bytes(&self.out[..BODY_LIMIT.min(got.len.into())])?),
+            _ => Event::End,
+        }))
+    }
+
+    /// The events of a piece of any length, in order. What is not whole at its end waits for the next piece. Where it
+    /// is dropped before its end, the rest of the piece is not read.
+    pub fn events<'a>(&'a mut self, bytes: &'a [u8]) -> Events<'a> {
+        Events { decoder: self, bytes, ended: false }
+    }
+
+    /// The current node: the one that the next value belongs to.
+    pub fn node(&self) -> i32 {
+        self.node
+    }
+
+    /// The state's bytes (4,123), to be kept: a half-read token is in them.
+    pub fn save(&self) -> Vec<u8> {
+        self.state.to_vec()
+    }
+
+    /// The decoder whose state was saved. Refused: 8.
+    pub fn restore(saved: &[u8]) -> Result<Decoder, Refusal> {
+        Refusal::check(raw::state_check(saved))?;
+        let mut decoder = Decoder { state: saved.into(), out: store(), node: 0 };
+        // A call without an output is refused (9), so that it alters nothing; it tells the node nevertheless.
+        decoder.node = raw::next(&mut decoder.state, &[], &mut []).node;
+        Ok(decoder)
+    }
+}
+
+fn store() -> Box<[u8]> {
+    vec![0; BODY_LIMIT].into_boxed_slice()
+}
+
+impl Default for Decoder {
+    fn default() -> Decoder {
+        Decoder::new()
+    }
+}
+
+/// The events of a piece.
+pub struct Events<'a> {
+    decoder: &'a mut Decoder,
+    bytes: &'a [u8],
+    ended: bool,
+}
+
+impl Iterator for Events<'_> {
+    type Item = Result<Event, Refusal>;
+
+    fn next(&mut self) -> Option<Result<Event, Refusal>> {
+        while !self.ended {
+            let most = self.bytes.len().min(FEED_MAX);
+            let (event, taken) = self.decoder.next(&self.bytes[..most]);
+            self.bytes = &self.bytes[taken..];
+            match event {
+                Ok(Some(event)) => return Some(Ok(event)),
+                Err(why) => {
+                    // Another than 1 to 5 takes nothing and would come for ever. None does: the state is the decoder's own.
+                    self.ended = why > Refusal::DEFINITION_STRING;
+                    return Some(Err(why));
+                }
+                Ok(None) => self.ended = self.bytes.is_empty(),
+            }
+        }
+        None
+    }
+}

@@ -1,0 +1,569 @@
+//! The library's calls over buffers of the caller's own: slices and numbers in, the answer's numbers out.
+//!
+//! [`Mirror`](crate::Mirror), [`Decoder`](crate::Decoder) and the rest of this crate are made of these. They are for a
+//! box that keeps its memory itself: whatever the slices hold, a call answers or refuses, and a refused one has changed
+//! nothing. A status is 0 (1 where that is said) or a refusal's number with a minus sign
+//! ([`Refusal::check`](crate::Refusal::check) tells them apart). `include/wing.h` says the same for C.
+//!
+//! This is the crate's only file with `unsafe` in it. Each function hands over slices as a pointer and a length; Rust's
+//! borrows say that the memory is there, that it is initialised, and that what is written is borrowed by nobody else.
+#![allow(unsafe_code)]
+
+/// A command.
+#[repr(C)]
+#[derive(Clone, Copy, Debug, PartialEq, Eq)]
+pub struct WingWritten {
+    /// 0, or a refusal.
+    pub status: i32,
+    /// How many bytes stand at the front of the output; those after them are as they were.
+    pub len: usize,
+}
+
+/// A set through the mirror.
+#[repr(C)]
+#[derive(Clone, Copy, Debug, PartialEq, Eq)]
+pub struct WingSet {
+    /// 0, or a refusal.
+    pub status: i32,
+    /// How many bytes of the output to send.
+    pub len: usize,
+    /// The records there are now; refused: as it was lent.
+    pub count: usize,
+}
+
+/// A feed. What the console sends is never a reason to refuse it: what cannot be stored is counted.
+#[repr(C)]
+#[derive(Clone, Copy, Debug, PartialEq, Eq)]
+pub struct WingFed {
+    /// 0, or a refusal.
+    pub status: i32,
+    /// Values stored.
+    pub stored: u32,
+    /// Values of new nodes, with no place left.
+    pub unplaced: u32,
+    /// Strings that are not UTF-8.
+    pub strings_refused: u32,
+    /// Definitions that the parser takes.
+    pub definitions_read: u32,
+    /// Definitions with refusal 2 to 5.
+    pub definitions_refused: u32,
+    /// Ends of an answer.
+    pub ends: u32,
+    /// The records there are now; refused: as it was lent.
+    pub count: usize,
+}
+
+/// A lookup.
+#[repr(C)]
+#[derive(Clone, Copy, Debug, PartialEq, Eq)]
+pub struct WingLookup {
+    /// 1 found, 0 none, or a refusal.
+    pub status: i32,
+    /// The record's number, from 0; 0 if none.
+    pub number: usize,
+}
+
+/// A record.
+#[repr(C)]
+#[derive(Clone, Copy, Debug, PartialEq, Eq)]
+pub struct WingRecord {
+    /// 0, or a refusal.
+    pub status: i32,
+    /// Its node.
+    pub id: i32,
+    /// The 32 bits of an integer (two's complement) or a float; 0 for a string.
+    pub value: u32,
+    /// A string's bytes; 0 for numbers.
+    pub len: u16,
+    /// `KIND_INTEGER`, `KIND_FLOAT` or `KIND_STRING`.
+    pub kind: u8,
+    /// The string, then bytes of 0.
+    pub string: [u8; 256],
+}
+
+/// An event of the decoder.
+#[repr(C)]
+#[derive(Clone, Copy, Debug, PartialEq, Eq)]
+pub struct WingEvent {
+    /// 1 an event, 0 more bytes are wanted, or a refusal.
+    pub status: i32,
+    /// The current node, to which a value belongs; 0 with refusal 8.
+    pub node: i32,
+    /// The 32 bits of an integer or a float; else 0.
+    pub value: u32,
+    /// The bytes of a string or a body, at the front of the output; else 0.
+    pub len: u16,
+    /// `KIND_INTEGER` to `KIND_END`.
+    pub kind: u8,
+    /// How many of the bytes this call took; go on from there.
+    pub taken: usize,
+}
+
+/// A meter request.
+#[repr(C)]
+#[derive(Clone, Copy, Debug, PartialEq, Eq)]
+pub struct WingRequested {
+    /// 0, or a refusal.
+    pub status: i32,
+    /// The new meter id: the last id of the next request.
+    pub id: u16,
+    /// How many bytes of the output to send.
+    pub len: usize,
+}
+
+/// A meter packet.
+#[repr(C)]
+#[derive(Clone, Copy, Debug, PartialEq, Eq)]
+pub struct WingMeters {
+    /// 0, or a refusal.
+    pub status: i32,
+    /// The meter id of the request that it answers.
+    pub id: u16,
+    /// How many readings stand at the front of the output.
+    pub count: usize,
+}
+
+/// A definition. What its type has not is 0.
+#[repr(C)]
+#[derive(Clone, Copy, Debug, PartialEq, Eq)]
+pub struct WingDefinition {
+    /// 0, or a refusal.
+    pub status: i32,
+    /// The node above.
+    pub parent_id: i32,
+    /// The node.
+    pub id: i32,
+    /// Its number below the parent.
+    pub index: u16,
+    /// `TYPE_NODE` to `TYPE_STRING`.
+    pub node_type: u8,
+    /// `UNIT_NONE` to `UNIT_OCTAVES`.
+    pub unit: u8,
+    /// Whether a set order has no effect.
+    pub read_only: bool,
+    /// How many items, of the two enum types.
+    pub count: u16,
+    /// The longest string, of type string.
+    pub max_len: u16,
+    /// The least value: 32 bits of a float (types 1, 2) or of an integer (4).
+    pub min: u32,
+    /// The greatest value, likewise.
+    pub max: u32,
+    /// The number of steps (types 1, 2).
+    pub steps: i32,
+    /// The name's bytes.
+    pub name_len: u32,
+    /// The long name's bytes.
+    pub long_name_len: u32,
+    /// Where in the body the name stands; it is UTF-8.
+    pub name_start: usize,
+    /// Where the long name stands.
+    pub long_name_start: usize,
+    /// Where the first item stands, of the two enum types.
+    pub first_item: usize,
+}
+
+/// A walk over items.
+#[repr(C)]
+#[derive(Clone, Copy, Debug, PartialEq, Eq)]
+pub struct WingWalk {
+    /// 0, or a refusal.
+    pub status: i32,
+    /// The items left.
+    pub left: u16,
+    /// The type.
+    pub node_type: u8,
+    /// The place in the body reached.
+    pub at: usize,
+}
+
+/// An item.
+#[repr(C)]
+#[derive(Clone, Copy, Debug, PartialEq, Eq)]
+pub struct WingItem {
+    /// 1 an item, 0 none, or a refusal.
+    pub status: i32,
+    /// `ITEM_STRINGS`: two strings; `ITEM_FLOAT`: float bits and a string.
+    pub kind: u8,
+    /// The float's bits; else 0.
+    pub bits: u32,
+    /// The short string's bytes; 0 for a float.
+    pub len: u32,
+    /// The long string's bytes.
+    pub long_len: u32,
+    /// Where in the body the short string stands; 0 for a float.
+    pub start: usize,
+    /// Where the long string stands.
+    pub long_start: usize,
+}
+
+/// A step of a walk.
+#[repr(C)]
+#[derive(Clone, Copy, Debug, PartialEq, Eq)]
+pub struct WingStep {
+    /// The item there.
+    pub item: WingItem,
+    /// The walk after it; where the item is a refusal, the walk as it was. Its status is always 0.
+    pub walk: WingWalk,
+}
+
+/// The declarations as the archive has them; `bindings/check` holds them against its sources.
+mod library {
+    use super::*;
+
+    extern "C" {
+        pub fn wing_state_fresh(state: *mut u8, state_len: usize) -> WingWritten;
+        pub fn wing_state_check(state: *const u8, state_len: usize) -> i32;
+        pub fn wing_next(
+            state: *mut u8,
+            state_len: usize,
+            bytes: *const u8,
+            bytes_len: usize,
+            out: *mut u8,
+            out_len: usize,
+        ) -> WingEvent;
+        pub fn wing_table_check(table: *const u8, table_len: usize, count: usize) -> i32;
+        pub fn wing_feed(
+            state: *mut u8,
+            state_len: usize,
+            table: *mut u8,
+            table_len: usize,
+            count: usize,
+            bytes: *const u8,
+            bytes_len: usize,
+        ) -> WingFed;
+        pub fn wing_set_int(
+            table: *mut u8,
+            table_len: usize,
+            count: usize,
+            out: *mut u8,
+            out_len: usize,
+            id: i32,
+            value: i32,
+        ) -> WingSet;
+        pub fn wing_set_float(
+            table: *mut u8,
+            table_len: usize,
+            count: usize,
+            out: *mut u8,
+            out_len: usize,
+            id: i32,
+            bits: u32,
+        ) -> WingSet;
+        pub fn wing_set_string(
+            table: *mut u8,
+            table_len: usize,
+            count: usize,
+            out: *mut u8,
+            out_len: usize,
+            id: i32,
+            value: *const u8,
+            value_len: usize,
+        ) -> WingSet;
+        pub fn wing_recall(
+            table: *const u8,
+            table_len: usize,
+            count: usize,
+            out: *mut u8,
+            out_len: usize,
+        ) -> WingWritten;
+        pub fn wing_lookup(table: *const u8, table_len: usize, count: usize, id: i32) -> WingLookup;
+        pub fn wing_record(table: *const u8, table_len: usize, count: usize, number: usize) -> WingRecord;
+        pub fn wing_same(a: *const u8, a_len: usize, count_a: usize, b: *const u8, b_len: usize, count_b: usize)
+            -> i32;
+        pub fn wing_definition(body: *const u8, body_len: usize) -> WingDefinition;
+        pub fn wing_items_begin(body: *const u8, body_len: usize) -> WingWalk;
+        pub fn wing_item_step(body: *const u8, body_len: usize, at: usize, left: u16, node_type: u8) -> WingStep;
+        pub fn wing_item(body: *const u8, body_len: usize, number: usize) -> WingItem;
+        pub fn wing_order_int(out: *mut u8, out_len: usize, id: i32, value: i32) -> WingWritten;
+        pub fn wing_order_float(out: *mut u8, out_len: usize, id: i32, bits: u32) -> WingWritten;
+        pub fn wing_order_string(
+            out: *mut u8,
+            out_len: usize,
+            id: i32,
+            value: *const u8,
+            value_len: usize,
+        ) -> WingWritten;
+        pub fn wing_request_node_definition(out: *mut u8, out_len: usize, id: i32) -> WingWritten;
+        pub fn wing_request_node_data(out: *mut u8, out_len: usize, id: i32) -> WingWritten;
+        pub fn wing_request_meter(
+            out: *mut u8,
+            out_len: usize,
+            meters: *const u8,
+            meters_len: usize,
+            port: u16,
+            last_id: u16,
+        ) -> WingRequested;
+        pub fn wing_keep_alive_meters(out: *mut u8, out_len: usize, last_id: u16, port: u16) -> WingWritten;
+        pub fn wing_read_meters(packet: *const u8, packet_len: usize, out: *mut i16, out_len: usize) -> WingMeters;
+        pub fn wing_is_utf8(s: *const u8, s_len: usize) -> bool;
+    }
+}
+
+/// Lays a fresh decoder state into the output (`STATE_SIZE` bytes). Lent to be written: state.
+///
+/// Refused: 9.
+pub fn state_fresh(state: &mut [u8]) -> WingWritten {
+    // SAFETY: `state` is borrowed for this call alone. The call stays within the lengths and keeps
+    // no address.
+    unsafe { library::wing_state_fresh(state.as_mut_ptr(), state.len()) }
+}
+
+/// Whether the bytes are those of a sound state, as a call left them: 0. Lent to be read: state.
+///
+/// Refused: 8 (also for any other length than `STATE_SIZE`).
+pub fn state_check(state: &[u8]) -> i32 {
+    // SAFETY: `state` is borrowed and only read. The call stays within the lengths and keeps no
+    // address.
+    unsafe { library::wing_state_check(state.as_ptr(), state.len()) }
+}
+
+/// The next event of a stream that comes in any pieces. Lent to be read: bytes (at most
+/// `FEED_MAX`); to be written: state, and out (at least `BODY_LIMIT` bytes), at whose front a
+/// string's or body's bytes stand after an event of that kind, those after them as they were. Call
+/// it again with the bytes from `taken` on until the status is 0 (all bytes are taken then); a call
+/// with no bytes can give an event too. Status 1 is an event.
+///
+/// Refused: 8, 14, 9, which leave all as it was. 1, 2 and 3 say what the bytes held: the token is
+/// taken, the node stays, go on.
+pub fn next(state: &mut [u8], bytes: &[u8], out: &mut [u8]) -> WingEvent {
+    // SAFETY: `state` and `out` are borrowed for this call alone; `bytes` is borrowed and only
+    // read. The call stays within the lengths and keeps no address.
+    unsafe {
+        library::wing_next(state.as_mut_ptr(), state.len(), bytes.as_ptr(), bytes.len(), out.as_mut_ptr(), out.len())
+    }
+}
+
+/// Whether a table and its count are such as every call below takes: 0. Lent to be read: table.
+///
+/// Refused: 7.
+pub fn table_check(table: &[u8], count: usize) -> i32 {
+    // SAFETY: `table` is borrowed and only read. The call stays within the lengths and keeps no
+    // address.
+    unsafe { library::wing_table_check(table.as_ptr(), table.len(), count) }
+}
+
+/// Takes the console's bytes, at most `FEED_MAX` at a time, broken off anywhere, and stores the
+/// last value of each node. Lent to be read: bytes; to be written: state, table. Go on with the
+/// count that comes back.
+///
+/// Refused: 8, 7, 14.
+pub fn feed(state: &mut [u8], table: &mut [u8], count: usize, bytes: &[u8]) -> WingFed {
+    // SAFETY: `state` and `table` are borrowed for this call alone; `bytes` is borrowed and only
+    // read. The call stays within the lengths and keeps no address.
+    unsafe {
+        library::wing_feed(
+            state.as_mut_ptr(),
+            state.len(),
+            table.as_mut_ptr(),
+            table.len(),
+            count,
+            bytes.as_ptr(),
+            bytes.len(),
+        )
+    }
+}
+
+/// Sets a node: stores the value and writes the order to send (at most `SET_NUMBER_MAX` bytes).
+/// Lent to be written: table, out.
+///
+/// Refused: 7, 6, 9.
+pub fn set_int(table: &mut [u8], count: usize, out: &mut [u8], id: i32, value: i32) -> WingSet {
+    // SAFETY: `table` and `out` are borrowed for this call alone. The call stays within the
+    // lengths and keeps no address.
+    unsafe { library::wing_set_int(table.as_mut_ptr(), table.len(), count, out.as_mut_ptr(), out.len(), id, value) }
+}
+
+/// The same for a float, by its 32 bits.
+///
+/// Refused: 7, 6, 9.
+pub fn set_float(table: &mut [u8], count: usize, out: &mut [u8], id: i32, bits: u32) -> WingSet {
+    // SAFETY: `table` and `out` are borrowed for this call alone. The call stays within the
+    // lengths and keeps no address.
+    unsafe { library::wing_set_float(table.as_mut_ptr(), table.len(), count, out.as_mut_ptr(), out.len(), id, bits) }
+}
+
+/// The same for a string of at most `STRING_MAX` bytes, in UTF-8 (an order of at most
+/// `SET_STRING_MAX` bytes). Lent to be read: value; to be written: table, out.
+///
+/// Refused: 7, 10, 1, 6, 9.
+pub fn set_string(table: &mut [u8], count: usize, out: &mut [u8], id: i32, value: &[u8]) -> WingSet {
+    // SAFETY: `table` and `out` are borrowed for this call alone; `value` is borrowed and only
+    // read. The call stays within the lengths and keeps no address.
+    unsafe {
+        library::wing_set_string(
+            table.as_mut_ptr(),
+            table.len(),
+            count,
+            out.as_mut_ptr(),
+            out.len(),
+            id,
+            value.as_ptr(),
+            value.len(),
+        )
+    }
+}
+
+/// Writes what sets a console to every record: df d1, then the set order of each in order (at most
+/// `RECALL_MAX` bytes). Lent to be read: table; to be written: out.
+///
+/// Refused: 7, 9.
+pub fn recall(table: &[u8], count: usize, out: &mut [u8]) -> WingWritten {
+    // SAFETY: `out` is borrowed for this call alone; `table` is borrowed and only read. The call
+    // stays within the lengths and keeps no address.
+    unsafe { library::wing_recall(table.as_ptr(), table.len(), count, out.as_mut_ptr(), out.len()) }
+}
+
+/// The number of a node's record (status 1), or none (0). Lent to be read: table.
+///
+/// Refused: 7.
+pub fn lookup(table: &[u8], count: usize, id: i32) -> WingLookup {
+    // SAFETY: `table` is borrowed and only read. The call stays within the lengths and keeps no
+    // address.
+    unsafe { library::wing_lookup(table.as_ptr(), table.len(), count, id) }
+}
+
+/// A record by its number, from 0; they stand in rising order of their signed ids. Lent to be read:
+/// table.
+///
+/// Refused: 7, 14.
+pub fn record(table: &[u8], count: usize, number: usize) -> WingRecord {
+    // SAFETY: `table` is borrowed and only read. The call stays within the lengths and keeps no
+    // address.
+    unsafe { library::wing_record(table.as_ptr(), table.len(), count, number) }
+}
+
+/// 1 if two mirrors are equal, count and records, else 0; the places and the decoders do not
+/// matter. Lent to be read: a, b.
+///
+/// Refused: 7 (for either).
+pub fn same(a: &[u8], count_a: usize, b: &[u8], count_b: usize) -> i32 {
+    // SAFETY: `a` and `b` are borrowed and only read. The call stays within the lengths and keeps
+    // no address.
+    unsafe { library::wing_same(a.as_ptr(), a.len(), count_a, b.as_ptr(), b.len(), count_b) }
+}
+
+/// The fields of a definition's body, and where its names stand in it. Lent to be read: body.
+///
+/// Refused: 4, 5, by the first field that fails.
+pub fn definition(body: &[u8]) -> WingDefinition {
+    // SAFETY: `body` is borrowed and only read. The call stays within the lengths and keeps no
+    // address.
+    unsafe { library::wing_definition(body.as_ptr(), body.len()) }
+}
+
+/// A walk over the body's items, at the first one; a type without items has none left. Lent to be
+/// read: body.
+///
+/// Refused: 4, 5.
+pub fn items_begin(body: &[u8]) -> WingWalk {
+    // SAFETY: `body` is borrowed and only read. The call stays within the lengths and keeps no
+    // address.
+    unsafe { library::wing_items_begin(body.as_ptr(), body.len()) }
+}
+
+/// One step of a walk: the item there (its status 1, or 0 for none) and the walk after it. Lent to
+/// be read: body; at, left and node_type are those of the walk. Whatever they are, the call stays
+/// within the body; a type over 7 counts as type 0.
+///
+/// Refused (the item's status): 4, 5.
+pub fn item_step(body: &[u8], at: usize, left: u16, node_type: u8) -> WingStep {
+    // SAFETY: `body` is borrowed and only read. The call stays within the lengths and keeps no
+    // address.
+    unsafe { library::wing_item_step(body.as_ptr(), body.len(), at, left, node_type) }
+}
+
+/// An item by its number, from 0 (status 1). Lent to be read: body.
+///
+/// Refused: 4, 5, 14.
+pub fn item(body: &[u8], number: usize) -> WingItem {
+    // SAFETY: `body` is borrowed and only read. The call stays within the lengths and keeps no
+    // address.
+    unsafe { library::wing_item(body.as_ptr(), body.len(), number) }
+}
+
+/// A set order alone (at most `SET_NUMBER_MAX` bytes). Lent to be written: out.
+///
+/// Refused: 9.
+pub fn order_int(out: &mut [u8], id: i32, value: i32) -> WingWritten {
+    // SAFETY: `out` is borrowed for this call alone. The call stays within the lengths and keeps
+    // no address.
+    unsafe { library::wing_order_int(out.as_mut_ptr(), out.len(), id, value) }
+}
+
+/// The same for a float, by its 32 bits.
+///
+/// Refused: 9.
+pub fn order_float(out: &mut [u8], id: i32, bits: u32) -> WingWritten {
+    // SAFETY: `out` is borrowed for this call alone. The call stays within the lengths and keeps
+    // no address.
+    unsafe { library::wing_order_float(out.as_mut_ptr(), out.len(), id, bits) }
+}
+
+/// The same for a string (at most `SET_STRING_MAX` bytes). Lent to be read: value; to be written:
+/// out.
+///
+/// Refused: 10, 1, 9.
+pub fn order_string(out: &mut [u8], id: i32, value: &[u8]) -> WingWritten {
+    // SAFETY: `out` is borrowed for this call alone; `value` is borrowed and only read. The call
+    // stays within the lengths and keeps no address.
+    unsafe { library::wing_order_string(out.as_mut_ptr(), out.len(), id, value.as_ptr(), value.len()) }
+}
+
+/// Asks for a node's definition (at most `REQUEST_MAX` bytes); id 0 is the root. Lent to be
+/// written: out.
+///
+/// Refused: 9.
+pub fn request_node_definition(out: &mut [u8], id: i32) -> WingWritten {
+    // SAFETY: `out` is borrowed for this call alone. The call stays within the lengths and keeps
+    // no address.
+    unsafe { library::wing_request_node_definition(out.as_mut_ptr(), out.len(), id) }
+}
+
+/// Asks for a node's data, likewise.
+///
+/// Refused: 9.
+pub fn request_node_data(out: &mut [u8], id: i32) -> WingWritten {
+    // SAFETY: `out` is borrowed for this call alone. The call stays within the lengths and keeps
+    // no address.
+    unsafe { library::wing_request_node_data(out.as_mut_ptr(), out.len(), id) }
+}
+
+/// Asks for meters, whose packets go to a UDP port (at most `METER_REQUEST_MAX` bytes). Lent to be
+/// read: meters, pairs of bytes, a kind (`METER_CHANNEL` to `METER_MATRIX2`; any other is rta) and
+/// an index, which stands with monitor and rta too and is ignored there; an odd last byte is
+/// dropped. Lent to be written: out. The new meter id is last_id + 1; last_id is 0 at first.
+///
+/// Refused: 11, 12, 9.
+pub fn request_meter(out: &mut [u8], meters: &[u8], port: u16, last_id: u16) -> WingRequested {
+    // SAFETY: `out` is borrowed for this call alone; `meters` is borrowed and only read. The call
+    // stays within the lengths and keeps no address.
+    unsafe { library::wing_request_meter(out.as_mut_ptr(), out.len(), meters.as_ptr(), meters.len(), port, last_id) }
+}
+
+/// Keeps the requests of the ids last_id to 1 alive (at most `KEEP_ALIVE_MAX` bytes). Lent to be
+/// written: out.
+///
+/// Refused: 9.
+pub fn keep_alive_meters(out: &mut [u8], last_id: u16, port: u16) -> WingWritten {
+    // SAFETY: `out` is borrowed for this call alone. The call stays within the lengths and keeps
+    // no address.
+    unsafe { library::wing_keep_alive_meters(out.as_mut_ptr(), out.len(), last_id, port) }
+}
+
+/// The readings of a meter packet (at most `READINGS_MAX`). Lent to be read: packet; to be written:
+/// out, whose length counts readings.
+///
+/// Refused: 13, 9.
+pub fn read_meters(packet: &[u8], out: &mut [i16]) -> WingMeters {
+    // SAFETY: `out` is borrowed for this call alone; `packet` is borrowed and only read. The call
+    // stays within the lengths and keeps no address.
+    unsafe { library::wing_read_meters(packet.as_ptr(), packet.len(), out.as_mut_ptr(), out.len()) }
+}
+
+/// Whether the bytes are UTF-8 (RFC 3629). Lent to be read: s. Never refused.
+pub fn is_utf8(s: &[u8]) -> bool {
+    // SAFETY: `s` is borrowed and only read. The call stays within the lengths and keeps no
+    // address.
+    unsafe { library::wing_is_utf8(s.as_ptr(), s.len()) }
+}

@@ -1,0 +1,73 @@
+//! The last value of each node of a WING mixing console, set orders and recall, by a proved library.
+//!
+//! A console sends node readings down one connection. A [`Mirror`] takes these bytes as they come, broken off
+//! anywhere, and keeps the last value of each node; [`Mirror::set`] stores a value and gives the bytes to send;
+//! [`Mirror::recall`] gives the bytes that set a console to everything the mirror holds. The work is done by calls of
+//! a library that is proved against rules a person can read (README.md of the repository says what is proved);
+//! this crate hands slices over and turns the answers into Rust's types. Sockets, timers and threads are the box's.
+//!
+//! ```
+//! use whistleloam::{Mirror, Value};
+//!
+//! # fn main() -> Result<(), whistleloam::Refusal> {
+//! let mut mirror = Mirror::new(128)?;
+//! // Whatever the console's connection gave, in whatever pieces: node 1 is 5, and the front of node 2's name.
+//! mirror.feed(&[0xdf, 0xd1, 0xd7, 0, 0, 0, 1, 5, 0xd7, 0, 0])?;
+//! mirror.feed(&[0, 2, 0x81, 0x41, 0x42])?;
+//! assert_eq!(mirror.get(1), Some(Value::Int(5)));
+//! assert_eq!(mirror.get(2), Some(Value::from("AB")));
+//!
+//! // The engineer sets a strip: send these bytes to the console.
+//! let order = mirror.set(7, 63)?;
+//! assert_eq!(order, [0xd7, 0, 0, 0, 7, 0x3f]);
+//!
+//! // Between two shows everything goes back. Another mirror that is fed it is equal.
+//! let mut other = Mirror::new(128)?;
+//! other.feed(&mirror.recall()?)?;
+//! assert!(mirror == other);
+//! # Ok(())
+//! # }
+//! ```
+//!
+//! To see each event rather than the last values, there is [`Decoder`]; for what a node is, [`Definition`]. Requests,
+//! set orders without a mirror and meters are functions of this module. [`raw`] has the calls over your own buffers.
+//!
+//! No call panics, whatever the bytes. A call that cannot be done answers a [`Refusal`] and has changed nothing.
+#![deny(unsafe_code)]
+#![deny(missing_docs)]
+
+mod commands;
+mod decoder;
+mod definition;
+mod mirror;
+#[path = "ffi.rs"]
+pub mod raw;
+mod refusal;
+mod value;
+
+pub use commands::{
+    is_utf8, keep_alive_meters, read_meters, request_meter, request_node_data, request_node_definition, set_float,
+    set_int, set_string, Meter,
+};
+pub use decoder::{Decoder, Event, Events};
+pub use definition::{Definition, Details, Item, Items, NodeType, NodeUnit};
+pub use mirror::{Counts, Mirror, Records};
+pub use refusal::Refusal;
+pub use value::Value;
+
+/// The bytes of a decoder state.
+pub const STATE_SIZE: usize = 4123;
+/// The bytes of a record's place in a table.
+pub const PLACE_WIDTH: usize = 264;
+/// The most places of a table.
+pub const PLACES_MAX: usize = 1024;
+/// The most bytes of a definition's body.
+pub const BODY_LIMIT: usize = 4096;
+/// The most bytes of one feed.
+pub const FEED_MAX: usize = 65536;
+/// The most bytes of a string.
+pub const STRING_MAX: usize = 256;
+/// The most bytes of a set order: of one for a string, 256 times df.
+pub const SET_MAX: usize = 395;
+/// The most meters of one request.
+pub const METERS_MAX: usize = 64;

@@ -1,0 +1,269 @@
+use crate::raw;
+use crate::{Refusal, Value, PLACES_MAX, PLACE_WIDTH, SET_MAX, STATE_SIZE};
+use std::fmt;
+
+/// The last value of each node: a decoder state, a table of places and the number of records in it.
+///
+/// Two mirrors are equal if their records are; places and decoders do not matter. Every call but [`Mirror::state`] and
+/// the like tests the whole table first, some 8 µs for 1,024 records, so bytes are best fed in large pieces.
+#[derive(Clone)]
+pub struct Mirror {
+    state: Box<[u8]>,
+    table: Box<[u8]>,
+    count: usize,
+}
+
+/// What the bytes of a feed held.
+#[derive(Clone, Copy, Debug, Default, PartialEq, Eq)]
+pub struct Counts {
+    /// Values stored.
+    pub stored: u32,
+    /// Values of new nodes, with no place left.
+    pub unplaced: u32,
+    /// Strings that are not UTF-8.
+    pub strings_refused: u32,
+    /// Definitions that the parser takes.
+    pub definitions_read: u32,
+    /// Definitions with refusal 2 to 5.
+    pub definitions_refused: u32,
+    /// Ends of an answer: libwing's `RequestEnd`.
+    pub ends: u32,
+}
+
+/// A fresh decoder state, made by the library.
+pub(crate) fn fresh_state() -> Box<[u8]> {
+    let mut state = vec![0; STATE_SIZE].into_boxed_slice();
+    let written = raw::state_fresh(&mut state);
+    debug_assert_eq!(written.len, STATE_SIZE, "the archive has states of another size");
+    state
+}
+
+/// The value of a kind 0 to 2; a string's bytes stand at the front of `text`.
+pub(crate) fn value_of(kind: u8, bits: u32, len: u16, text: &[u8]) -> Result<Value, Refusal> {
+    match kind {
+        0 => Ok(Value::Int(bits as i32)),
+        1 => Ok(Value::Float(bits)),
+        _ => {
+            // The library has tested the bytes; Rust's own test stands in for `unsafe`.
+            let bytes = text.get(..usize::from(len)).ok_or(Refusal::STRING_LONG)?;
+            let text = std::str::from_utf8(bytes).map_err(|_| Refusal::STRING)?;
+            Ok(Value::from(text))
+        }
+    }
+}
+
+impl Mirror {
+    /// A fresh mirror of 1 to 1,024 places. Refused: 7.
+    pub fn new(places: usize) -> Result<Mirror, Refusal> {
+        if !(1..=PLACES_MAX).contains(&places) {
+            return Err(Refusal::TABLE);
+        }
+        let table = vec![0; places * PLACE_WIDTH].into_boxed_slice();
+        Ok(Mirror { state: fresh_state(), table, count: 0 })
+    }
+
+    /// Takes the console's bytes, broken off anywhere, and stores the last value of each node. It allocates nothing.
+    ///
+    /// What the console sends is never a reason to refuse: what cannot be stored is counted. Refused: 14, over 65,536
+    /// bytes.
+    pub fn feed(&mut self, bytes: &[u8]) -> Result<Counts, Refusal> {
+        let fed = raw::feed(&mut self.state, &mut self.table, self.count, bytes);
+        Refusal::check(fed.status)?;
+        self.count = fed.count;
+        Ok(Counts {
+            stored: fed.stored,
+            unplaced: fed.unplaced,
+            strings_refused: fed.strings_refused,
+            definitions_read: fed.definitions_read,
+            definitions_refused: fed.definitions_refused,
+            ends: fed.ends,
+        })
+    }
+
+    /// Stores a value and gives the bytes to send to the console. Refused: 10, 6.
+    ///
+    /// ```
+    /// let mut mirror = whistleloam::Mirror::new(2)?;
+    /// assert_eq!(mirror.set(7, 223)?, [0xd7, 0, 0, 0, 7, 0xd3, 0, 0xdf, 0xde]);
+    /// mirror.set(8, -2.5)?;
+    /// assert_eq!(mirror.set(9, "Saal").unwrap_err().number(), 6);
+    /// # Ok::<(), whistleloam::Refusal>(())
+    /// ```
+    pub fn set(&mut self, id: i32, value: impl Into<Value>) -> Result<Vec<u8>, Refusal> {
+        let mut out = [0; SET_MAX];
+        let len = self.set_into(id, &value.into(), &mut out)?;
+        Ok(out[..len].to_vec())
+    }
+
+    /// The same into an output of yours; how many bytes of it to send. It allocates nothing. Refused: 10, 6, 9.
+    pub fn set_into(&mut self, id: i32, value: &Value, out: &mut [u8]) -> Result<usize, Refusal> {
+        let table = &mut self.table;
+        let set = match value {
+            Value::Int(x) => raw::set_int(table, self.count, out, id, *x),
+            Value::Float(bits) => raw::set_float(table, self.count, out, id, *bits),
+            Value::String(s) => raw::set_string(table, self.count, out, id, s.as_bytes()),
+        };
+        Refusal::check(set.status)?;
+        self.count = set.count;
+        Ok(set.len)
+    }
+
+    /// The bytes that set a console, or another mirror, to every value held here.
+    pub fn recall(&self) -> Result<Vec<u8>, Refusal> {
+        let mut out = vec![0; 2 + SET_MAX * self.count];
+        let len = self.recall_into(&mut out)?;
+        out.truncate(len);
+        Ok(out)
+    }
+
+    /// The same into an output of yours, of 2 bytes and up to 395 for each record. It allocates nothing. Refused: 9.
+    pub fn recall_into(&self, out: &mut [u8]) -> Result<usize, Refusal> {
+        let written = raw::recall(&self.table, self.count, out);
+        Refusal::check(written.status)?;
+        Ok(written.len)
+    }
+
+    /// The number of a node's record, if it has one.
+    pub fn lookup(&self, id: i32) -> Option<usize> {
+        let found = raw::lookup(&self.table, self.count, id);
+        (found.status == 1).then_some(found.number)
+    }
+
+    /// The last value of a node, if there is one.
+    pub fn get(&self, id: i32) -> Option<Value> {
+        let (_, value) = self.record(self.lookup(id)?).ok()?;
+        Some(value)
+    }
+
+    /// The record of a number, from 0: its node and value. Refused: 14.
+    pub fn record(&self, number: usize) -> Result<(i32, Value), Refusal> {
+        let record = raw::record(&self.table, self.count, number);
+        Refusal::check(record.status)?;
+        let value = value_of(record.kind, record.value, record.len, &record.string)?;
+        Ok((record.id, value))
+    }
+
+    /// Every record, in rising order of the signed ids. Each step tests the table: a page of strips, not a hot loop.
+    pub fn records(&self) -> Records<'_> {
+        Records { mirror: self, number: 0 }
+    }
+
+    /// How many nodes have a value.
+    pub fn len(&self) -> usize {
+        self.count
+    }
+
+    /// Whether no node has a value.
+    pub fn is_empty(&self) -> bool {
+        self.count == 0
+    }
+
+    /// How many nodes there is room for.
+    pub fn places(&self) -> usize {
+        self.table.len() / PLACE_WIDTH
+    }
+
+    /// Everything as plain bytes, to be kept in a file: the decoder state (4,123 bytes, a half-read token in it), the
+    /// count and the places (4 bytes each, big-endian), then the records (264 bytes each: id 4, kind 1, a byte 0, length
+    /// 2, payload 256).
+    pub fn save(&self) -> Vec<u8> {
+        let mut out = self.state.to_vec();
+        out.extend_from_slice(&(self.count as u32).to_be_bytes());
+        out.extend_from_slice(&(self.places() as u32).to_be_bytes());
+        out.extend_from_slice(&self.table[..self.count * PLACE_WIDTH]);
+        out
+    }
+
+    /// The mirror that was saved. Refused: 8, if the bytes do not begin with a sound state; 7, if there are too few or
+    /// too many after it or they are no sound table.
+    pub fn restore(saved: &[u8]) -> Result<Mirror, Refusal> {
+        let state = saved.get(..STATE_SIZE).ok_or(Refusal::STATE)?;
+        Refusal::check(raw::state_check(state))?;
+        let rest = &saved[STATE_SIZE..];
+        let (count, places) = (number_at(rest, 0)?, number_at(rest, 4)?);
+        let records = &rest[8..];
+        if !(1..=PLACES_MAX).contains(&places) || count > places || records.len() != count * PLACE_WIDTH {
+            return Err(Refusal::TABLE);
+        }
+        let mut table = vec![0; places * PLACE_WIDTH];
+        table[..records.len()].copy_from_slice(records);
+        Mirror::from_parts(state, table, count)
+    }
+
+    /// A mirror of parts kept elsewhere, as [`state`](Mirror::state), [`table`](Mirror::table) and
+    /// [`count`](Mirror::count) gave them. Refused: 8, 7.
+    pub fn from_parts(state: &[u8], table: Vec<u8>, count: usize) -> Result<Mirror, Refusal> {
+        Refusal::check(raw::state_check(state))?;
+        Refusal::check(raw::table_check(&table, count))?;
+        Ok(Mirror { state: state.into(), table: table.into_boxed_slice(), count })
+    }
+
+    /// The decoder state's bytes.
+    pub fn state(&self) -> &[u8] {
+        &self.state
+    }
+
+    /// The table's bytes, those after the last record too.
+    pub fn table(&self) -> &[u8] {
+        &self.table
+    }
+
+    /// The number of records, the same as [`len`](Mirror::len).
+    pub fn count(&self) -> usize {
+        self.count
+    }
+}
+
+fn number_at(bytes: &[u8], at: usize) -> Result<usize, Refusal> {
+    let field = bytes.get(at..at + 4).ok_or(Refusal::TABLE)?;
+    Ok(field.iter().fold(0, |n, &b| n << 8 | usize::from(b)))
+}
+
+/// By the library's own call: count and records.
+impl PartialEq for Mirror {
+    fn eq(&self, other: &Mirror) -> bool {
+        raw::same(&self.table, self.count, &other.table, other.count) == 1
+    }
+}
+
+impl Eq for Mirror {}
+
+impl fmt::Debug for Mirror {
+    fn fmt(&self, f: &mut fmt::Formatter) -> fmt::Result {
+        write!(f, "Mirror of {} places ", self.places())?;
+        f.debug_map().entries(self.records()).finish()
+    }
+}
+
+impl<'a> IntoIterator for &'a Mirror {
+    type Item = (i32, Value);
+    type IntoIter = Records<'a>;
+
+    fn into_iter(self) -> Records<'a> {
+        self.records()
+    }
+}
+
+/// The records of a mirror, one by one.
+#[derive(Clone)]
+pub struct Records<'a> {
+    mirror: &'a Mirror,
+    number: usize,
+}
+
+impl Iterator for Records<'_> {
+    type Item = (i32, Value);
+
+    fn next(&mut self) -> Option<(i32, Value)> {
+        let record = self.mirror.record(self.number).ok()?;
+        self.number += 1;
+        Some(record)
+    }
+
+    fn size_hint(&self) -> (usize, Option<usize>) {
+        let left = self.mirror.count - self.number;
+        (left, Some(left))
+    }
+}
+
+impl ExactSizeIterator for Records<'_> {}

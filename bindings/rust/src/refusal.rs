@@ -1,0 +1,81 @@
+use std::fmt;
+
+/// Why a call was refused: a number of the rules' table 'What is sent back'.
+///
+/// A refused call has changed nothing. The exception are 1 to 5 where a [`Decoder`](crate::Decoder) gives them: they
+/// say what the bytes held, and the reading goes on after it.
+#[derive(Clone, Copy, Debug, PartialEq, Eq, Hash, PartialOrd, Ord)]
+pub struct Refusal(u8);
+
+impl Refusal {
+    /// 1: a string that is not UTF-8.
+    pub const STRING: Refusal = Refusal(1);
+    /// 2: a definition's count over 4,096.
+    pub const BODY_LONG: Refusal = Refusal(2);
+    /// 3: a definition's count 0.
+    pub const BODY_EMPTY: Refusal = Refusal(3);
+    /// 4: a definition's field past the end.
+    pub const DEFINITION_SHORT: Refusal = Refusal(4);
+    /// 5: a definition's string that is not UTF-8.
+    pub const DEFINITION_STRING: Refusal = Refusal(5);
+    /// 6: a new node, and no place left.
+    pub const NO_PLACE: Refusal = Refusal(6);
+    /// 7: a table that is not sound, or whose places are not 1 to 1,024.
+    pub const TABLE: Refusal = Refusal(7);
+    /// 8: bytes that are no sound decoder state's.
+    pub const STATE: Refusal = Refusal(8);
+    /// 9: an output too short for the whole.
+    pub const OUTPUT_SHORT: Refusal = Refusal(9);
+    /// 10: a string over 256 bytes.
+    pub const STRING_LONG: Refusal = Refusal(10);
+    /// 11: more than 64 meters.
+    pub const METERS: Refusal = Refusal(11);
+    /// 12: the last meter id is 65,535.
+    pub const METER_ID: Refusal = Refusal(12);
+    /// 13: a packet of fewer than 4 or more than 8,192 bytes.
+    pub const PACKET: Refusal = Refusal(13);
+    /// 14: more than 65,536 bytes, or an item or record number that is not below its count.
+    pub const NUMBER: Refusal = Refusal(14);
+
+    /// The number in the rules' table.
+    pub fn number(self) -> u8 {
+        self.0
+    }
+
+    /// The cause in words.
+    pub fn words(self) -> &'static str {
+        match self.0 {
+            1 => "a string is not UTF-8",
+            2 => "a definition's count is over 4,096",
+            3 => "a definition's count is 0",
+            4 => "a definition's field goes past the end",
+            5 => "a definition's string is not UTF-8",
+            6 => "a new node, and no place left",
+            7 => "the table is not sound or its places are not 1 to 1,024",
+            8 => "the state is not sound",
+            9 => "the output is too short for the whole",
+            10 => "a string is over 256 bytes",
+            11 => "more than 64 meters",
+            12 => "the last meter id is 65,535",
+            13 => "the packet does not have 4 to 8,192 bytes",
+            14 => "over 65,536 bytes, or an item or record number not below its count",
+            _ => "a number that the rules do not have",
+        }
+    }
+
+    /// A status of [`raw`](crate::raw): the refusal of one below 0, else the status.
+    pub fn check(status: i32) -> Result<i32, Refusal> {
+        if status < 0 {
+            return Err(Refusal(u8::try_from(status.unsigned_abs()).unwrap_or(u8::MAX)));
+        }
+        Ok(status)
+    }
+}
+
+impl fmt::Display for Refusal {
+    fn fmt(&self, f: &mut fmt::Formatter) -> fmt::Result {
+        write!(f, "refusal {}: {}", self.0, self.words())
+    }
+}
+
+impl std::error::Error for Refusal {}

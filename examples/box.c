@@ -1,0 +1,236 @@
+/* A recall box in small, in C: box CAPTURE [SEED], with samples/capture.bin for CAPTURE.
+ *
+ *     gcc -std=c99 -Wall -Wextra -Iinclude examples/box.c target/staticlib/libwing_c.a -o target/box
+ *
+ * A child process on 127.0.0.1 plays the console and sends the capture in pieces of random length. The box (show) keeps what it reads,
+ * sets some strips and recalls everything into a second box, a child too, over TCP. The second box sends its table back, and the first
+ * compares. Status 1 if they are not equal, or if the console did not get the strips. It ends within 20 seconds, whatever happens.
+ */
+#define _POSIX_C_SOURCE 200809L
+#include "wing.h"
+
+#include <arpa/inet.h>
+#include <netinet/in.h>
+#include <stdio.h>
+#include <stdlib.h>
+#include <string.h>
+#include <sys/socket.h>
+#include <sys/wait.h>
+#include <time.h>
+#include <unistd.h>
+
+#define PLACES 128
+#define SECONDS 20
+
+/* A mirror is three things that the box keeps. */
+typedef struct Mirror {
+    uint8_t state[WING_STATE_SIZE];
+    uint8_t table[PLACES * WING_PLACE_WIDTH];
+    size_t count;
+} Mirror;
+
+static void fail(const char *what)
+{
+    perror(what);
+    exit(1);
+}
+
+/* A status below 0 is a refusal. */
+static void check(int32_t status, const char *call)
+{
+    if (status < 0) {
+        fprintf(stderr, "%s: refusal %d\n", call, -status);
+        exit(1);
+    }
+}
+
+static void start(Mirror *m)
+{
+    check(wing_state_fresh(m->state, sizeof m->state).status, "wing_state_fresh");
+    m->count = 0;
+}
+
+static void send_all(int to, const uint8_t *bytes, size_t len)
+{
+    while (len > 0) {
+        ssize_t n = write(to, bytes, len);
+        if (n <= 0)
+            fail("write");
+        bytes += n;
+        len -= (size_t)n;
+    }
+}
+
+/* Feeds what comes until the other side hangs up. */
+static void listen_to(int from, Mirror *m)
+{
+    uint8_t bytes[700];
+    ssize_t n;
+    while ((n = read(from, bytes, sizeof bytes)) > 0) {
+        WingFed fed = wing_feed(m->state, sizeof m->state, m->table, sizeof m->table, m->count, bytes, (size_t)n);
+        check(fed.status, "wing_feed");
+        m->count = fed.count;
+        if (fed.unplaced > 0)
+            fprintf(stderr, "%u values have no place\n", (unsigned)fed.unplaced);
+    }
+    if (n < 0)
+        fail("read");
+}
+
+/* A set order's bytes go to the console; the value is stored. */
+static void send_set(int console, Mirror *m, WingSet set, const uint8_t *order)
+{
+    check(set.status, "wing_set");
+    m->count = set.count;
+    send_all(console, order, set.len);
+}
+
+static int connect_to(struct sockaddr_in address)
+{
+    int s = socket(AF_INET, SOCK_STREAM, 0);
+    if (s < 0 || connect(s, (struct sockaddr *)&address, sizeof address) != 0)
+        fail("connect");
+    return s;
+}
+
+/* The box: from connect to recall. Returns the connection to the second box. */
+static int show(Mirror *m, struct sockaddr_in console_at, struct sockaddr_in second_at)
+{
+    uint8_t order[WING_SET_STRING_MAX];
+    uint8_t recall[WING_RECALL_MAX(PLACES)];
+    const uint8_t start_bytes[] = {0xdf, 0xd1};
+    int console = connect_to(console_at);
+    send_all(console, start_bytes, sizeof start_bytes);
+    WingWritten asked = wing_request_node_data(order, sizeof order, 0);
+    check(asked.status, "wing_request_node_data");
+    send_all(console, order, asked.len);
+
+    start(m);
+    listen_to(console, m); /* this console hangs up; a real one goes on, and so does the box */
+
+    /* The engineer sets some strips: each is stored here and sent to the console. */
+    const char *name = "Sprecherin";
+    float level = -6.5f;
+    uint32_t bits;
+    memcpy(&bits, &level, sizeof bits);
+    send_set(console, m,
+             wing_set_string(m->table, sizeof m->table, m->count, order, sizeof order, 1000, (const uint8_t *)name, strlen(name)),
+             order);
+    send_set(console, m, wing_set_float(m->table, sizeof m->table, m->count, order, sizeof order, 2000, bits), order);
+    send_set(console, m, wing_set_int(m->table, sizeof m->table, m->count, order, sizeof order, 3000, 1), order);
+    close(console);
+
+    /* Between two shows: everything goes to another console, or as here to a second box. */
+    int second = connect_to(second_at);
+    WingWritten sent = wing_recall(m->table, sizeof m->table, m->count, recall, sizeof recall);
+    check(sent.status, "wing_recall");
+    send_all(second, recall, sent.len);
+    shutdown(second, SHUT_WR);
+    return second;
+}
+
+/* The console: it waits for the request, sends the capture in pieces, and then hears what is set. */
+static int play(int box, const uint8_t *capture, size_t len, unsigned seed)
+{
+    static Mirror heard;
+    uint8_t asked[4];
+    for (size_t got = 0; got < sizeof asked;) {
+        ssize_t n = read(box, asked + got, sizeof asked - got);
+        if (n <= 0)
+            fail("read");
+        got += (size_t)n;
+    }
+    for (size_t at = 0; at < len;) {
+        struct timespec wait = {0, 100000};
+        seed = seed * 1103515245u + 12345u;
+        size_t piece = 1 + seed / 65536 % 40;
+        piece = piece < len - at ? piece : len - at;
+        send_all(box, capture + at, piece);
+        at += piece;
+        nanosleep(&wait, NULL);
+    }
+    shutdown(box, SHUT_WR);
+    start(&heard);
+    listen_to(box, &heard);
+    WingRecord name = wing_record(heard.table, sizeof heard.table, heard.count, 0);
+    return heard.count == 3 && name.id == 1000 && name.len == 10 && memcmp(name.string, "Sprecherin", 10) == 0 ? 0 : 1;
+}
+
+/* The second box: it takes the recall, and sends back the records that it holds. */
+static int hold(int box)
+{
+    static Mirror m;
+    start(&m);
+    listen_to(box, &m);
+    send_all(box, m.table, m.count * WING_PLACE_WIDTH);
+    return 0;
+}
+
+/* A child that answers one connection, at a port that the system chooses. */
+static pid_t serve(struct sockaddr_in *at, const uint8_t *capture, size_t len, unsigned seed)
+{
+    socklen_t size = sizeof *at;
+    int listener = socket(AF_INET, SOCK_STREAM, 0);
+    memset(at, 0, sizeof *at);
+    at->sin_family = AF_INET;
+    at->sin_addr.s_addr = htonl(INADDR_LOOPBACK);
+    if (listener < 0 || bind(listener, (struct sockaddr *)at, sizeof *at) != 0 || listen(listener, 1) != 0 ||
+        getsockname(listener, (struct sockaddr *)at, &size) != 0)
+        fail("listen");
+    pid_t child = fork();
+    if (child < 0)
+        fail("fork");
+    if (child == 0) {
+        alarm(SECONDS);
+        int box = accept(listener, NULL, NULL);
+        if (box < 0)
+            fail("accept");
+        exit(capture != NULL ? play(box, capture, len, seed) : hold(box));
+    }
+    close(listener);
+    return child;
+}
+
+static int ended_well(pid_t child)
+{
+    int status;
+    return waitpid(child, &status, 0) == child && WIFEXITED(status) && WEXITSTATUS(status) == 0;
+}
+
+/* Whether the records that the second box sends until it hangs up are those of the first. */
+static int is_equal(int second, const Mirror *m)
+{
+    static uint8_t table[PLACES * WING_PLACE_WIDTH];
+    size_t len = 0;
+    ssize_t n;
+    while (len < sizeof table && (n = read(second, table + len, sizeof table - len)) > 0)
+        len += (size_t)n;
+    int32_t same = wing_same(m->table, sizeof m->table, m->count, table, sizeof table, len / WING_PLACE_WIDTH);
+    check(same, "wing_same");
+    return same == 1;
+}
+
+int main(int argc, char **argv)
+{
+    static Mirror mirror;
+    static uint8_t capture[WING_FEED_MAX];
+    struct sockaddr_in console_at, second_at;
+    FILE *file = argc > 1 ? fopen(argv[1], "rb") : NULL;
+    if (file == NULL)
+        fail(argc > 1 ? argv[1] : "box CAPTURE [SEED]");
+    size_t len = fread(capture, 1, sizeof capture, file);
+    fclose(file);
+    alarm(SECONDS);
+    pid_t console = serve(&console_at, capture, len, argc > 2 ? (unsigned)atoi(argv[2]) : 1);
+    pid_t second = serve(&second_at, NULL, 0, 0);
+    int answers = show(&mirror, console_at, second_at);
+    int equal = is_equal(answers, &mirror);
+    int heard = ended_well(console);
+    int held = ended_well(second);
+    if (!equal || !heard || !held) {
+        fprintf(stderr, "the boxes are %s, the console %s\n", equal && held ? "equal" : "not equal", heard ? "heard the strips" : "did not");
+        return 1;
+    }
+    printf("%zu records, and the second box is equal to the first\n", mirror.count);
+    return 0;
+}
