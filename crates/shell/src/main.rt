@@ -136,6 +136,17 @@ fn read_so_far(line: &Line, len: usize) -> &[u8] {
 }
 
 // The last line needs no newline.
+fn is_line(t: Input) -> bool {
+    t.ended || t.len > 0
+}
+
+fn say_broken(whole: bool) {
+    if !whole {
+        let text = b"shell: standard input was not read to its end\n";
+        io::write_all(libc::STDERR_FILENO, text);
+    }
+}
+
 fn main() {
     let mut buffer = [0u8; BUFFER];
     let mut memory = [0u8; mirror::MEMORY];
@@ -154,14 +165,11 @@ fn main() {
     let mut turns = u64::MAX;
     while turns > 0 && t.more {
         t = read_line(t, &mut buffer, &mut line);
-        if t.ended || t.len > 0 {
+        if is_line(t) {
             let words = read_so_far(&line, t.len);
             s = answer(s, &mut memory, words, &mut bytes, &mut log);
         }
         turns -= 1;
     }
-    if !t.whole {
-        let text = b"shell: standard input was not read to its end\n";
-        io::write_all(libc::STDERR_FILENO, text);
-    }
+    say_broken(t.whole);
 }

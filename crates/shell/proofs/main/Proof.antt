@@ -5,10 +5,10 @@ use Rattle.shell.proofs.main.Statement.{statement}
 use Rattle.shell.proofs.main.Tie as tie
 
 abbrev Inv-loop : tie.InvT-loop
-Inv-loop buffer₀ memory₀ line₀ bytes₀ log₀ s₀ t₀ turns₀ t11 buffer memory line bytes log s t turns = 0 ≤ turns
+Inv-loop buffer₀ memory₀ line₀ bytes₀ log₀ s₀ t₀ turns₀ buffer memory line bytes log s t turns = 0 ≤ turns
 
 abbrev μ-loop : tie.MeasureT-loop
-μ-loop buffer₀ memory₀ line₀ bytes₀ log₀ s₀ t₀ turns₀ t11 buffer memory line bytes log s t turns = turns
+μ-loop buffer₀ memory₀ line₀ bytes₀ log₀ s₀ t₀ turns₀ buffer memory line bytes log s t turns = turns
 
 start-requires : tie.Need-start-requires Inv-loop μ-loop
 start-requires c κs = search needs
@@ -18,6 +18,9 @@ loop-holds c = search needs
 
 read-line-requires : tie.Need-read-line-requires Inv-loop μ-loop
 read-line-requires c κs = search needs
+
+is-line-requires : tie.Need-is-line-requires Inv-loop μ-loop
+is-line-requires c κs = search needs
 
 read-so-far-requires : tie.Need-read-so-far-requires Inv-loop μ-loop
 read-so-far-requires c κs = search needs
@@ -34,14 +37,11 @@ loop-less c = search needs
 loop-again : tie.Need-loop-again Inv-loop μ-loop
 loop-again c = search needs
 
-write-all-requires : tie.Need-write-all-requires Inv-loop μ-loop
-write-all-requires c κs = search needs
+say-broken-requires : tie.Need-say-broken-requires Inv-loop μ-loop
+say-broken-requires c κs = search needs
 
 returns : tie.Need-returns Inv-loop μ-loop
 returns c = search needs
-
-returns-2 : tie.Need-returns-2 Inv-loop μ-loop
-returns-2 c = search needs
 
 pub main-spec : {M : Type 1} → statement M
 main-spec =
@@ -52,11 +52,11 @@ main-spec =
     start-requires
     loop-holds
     read-line-requires
+    is-line-requires
     read-so-far-requires
     answer-requires
     sub-turns
     loop-less
     loop-again
-    write-all-requires
-    returns
-    returns-2)
+    say-broken-requires
+    returns)
