@@ -15,6 +15,9 @@ pub enum Event {
 
 /// Events one by one, over bytes that come in any pieces.
 ///
+/// Each event costs some 2 µs, since the state crosses to the library as bytes and is tested there. Where only the last values
+/// are wanted, [`Mirror::feed`](crate::Mirror::feed) takes all events of a piece in one call.
+///
 /// ```
 /// use whistleloam::{Decoder, Event, Value};
 ///

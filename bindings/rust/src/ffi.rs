@@ -75,7 +75,7 @@ pub struct WingRecord {
     pub value: u32,
     /// A string's bytes; 0 for numbers.
     pub len: u16,
-    /// `KIND_INTEGER`, `KIND_FLOAT` or `KIND_STRING`.
+    /// 0 an integer, 1 a float, 2 a string.
     pub kind: u8,
     /// The string, then bytes of 0.
     pub string: [u8; 256],
@@ -93,7 +93,7 @@ pub struct WingEvent {
     pub value: u32,
     /// The bytes of a string or a body, at the front of the output; else 0.
     pub len: u16,
-    /// `KIND_INTEGER` to `KIND_END`.
+    /// 0 an integer, 1 a float, 2 a string, 3 a definition's body, 4 an end.
     pub kind: u8,
     /// How many of the bytes this call took; go on from there.
     pub taken: usize,
@@ -135,9 +135,9 @@ pub struct WingDefinition {
     pub id: i32,
     /// Its number below the parent.
     pub index: u16,
-    /// `TYPE_NODE` to `TYPE_STRING`.
+    /// 0 to 7, as in [`NodeType`](crate::NodeType).
     pub node_type: u8,
-    /// `UNIT_NONE` to `UNIT_OCTAVES`.
+    /// 0 to 7, as in [`NodeUnit`](crate::NodeUnit).
     pub unit: u8,
     /// Whether a set order has no effect.
     pub read_only: bool,
@@ -183,7 +183,7 @@ pub struct WingWalk {
 pub struct WingItem {
     /// 1 an item, 0 none, or a refusal.
     pub status: i32,
-    /// `ITEM_STRINGS`: two strings; `ITEM_FLOAT`: float bits and a string.
+    /// 0 two strings, 1 float bits and a string.
     pub kind: u8,
     /// The float's bits; else 0.
     pub bits: u32,
@@ -300,7 +300,7 @@ mod library {
     }
 }
 
-/// Lays a fresh decoder state into the output (`STATE_SIZE` bytes). Lent to be written: state.
+/// Lays a fresh decoder state into the output (4,123 bytes). Lent to be written: state.
 ///
 /// Refused: 9.
 pub fn state_fresh(state: &mut [u8]) -> WingWritten {
@@ -311,7 +311,7 @@ pub fn state_fresh(state: &mut [u8]) -> WingWritten {
 
 /// Whether the bytes are those of a sound state, as a call left them: 0. Lent to be read: state.
 ///
-/// Refused: 8 (also for any other length than `STATE_SIZE`).
+/// Refused: 8 (also for any other length than 4,123).
 pub fn state_check(state: &[u8]) -> i32 {
     // SAFETY: `state` is borrowed and only read. The call stays within the lengths and keeps no
     // address.
@@ -319,7 +319,7 @@ pub fn state_check(state: &[u8]) -> i32 {
 }
 
 /// The next event of a stream that comes in any pieces. Lent to be read: bytes (at most
-/// `FEED_MAX`); to be written: state, and out (at least `BODY_LIMIT` bytes), at whose front a
+/// 65,536); to be written: state, and out (at least 4,096 bytes), at whose front a
 /// string's or body's bytes stand after an event of that kind, those after them as they were. Call
 /// it again with the bytes from `taken` on until the status is 0 (all bytes are taken then); a call
 /// with no bytes can give an event too. Status 1 is an event.
@@ -343,7 +343,7 @@ pub fn table_check(table: &[u8], count: usize) -> i32 {
     unsafe { library::wing_table_check(table.as_ptr(), table.len(), count) }
 }
 
-/// Takes the console's bytes, at most `FEED_MAX` at a time, broken off anywhere, and stores the
+/// Takes the console's bytes, at most 65,536 at a time, broken off anywhere, and stores the
 /// last value of each node. Lent to be read: bytes; to be written: state, table. Go on with the
 /// count that comes back.
 ///
@@ -364,7 +364,7 @@ pub fn feed(state: &mut [u8], table: &mut [u8], count: usize, bytes: &[u8]) -> W
     }
 }
 
-/// Sets a node: stores the value and writes the order to send (at most `SET_NUMBER_MAX` bytes).
+/// Sets a node: stores the value and writes the order to send (at most 18 bytes).
 /// Lent to be written: table, out.
 ///
 /// Refused: 7, 6, 9.
@@ -383,8 +383,8 @@ pub fn set_float(table: &mut [u8], count: usize, out: &mut [u8], id: i32, bits: 
     unsafe { library::wing_set_float(table.as_mut_ptr(), table.len(), count, out.as_mut_ptr(), out.len(), id, bits) }
 }
 
-/// The same for a string of at most `STRING_MAX` bytes, in UTF-8 (an order of at most
-/// `SET_STRING_MAX` bytes). Lent to be read: value; to be written: table, out.
+/// The same for a string of at most 256 bytes, in UTF-8 (an order of at most
+/// 395 bytes). Lent to be read: value; to be written: table, out.
 ///
 /// Refused: 7, 10, 1, 6, 9.
 pub fn set_string(table: &mut [u8], count: usize, out: &mut [u8], id: i32, value: &[u8]) -> WingSet {
@@ -405,7 +405,7 @@ pub fn set_string(table: &mut [u8], count: usize, out: &mut [u8], id: i32, value
 }
 
 /// Writes what sets a console to every record: df d1, then the set order of each in order (at most
-/// `RECALL_MAX` bytes). Lent to be read: table; to be written: out.
+/// 2 bytes, and 395 for each record). Lent to be read: table; to be written: out.
 ///
 /// Refused: 7, 9.
 pub fn recall(table: &[u8], count: usize, out: &mut [u8]) -> WingWritten {
@@ -482,7 +482,7 @@ pub fn item(body: &[u8], number: usize) -> WingItem {
     unsafe { library::wing_item(body.as_ptr(), body.len(), number) }
 }
 
-/// A set order alone (at most `SET_NUMBER_MAX` bytes). Lent to be written: out.
+/// A set order alone (at most 18 bytes). Lent to be written: out.
 ///
 /// Refused: 9.
 pub fn order_int(out: &mut [u8], id: i32, value: i32) -> WingWritten {
@@ -500,7 +500,7 @@ pub fn order_float(out: &mut [u8], id: i32, bits: u32) -> WingWritten {
     unsafe { library::wing_order_float(out.as_mut_ptr(), out.len(), id, bits) }
 }
 
-/// The same for a string (at most `SET_STRING_MAX` bytes). Lent to be read: value; to be written:
+/// The same for a string (at most 395 bytes). Lent to be read: value; to be written:
 /// out.
 ///
 /// Refused: 10, 1, 9.
@@ -510,7 +510,7 @@ pub fn order_string(out: &mut [u8], id: i32, value: &[u8]) -> WingWritten {
     unsafe { library::wing_order_string(out.as_mut_ptr(), out.len(), id, value.as_ptr(), value.len()) }
 }
 
-/// Asks for a node's definition (at most `REQUEST_MAX` bytes); id 0 is the root. Lent to be
+/// Asks for a node's definition (at most 10 bytes); id 0 is the root. Lent to be
 /// written: out.
 ///
 /// Refused: 9.
@@ -529,8 +529,8 @@ pub fn request_node_data(out: &mut [u8], id: i32) -> WingWritten {
     unsafe { library::wing_request_node_data(out.as_mut_ptr(), out.len(), id) }
 }
 
-/// Asks for meters, whose packets go to a UDP port (at most `METER_REQUEST_MAX` bytes). Lent to be
-/// read: meters, pairs of bytes, a kind (`METER_CHANNEL` to `METER_MATRIX2`; any other is rta) and
+/// Asks for meters, whose packets go to a UDP port (at most 212 bytes). Lent to be
+/// read: meters, pairs of bytes, a kind (a0 to af, in the order of [`Meter`](crate::Meter); any other is rta) and
 /// an index, which stands with monitor and rta too and is ignored there; an odd last byte is
 /// dropped. Lent to be written: out. The new meter id is last_id + 1; last_id is 0 at first.
 ///
@@ -541,7 +541,7 @@ pub fn request_meter(out: &mut [u8], meters: &[u8], port: u16, last_id: u16) -> 
     unsafe { library::wing_request_meter(out.as_mut_ptr(), out.len(), meters.as_ptr(), meters.len(), port, last_id) }
 }
 
-/// Keeps the requests of the ids last_id to 1 alive (at most `KEEP_ALIVE_MAX` bytes). Lent to be
+/// Keeps the requests of the ids last_id to 1 alive (at most 13 bytes for each). Lent to be
 /// written: out.
 ///
 /// Refused: 9.
@@ -551,7 +551,7 @@ pub fn keep_alive_meters(out: &mut [u8], last_id: u16, port: u16) -> WingWritten
     unsafe { library::wing_keep_alive_meters(out.as_mut_ptr(), out.len(), last_id, port) }
 }
 
-/// The readings of a meter packet (at most `READINGS_MAX`). Lent to be read: packet; to be written:
+/// The readings of a meter packet (at most 4,094). Lent to be read: packet; to be written:
 /// out, whose length counts readings.
 ///
 /// Refused: 13, 9.

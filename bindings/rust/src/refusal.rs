@@ -4,7 +4,7 @@ use std::fmt;
 ///
 /// A refused call has changed nothing. The exception are 1 to 5 where a [`Decoder`](crate::Decoder) gives them: they
 /// say what the bytes held, and the reading goes on after it.
-#[derive(Clone, Copy, Debug, PartialEq, Eq, Hash, PartialOrd, Ord)]
+#[derive(Clone, Copy, PartialEq, Eq, Hash, PartialOrd, Ord)]
 pub struct Refusal(u8);
 
 impl Refusal {
@@ -75,6 +75,13 @@ impl Refusal {
 impl fmt::Display for Refusal {
     fn fmt(&self, f: &mut fmt::Formatter) -> fmt::Result {
         write!(f, "refusal {}: {}", self.0, self.words())
+    }
+}
+
+/// The same words: a `main` that ends with an error shows it so.
+impl fmt::Debug for Refusal {
+    fn fmt(&self, f: &mut fmt::Formatter) -> fmt::Result {
+        fmt::Display::fmt(self, f)
     }
 }
 

@@ -1,7 +1,9 @@
+use std::fmt;
+
 /// A node's value: what libwing calls `WingNodeData`.
 ///
 /// A float is kept by its 32 bits, so that none of the 2^32 patterns is lost; two floats are equal if their bits are.
-#[derive(Clone, Debug, PartialEq, Eq, Hash)]
+#[derive(Clone, PartialEq, Eq, Hash)]
 pub enum Value {
     /// An integer.
     Int(i32),
@@ -98,5 +100,16 @@ impl From<String> for Value {
 impl From<&Value> for Value {
     fn from(v: &Value) -> Value {
         v.clone()
+    }
+}
+
+/// A float by its value and its bits.
+impl fmt::Debug for Value {
+    fn fmt(&self, f: &mut fmt::Formatter) -> fmt::Result {
+        match self {
+            Value::Int(x) => write!(f, "Int({x})"),
+            Value::Float(bits) => write!(f, "Float({:?}, {bits:08x})", f32::from_bits(*bits)),
+            Value::String(s) => write!(f, "String({s:?})"),
+        }
     }
 }

@@ -239,3 +239,10 @@ fn values_have_libwings_getters() {
     assert_eq!(Value::Float(0x7fc0_0001), Value::Float(0x7fc0_0001));
     assert_ne!(Value::float(0.0), Value::float(-0.0));
 }
+
+#[test]
+fn what_is_printed_can_be_read() {
+    let mirror = printed();
+    assert_eq!(format!("{mirror:?}"), "Mirror of 128 places {-2: Float(1.0, 3f800000), 1: Int(5), 2: String(\"AB\")}");
+    assert_eq!(format!("{:?}", Refusal::NO_PLACE), "refusal 6: a new node, and no place left");
+}
