@@ -5,11 +5,11 @@ use mathlib.Core.Path.{_≡_, refl, sym, _∙_, ap}
 use mathlib.Core.List.{List}
 use lib.Dec.{leb}
 use lib.ListN.{length}
-use Rattle.wing_node.specs.Result.{Result, ok, refused}
+use Rattle.wing_node.specs.Result.{ok}
 use Rattle.wing_node.proofs.Branches.{branch}
 use Rattle.wing_wire.specs.State.{soundState, freshState}
 use Rattle.wing_wire.specs.Range.{AreBytes}
-use Rattle.wing_wire.specs.Stream.{run, advanceOf, released, Fed}
+use Rattle.wing_wire.specs.Stream.{run, advanceOf, released}
 use Rattle.wing_wire.specs.Reader.{nextOf}
 use Rattle.wing_wire.specs.Write.{WriteEffect, writeEffect}
 use Rattle.wing_wire.specs.declared.state.State.{State}
@@ -17,7 +17,7 @@ use Rattle.wing_wire.specs.declared.stream.Advanced.{Advanced}
 use Rattle.wing_wire.specs.declared.write.Written.{Written}
 use Rattle.wing_wire.proofs.Laws.{decoder-laws}
 use Rattle.wing_wire.proofs.Reading.Sound.{sound-next}
-use Rattle.wing_saved.specs.Saved.{savedSize, stateBytes, stateFrom, saveOf, Typed, Saves}
+use Rattle.wing_saved.specs.Saved.{savedSize, stateFrom, saveOf, Typed, Saves}
 use Rattle.wing_saved.proofs.Saving.Trips.{saved-laws}
 use Rattle.wing_mirror.specs.Rows.{Table}
 use Rattle.wing_mirror.specs.Record.{full}

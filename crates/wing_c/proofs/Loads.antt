@@ -5,7 +5,7 @@ use mathlib.Core.Path.{_≡_, refl, sym, _∙_, ap}
 use mathlib.Core.List.{List}
 use borrow.Author.Tests.{le-leb}
 use lib.ListN.{length, take}
-use Rattle.wing_node.specs.Result.{Result, ok, refused}
+use Rattle.wing_node.specs.Result.{ok, refused}
 use Rattle.wing_wire.specs.State.{soundState}
 use Rattle.wing_wire.specs.Stream.{run, advanceOf, released}
 use Rattle.wing_wire.specs.Reader.{over, eventOf, nextFrom, nextOf, nextEvent}
@@ -13,7 +13,7 @@ use Rattle.wing_wire.specs.declared.state.State.{State}
 use Rattle.wing_wire.specs.declared.stream.Advanced.{Advanced}
 use Rattle.wing_wire.specs.declared.unit.Answer.{Answer}
 use Rattle.wing_wire.specs.declared.unit.Answer.the-variants.{More, Integer, Float, String, Body, End, Refused}
-use Rattle.wing_saved.specs.Saved.{stateBytes, stateFrom, loadedAs, loadedResult, loadOf}
+use Rattle.wing_saved.specs.Saved.{stateBytes, stateFrom, loadedResult, loadOf}
 use Rattle.wing_saved.specs.declared.Loaded.{Loaded}
 use Rattle.wing_saved.specs.declared.LoadAnswer.{LoadAnswer}
 use Rattle.wing_saved.specs.declared.LoadAnswer.the-variants.{Good, Refused as NotLoaded}

@@ -24,7 +24,6 @@ use crate::answers::WingSet;
 use crate::answers::WingWritten;
 use crate::state::keep;
 use wing_mirror::answer::FeedAnswer;
-use wing_mirror::answer::FeedReply;
 use wing_mirror::feed::feed;
 use wing_mirror::query;
 use wing_mirror::recall::recall;

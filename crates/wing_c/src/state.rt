@@ -2,11 +2,10 @@
 ghost use mathlib.Core.Path.{_≡_};
 ghost use Prim.Native.Nat.{_≤_};
 ghost use mathlib.Core.Bool.{true};
-ghost use lib.IntN.{pos};
 ghost use lib.ListN.{length, take};
-ghost use Rattle.wing_wire.specs.State.{bodyLimit, freshState, soundState};
-ghost use Rattle.wing_wire.specs.Reader.{over, nextOf, nextEvent};
 ghost use Rattle.wing_node.specs.Result.{ok};
+ghost use Rattle.wing_wire.specs.State.{freshState, soundState};
+ghost use Rattle.wing_wire.specs.Reader.{over, nextOf, nextEvent};
 ghost use Rattle.wing_saved.specs.Saved.{Saves, savedSize, stateFrom, saveOf};
 ghost use Rattle.wing_c.specs.Written.{command, commandOf};
 ghost use Rattle.wing_c.specs.Kept.{stateStatus, answerBytes, keptNext, nextFrom, nextSound, nextKept, nextState, stateNext};

@@ -4,8 +4,8 @@ use Rattle.wing_c.specs.Kept.{keptNext, nextSound, nextState}
 use denote.Ref.{now}
 use mir.Syntax.{w32}
 use mir.Val.{toZ, ofZ}
-use mathlib.Core.Path.{_≡_, _∙_, ap}
-use borrow.Author.Tests.{le-leb, le-ltb, lt-leb, lt-ltb}
+use mathlib.Core.Path.{_≡_, ap}
+use borrow.Author.Tests.{le-leb, lt-leb}
 use borrow.Author.Needs.{needs}
 use Rattle.wing_c.proofs.state.next_sound.Statement.{statement}
 use Rattle.wing_c.proofs.state.next_sound.Tie as tie

@@ -1,5 +1,5 @@
 -- What `load` answers says whether the bytes are a state (`load-good`, `load-refused`); then the call is that of `next_sound`.
-use mathlib.Core.Path.{_∙_, ap}
+use mathlib.Core.Path.{ap}
 use Rattle.wing_c.specs.declared.answers.WingEvent.{WingEvent}
 use Rattle.wing_c.specs.Kept.{nextWith, keptNext, stateNext}
 use denote.Ref.{now}
