@@ -1,4 +1,5 @@
 mod Signs
 mod Effects
 mod Loads
+mod Keeps
 mod Pairs

@@ -5,17 +5,15 @@ use mathlib.Core.Path.{_≡_, refl, sym, _∙_, ap}
 use mathlib.Core.List.{List}
 use borrow.Author.Tests.{le-leb}
 use lib.ListN.{length, take}
-use Rattle.wing_node.specs.Result.{Result, ok, refused}
+use Rattle.wing_node.specs.Result.{ok, refused}
 use Rattle.wing_wire.specs.State.{soundState}
 use Rattle.wing_wire.specs.Stream.{run, advanceOf, released}
-use Rattle.wing_wire.specs.Write.{WriteEffect, writeEffect}
 use Rattle.wing_wire.specs.Reader.{over, eventOf, nextFrom, nextOf, nextEvent}
 use Rattle.wing_wire.specs.declared.state.State.{State}
 use Rattle.wing_wire.specs.declared.stream.Advanced.{Advanced}
-use Rattle.wing_wire.specs.declared.write.Written.{Written}
 use Rattle.wing_wire.specs.declared.unit.Answer.{Answer}
 use Rattle.wing_wire.specs.declared.unit.Answer.the-variants.{More, Integer, Float, String, Body, End, Refused}
-use Rattle.wing_saved.specs.Saved.{saveOf, stateFrom, loadedAs, loadedResult, loadOf}
+use Rattle.wing_saved.specs.Saved.{stateBytes, stateFrom, loadedResult, loadOf}
 use Rattle.wing_saved.specs.declared.Loaded.{Loaded}
 use Rattle.wing_saved.specs.declared.LoadAnswer.{LoadAnswer}
 use Rattle.wing_saved.specs.declared.LoadAnswer.the-variants.{Good, Refused as NotLoaded}
@@ -62,14 +60,11 @@ event-bytes End s = refl
 event-bytes (Refused n) s = refl
 
 -- a next call made by the core: its answer by numbers, its state kept, the bytes of its event at the front of the output
-pub next-as : (s : State) (bytes state out : List ℕ) (x : Advanced) (store : List ℕ) {r : WingEvent} {w : Written} {kept handed : List ℕ} →
+pub next-as : (s : State) (bytes out : List ℕ) (x : Advanced) (store : List ℕ) {r : WingEvent} {kept handed : List ℕ} →
     soundState s ≡ true → length bytes ≤ 65536 → run x store ≡ advanceOf (s .control) (s .store) bytes →
     r ≡ eventNumbers (x .answer) (x .control .node) (x .taken) →
-    writeEffect w kept ≡ saveOf (record { control = x .control; store = released (x .answer) store }) state →
+    stateBytes (record { control = x .control; store = released (x .answer) store }) ≡ kept →
     handed ≡ over (take (answerBytes (x .answer)) store) out →
-    keptNext r kept handed ≡ keptFrom (nextOf s bytes) (nextEvent s bytes) state out
-next-as s bytes state out x store {r} {w} {kept} {handed} g h a p q o =
-    rw (next-run s bytes g h, next-event s bytes g h, ← a, event-bytes (x .answer) store)
-    (ap (λ (v : WingEvent). keptNext v kept handed) p ∙
-    ap (λ (v : WriteEffect). keptNext (eventNumbers (x .answer) (x .control .node) (x .taken)) (v .out) handed) q ∙
-    ap (λ (v : List ℕ). keptNext (eventNumbers (x .answer) (x .control .node) (x .taken)) (saveOf (record { control = x .control; store = released (x .answer) store }) state .out) v) o)
+    keptNext r kept handed ≡ keptFrom (nextOf s bytes) (nextEvent s bytes) out
+next-as s bytes out x store {r} {kept} {handed} g h a p q o =
+    rw (next-run s bytes g h, next-event s bytes g h, ← a, event-bytes (x .answer) store, p, o, q) refl

@@ -13,7 +13,7 @@ use Rattle.wing_wire.specs.declared.state.State.{State}
 use Rattle.wing_wire.specs.declared.reader.Reply.{Reply}
 use Rattle.wing_wire.specs.declared.unit.Answer.{Answer}
 use Rattle.wing_wire.specs.declared.unit.Answer.the-variants.{More, Integer, Float, String, Body, End, Refused as NextRefused}
-use Rattle.wing_saved.specs.Saved.{stateFrom, saveOf}
+use Rattle.wing_saved.specs.Saved.{stateBytes, stateFrom}
 use Rattle.wing_mirror.specs.Rows.{Table}
 use Rattle.wing_mirror.specs.Record.{full}
 use Rattle.wing_mirror.specs.Counts.{zeroCounts}
@@ -29,10 +29,6 @@ abbrev pub stateStatus : Result State → ℤ
 stateStatus (ok s) = pos 0
 stateStatus (refused n) = minus n
 
--- the bytes that keep a state, where others stood
-abbrev pub keptAs : State → List ℕ → List ℕ
-keptAs s state = saveOf s state .out
-
 -- ---- feed
 
 -- what a feed leaves: its numbers, the bytes of the state and the table buffer
@@ -45,10 +41,15 @@ pub record KeptFeed : Type 0 where
 abbrev pub keptFeed : WingFed → List ℕ → List ℕ → KeptFeed
 keptFeed r state buffer = record { numbers = r; state = state; table = buffer }
 
--- a feed that is taken leaves its state; a refused one leaves the bytes as they were
+-- a feed that is taken leaves the bytes of its state; a refused one leaves the bytes as they were
 abbrev pub stateAfter : FeedAnswer → State → List ℕ → List ℕ
-stateAfter Taken s state = keptAs s state
+stateAfter Taken s state = stateBytes s
 stateAfter (Refused n) s state = state
+
+-- what the bytes then read as: a taken feed's state, else what they read as before
+abbrev pub readAfter : FeedAnswer → State → Result State → Result State
+readAfter Taken s before = ok s
+readAfter (Refused n) s before = before
 
 -- the library's effect, with numbers for its answer and bytes for its state
 abbrev pub feedFrom : FeedEffect → List ℕ → KeptFeed
@@ -63,6 +64,11 @@ feedWith (refused n) state t bytes = keptFeed (fedNumbers (minus n) zeroCounts (
 -- a feed on the bytes of a state; 8, 7, 14
 abbrev pub feedKept : List ℕ → Table → List ℕ → KeptFeed
 feedKept state t bytes = feedWith (stateFrom state) state t bytes
+
+-- what the bytes of a state read as after a feed: the library's state after it
+unfoldable pub stateFed : Result State → Table → List ℕ → Result State
+stateFed (ok s) t bytes = ok (mirrorFeed full s t bytes .state)
+stateFed (refused n) t bytes = refused n
 
 -- ---- next
 
@@ -101,9 +107,9 @@ answerBytes End = 0
 answerBytes (NextRefused n) = 0
 
 -- the library's reply and event: numbers, the state's bytes, and the bytes of a string or a body at the front of the output
-abbrev pub nextFrom : Reply → Event → List ℕ → List ℕ → KeptNext
-nextFrom r e state out =
-    keptNext (eventNumbers (r .answer) (r .state .control .node) (r .taken)) (keptAs (r .state) state) (over (eventBytes e) out)
+abbrev pub nextFrom : Reply → Event → List ℕ → KeptNext
+nextFrom r e out =
+    keptNext (eventNumbers (r .answer) (r .state .control .node) (r .taken)) (stateBytes (r .state)) (over (eventBytes e) out)
 
 -- a refused call, with all as it was
 abbrev pub nextRefused : ℕ → ℤ → List ℕ → List ℕ → KeptNext
@@ -113,7 +119,7 @@ nextRefused n node state out = keptNext (noEvent (minus n) node 0) state out
 unfoldable pub nextSound : State → List ℕ → List ℕ → List ℕ → KeptNext
 nextSound s state bytes out =
     if (leb (length bytes) 65536)
-    (if (leb bodyLimit (length out)) (nextFrom (nextOf s bytes) (nextEvent s bytes) state out) (nextRefused 9 (s .control .node) state out))
+    (if (leb bodyLimit (length out)) (nextFrom (nextOf s bytes) (nextEvent s bytes) out) (nextRefused 9 (s .control .node) state out))
     (nextRefused 14 (s .control .node) state out)
 
 -- 8 for bytes that are no sound state's
@@ -124,3 +130,12 @@ nextWith (refused n) state bytes out = nextRefused n (pos 0) state out
 -- a next call on the bytes of a state; 8, 14, 9
 abbrev pub nextKept : List ℕ → List ℕ → List ℕ → KeptNext
 nextKept state bytes out = nextWith (stateFrom state) state bytes out
+
+-- the state after a next call: the library's after it; after 14 or 9 it is as it was
+unfoldable pub nextState : State → List ℕ → List ℕ → State
+nextState s bytes out = if (leb (length bytes) 65536) (if (leb bodyLimit (length out)) (nextOf s bytes .state) s) s
+
+-- what the bytes of a state read as after a next call
+unfoldable pub stateNext : Result State → List ℕ → List ℕ → Result State
+stateNext (ok s) bytes out = ok (nextState s bytes out)
+stateNext (refused n) bytes out = refused n

@@ -1,8 +1,13 @@
 // The mirror: a state's bytes, a table buffer and its count.
 ghost use mathlib.Core.Path.{_≡_};
+ghost use mathlib.Core.Bool.{true};
 ghost use lib.IntN.{pos};
+ghost use lib.ListN.{length};
 ghost use Rattle.wing_node.specs.Bool.{if};
+ghost use Rattle.wing_node.specs.Result.{ok};
 ghost use Rattle.wing_node.specs.Value.{integer, float, string as stringOf};
+ghost use Rattle.wing_wire.specs.State.{soundState};
+ghost use Rattle.wing_saved.specs.Saved.{savedSize, stateFrom};
 ghost use Rattle.wing_mirror.specs.Record.{full};
 ghost use Rattle.wing_mirror.specs.Table.{table as tableOf, usable};
 ghost use Rattle.wing_mirror.specs.Mirror.{mirrorFeed, mirrorSet};
@@ -10,15 +15,15 @@ ghost use Rattle.wing_mirror.specs.Recall.{recallOf};
 ghost use Rattle.wing_mirror.specs.Query.{lookupAnswer, recordAnswer, sameAnswer};
 ghost use Rattle.wing_c.specs.Numbers.{minus, lookupNumbers, recordNumbers, sameNumber};
 ghost use Rattle.wing_c.specs.Written.{command, commandOf, setOrder, setOrderOf};
-ghost use Rattle.wing_c.specs.Kept.{keptFeed, stateAfter, feedFrom, feedKept};
+ghost use Rattle.wing_c.specs.Kept.{keptFeed, stateAfter, readAfter, feedFrom, feedKept, stateFed};
 use crate::answers;
 use crate::answers::WingFed;
 use crate::answers::WingLookup;
 use crate::answers::WingRecord;
 use crate::answers::WingSet;
 use crate::answers::WingWritten;
+use crate::state::keep;
 use wing_mirror::answer::FeedAnswer;
-use wing_mirror::answer::FeedReply;
 use wing_mirror::feed::feed;
 use wing_mirror::query;
 use wing_mirror::recall::recall;
@@ -40,18 +45,22 @@ pub extern "C" fn wing_table_check(table: &[u8], count: usize) -> i32
 
 // A feed that was taken leaves its state.
 fn keep_state(state: &mut [u8], a: FeedAnswer, after: State)
+    requires { ⌜ (soundState after ≡ true) × (length (now state) ≡ savedSize) ⌝ }
     ensures { λ _. ⌜ now (state .exit) ≡ stateAfter a after (now (state .entry)) ⌝ }
+    ensures { λ _. ⌜ stateFrom (now (state .exit)) ≡ readAfter a after (stateFrom (now (state .entry))) ⌝ }
 {
     match a {
         FeedAnswer::Taken => {
-            wing_saved::save(state, after);
+            keep(state, after);
         }
         FeedAnswer::Refused(_) => {}
     }
 }
 
 fn feed_on(state: &mut [u8], s: State, table: &mut [u8], count: usize, bytes: &[u8]) -> WingFed
+    requires { ⌜ stateFrom (now state) ≡ ok s ⌝ }
     ensures { λ r. ⌜ keptFeed r (now (state .exit)) (now (table .exit)) ≡ feedFrom (mirrorFeed full s (tableOf (now (table .entry)) count) (now (bytes .entry))) (now (state .entry)) ⌝ }
+    ensures { λ _. ⌜ stateFrom (now (state .exit)) ≡ ok (mirrorFeed full s (tableOf (now (table .entry)) count) (now (bytes .entry)) .state) ⌝ }
 {
     let r = feed(s, table, count, bytes);
     let a = r.answer;
@@ -69,6 +78,7 @@ pub extern "C" fn wing_feed(
     bytes: &[u8],
 ) -> WingFed
     ensures { λ r. ⌜ keptFeed r (now (state .exit)) (now (table .exit)) ≡ feedKept (now (state .entry)) (tableOf (now (table .entry)) count) (now (bytes .entry)) ⌝ }
+    ensures { λ _. ⌜ stateFrom (now (state .exit)) ≡ stateFed (stateFrom (now (state .entry))) (tableOf (now (table .entry)) count) (now (bytes .entry)) ⌝ }
 {
     let loaded = wing_saved::load(state);
     let a = loaded.answer;

@@ -2,13 +2,13 @@
 ghost use mathlib.Core.Path.{_≡_};
 ghost use Prim.Native.Nat.{_≤_};
 ghost use mathlib.Core.Bool.{true};
-ghost use lib.IntN.{pos};
 ghost use lib.ListN.{length, take};
-ghost use Rattle.wing_wire.specs.State.{bodyLimit, freshState, soundState};
+ghost use Rattle.wing_node.specs.Result.{ok};
+ghost use Rattle.wing_wire.specs.State.{freshState, soundState};
 ghost use Rattle.wing_wire.specs.Reader.{over, nextOf, nextEvent};
-ghost use Rattle.wing_saved.specs.Saved.{stateFrom, saveOf};
+ghost use Rattle.wing_saved.specs.Saved.{Saves, savedSize, stateFrom, saveOf};
 ghost use Rattle.wing_c.specs.Written.{command, commandOf};
-ghost use Rattle.wing_c.specs.Kept.{stateStatus, answerBytes, keptNext, nextFrom, nextSound, nextKept};
+ghost use Rattle.wing_c.specs.Kept.{stateStatus, answerBytes, keptNext, nextFrom, nextSound, nextKept, nextState, stateNext};
 use crate::answers::WingEvent;
 use crate::answers::WingWritten;
 use crate::answers::event;
@@ -25,6 +25,7 @@ use wing_wire::unit::Answer;
 #[no_mangle]
 pub extern "C" fn wing_state_fresh(state: &mut [u8]) -> WingWritten
     ensures { λ r. ⌜ command r (now (state .exit)) ≡ commandOf (saveOf freshState (now (state .entry))) ⌝ }
+    ensures { λ _. ⌜ (length (now (state .entry)) ≡ savedSize → stateFrom (now (state .exit)) ≡ ok freshState) ⌝ }
 {
     written(wing_saved::save(state, State::fresh()))
 }
@@ -40,6 +41,14 @@ pub extern "C" fn wing_state_check(state: &[u8]) -> i32
         LoadAnswer::Good => 0,
         LoadAnswer::Refused(why) => minus(why),
     }
+}
+
+// The bytes of a sound state where those of another stood.
+pub(crate) fn keep(state: &mut [u8], after: State)
+    requires { ⌜ (soundState after ≡ true) × (length (now state) ≡ savedSize) ⌝ }
+    ensures { λ _. ⌜ Saves (now (state .exit)) after ⌝ }
+{
+    wing_saved::save(state, after);
 }
 
 // The first n bytes of s to the front of out, as far as both reach.
@@ -70,8 +79,9 @@ fn bytes_of(a: Answer) -> usize
 }
 
 fn next_on(state: &mut [u8], s: State, bytes: &[u8], out: &mut [u8]) -> WingEvent
-    requires { ⌜ (soundState s ≡ true) × (length (now bytes) ≤ 65536) ⌝ }
-    ensures { λ r. ⌜ keptNext r (now (state .exit)) (now (out .exit)) ≡ nextFrom (nextOf s (now (bytes .entry))) (nextEvent s (now (bytes .entry))) (now (state .entry)) (now (out .entry)) ⌝ }
+    requires { ⌜ (stateFrom (now state) ≡ ok s) × (length (now bytes) ≤ 65536) ⌝ }
+    ensures { λ r. ⌜ keptNext r (now (state .exit)) (now (out .exit)) ≡ nextFrom (nextOf s (now (bytes .entry))) (nextEvent s (now (bytes .entry))) (now (out .entry)) ⌝ }
+    ensures { λ _. ⌜ stateFrom (now (state .exit)) ≡ ok (nextOf s (now (bytes .entry)) .state) ⌝ }
 {
     let c = s.control;
     let mut store = s.store;
@@ -80,7 +90,7 @@ fn next_on(state: &mut [u8], s: State, bytes: &[u8], out: &mut [u8]) -> WingEven
     let d = r.control;
     copy_front(out, &store, bytes_of(a));
     release(&mut store, a);
-    wing_saved::save(
+    keep(
         state,
         State {
             control: d,
@@ -91,8 +101,9 @@ fn next_on(state: &mut [u8], s: State, bytes: &[u8], out: &mut [u8]) -> WingEven
 }
 
 fn next_sound(state: &mut [u8], s: State, bytes: &[u8], out: &mut [u8]) -> WingEvent
-    requires { ⌜ soundState s ≡ true ⌝ }
+    requires { ⌜ stateFrom (now state) ≡ ok s ⌝ }
     ensures { λ r. ⌜ keptNext r (now (state .exit)) (now (out .exit)) ≡ nextSound s (now (state .entry)) (now (bytes .entry)) (now (out .entry)) ⌝ }
+    ensures { λ _. ⌜ stateFrom (now (state .exit)) ≡ ok (nextState s (now (bytes .entry)) (now (out .entry))) ⌝ }
 {
     let c = s.control;
     if 65536 < bytes.len() {
@@ -109,6 +120,7 @@ fn next_sound(state: &mut [u8], s: State, bytes: &[u8], out: &mut [u8]) -> WingE
 #[no_mangle]
 pub extern "C" fn wing_next(state: &mut [u8], bytes: &[u8], out: &mut [u8]) -> WingEvent
     ensures { λ r. ⌜ keptNext r (now (state .exit)) (now (out .exit)) ≡ nextKept (now (state .entry)) (now (bytes .entry)) (now (out .entry)) ⌝ }
+    ensures { λ _. ⌜ stateFrom (now (state .exit)) ≡ stateNext (stateFrom (now (state .entry))) (now (bytes .entry)) (now (out .entry)) ⌝ }
 {
     let loaded = wing_saved::load(state);
     let a = loaded.answer;

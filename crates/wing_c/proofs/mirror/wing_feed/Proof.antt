@@ -1,7 +1,7 @@
 -- What `load` answers says whether the bytes are a state (`load-good`, `load-refused`); then the feed is that of `feed_on`.
 use Rattle.wing_c.specs.declared.answers.WingFed.{WingFed}
 use mathlib.Core.Path.{ap}
-use Rattle.wing_c.specs.Kept.{feedWith, keptFeed}
+use Rattle.wing_c.specs.Kept.{feedWith, keptFeed, stateFed}
 use denote.Ref.{now}
 use Rattle.wing_c.proofs.Loads.{load-good, load-refused}
 use borrow.Author.Needs.{needs}
@@ -15,7 +15,9 @@ enum-told : tie.Need-enum-told
 enum-told c = search needs
 
 feed-on-requires : tie.Need-feed-on-requires
-feed-on-requires c κs = search needs
+feed-on-requires c κs =
+    let loaded = c .before .before .before .before .before .load in
+    load-good (now (c .before .before .before .before .before .before .before .before .before .before .args .state)) (loaded .result) (loaded .ensures) (c .before .before .before .enum-told .given .1)
 
 enum-known-a : tie.Need-enum-known-a
 enum-known-a c = search needs
@@ -30,7 +32,7 @@ same-length-2 : tie.Need-same-length-2
 same-length-2 c = search needs
 
 returns : tie.Need-returns
-unfolding feedWith
+unfolding feedWith stateFed
 returns c =
     let entry = c .before .before .before .before .before .before .before .before .before .before .before .before .before .before .before in
     let loaded = c .before .before .before .before .before .before .before .before .before .before .load in
@@ -40,11 +42,12 @@ same-length-3 : tie.Need-same-length-3
 same-length-3 c = search needs
 
 returns-2 : tie.Need-returns-2
-unfolding feedWith
+unfolding feedWith stateFed
 returns-2 c =
     let entry = c .before .before .before .before .before .before .before .before .before in
     let loaded = c .before .before .before .before .load in
-    rw (load-refused (now (entry .args .state)) (loaded .result) _ (loaded .ensures) (c .before .before .a .given .1)) (ap (λ (r : WingFed). keptFeed r (now (entry .args .state)) (now (entry .args .table))) (c .feed-refused .ensures))
+    let no = load-refused (now (entry .args .state)) (loaded .result) _ (loaded .ensures) (c .before .before .a .given .1) in
+    (rw no (ap (λ (r : WingFed). keptFeed r (now (entry .args .state)) (now (entry .args .table))) (c .feed-refused .ensures)), rw no)
 
 pub wing-feed-spec : {M : Type 1} → statement M
 wing-feed-spec =

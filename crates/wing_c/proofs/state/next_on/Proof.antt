@@ -1,9 +1,10 @@
--- The core gives the run, whose answer, state and bytes are those of a next call (`next-as`).
+-- The core gives the run, whose answer, state and bytes are those of a next call (`next-as`), and whose state is sound (`next-sound`), so that its bytes read as it.
 use Rattle.wing_c.proofs.Loads.{next-as}
-use Rattle.wing_saved.specs.Saved.{saveOf}
+use Rattle.wing_c.proofs.Keeps.{next-state, next-sound}
+use Rattle.wing_saved.proofs.Saving.Trips.{saved-laws}
+use Rattle.wing_saved.proofs.Saving.Types.{are-bytes, state-typed}
 use Rattle.wing_wire.specs.Reader.{over}
 use lib.ListN.{take}
-use mathlib.Core.List.{List}
 use Prim.Native.Nat.{ℕ}
 use denote.Ref.{now}
 use mir.Syntax.{w32}
@@ -34,8 +35,16 @@ slice-aggregate-release c = search needs
 release-requires : tie.Need-release-requires
 release-requires c κs = search needs
 
-save-requires : tie.Need-save-requires
-save-requires c κs = search needs
+keep-requires : tie.Need-keep-requires
+keep-requires c κs =
+    let k = c .before .before .before .before .before .before .before .before .before .before .before .before .before .before .before .before .before .before .before in
+    let ran = c .before .before .before .before .before .before .before .before .before .before .before .before .advance in
+    let loaded = saved-laws .loaded (now (k .args .state)) (k .args .s) (k .pre .0) in
+    let are = are-bytes (now (k .args .bytes)) (λ i. c .before .before .before .before .before .before .before .before .before .before .before .before .before .before .before .before .before .shared-slice-known .given i .fits) in (
+      rw (c .before .before .release .ensures)
+          (next-sound (k .args .s) (now (k .args .bytes)) (ran .result) (ran .last .1 .0) (loaded .sound) (k .pre .1) (ran .ensures) (state-typed (k .args .s) _ (k .good .1 .0)) are),
+      loaded .size,
+    )
 
 event-requires : tie.Need-event-requires
 event-requires c κs = search needs
@@ -49,11 +58,16 @@ same-length-2 c = search needs
 returns : tie.Need-returns
 returns c =
     let back : toZ w32 (ofZ w32 (c .before .before .before .before .before .before .before .before .before .before .before .before .before .before .before .before .before .advance .result .control .node)) ≡ c .before .before .before .before .before .before .before .before .before .before .before .before .before .before .before .before .before .advance .result .control .node = search needs in
-    let entry = c .before .before .before .before .before .before .before .before .before .before .before .before .before .before .before .before .before .before .before .before .before .before .before .before in
+    let k = c .before .before .before .before .before .before .before .before .before .before .before .before .before .before .before .before .before .before .before .before .before .before .before .before in
     let ran = c .before .before .before .before .before .before .before .before .before .before .before .before .before .before .before .before .before .advance in
-    next-as (entry .args .s) (now (entry .args .bytes)) (now (entry .args .state)) (now (entry .args .out)) (ran .result) (ran .last .1 .0) (entry .pre .0) (entry .pre .1) (ran .ensures)
-    (rw back at (c .event .ensures)) (c .before .before .before .before .save .ensures ∙ ap (λ (store : List ℕ). saveOf (record { control = ran .result .control; store = store }) (now (entry .args .state))) (c .before .before .before .before .before .before .before .release .ensures))
-    (c .before .before .before .before .before .before .before .before .before .before .before .copy-front .ensures ∙ ap (λ (n : ℕ). over (take n (ran .last .1 .0)) (now (entry .args .out))) (c .before .before .before .before .before .before .before .before .before .before .before .before .bytes-of .ensures))
+    let freed = c .before .before .before .before .before .before .before .release .ensures in
+    let kept = c .before .before .before .before .keep .ensures in
+    let sound = saved-laws .loaded (now (k .args .state)) (k .args .s) (k .pre .0) .sound in
+    let after = next-state (k .args .s) (now (k .args .bytes)) (ran .result) (ran .last .1 .0) sound (k .pre .1) (ran .ensures) in (
+      next-as (k .args .s) (now (k .args .bytes)) (now (k .args .out)) (ran .result) (ran .last .1 .0) sound (k .pre .1) (ran .ensures) (rw back at (c .event .ensures)) (rw freed at (kept .laid))
+          (c .before .before .before .before .before .before .before .before .before .before .before .copy-front .ensures ∙ ap (λ (n : ℕ). over (take n (ran .last .1 .0)) (now (k .args .out))) (c .before .before .before .before .before .before .before .before .before .before .before .before .bytes-of .ensures)),
+      rw (after, ← freed) (saved-laws .back _ _ kept),
+    )
 
 pub next-on-spec : {M : Type 1} → statement M
 next-on-spec =
@@ -66,7 +80,7 @@ next-on-spec =
     copy-front-requires
     slice-aggregate-release
     release-requires
-    save-requires
+    keep-requires
     event-requires
     same-length
     same-length-2

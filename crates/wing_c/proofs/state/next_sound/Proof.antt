@@ -1,11 +1,11 @@
 -- The tests are those of `nextSound`, in its order.
 use Rattle.wing_c.specs.declared.answers.WingEvent.{WingEvent}
-use Rattle.wing_c.specs.Kept.{keptNext, nextSound}
+use Rattle.wing_c.specs.Kept.{keptNext, nextSound, nextState}
 use denote.Ref.{now}
 use mir.Syntax.{w32}
 use mir.Val.{toZ, ofZ}
-use mathlib.Core.Path.{_≡_, _∙_, ap}
-use borrow.Author.Tests.{le-leb, le-ltb, lt-leb, lt-ltb}
+use mathlib.Core.Path.{_≡_, ap}
+use borrow.Author.Tests.{le-leb, lt-leb}
 use borrow.Author.Needs.{needs}
 use Rattle.wing_c.proofs.state.next_sound.Statement.{statement}
 use Rattle.wing_c.proofs.state.next_sound.Tie as tie
@@ -14,21 +14,21 @@ event-requires : tie.Need-event-requires
 event-requires c κs = search needs
 
 returns : tie.Need-returns
-unfolding nextSound
+unfolding nextSound nextState
 returns c =
     let back : toZ w32 (ofZ w32 (c .before .before .before .before .before .before .before .args .s .control .node)) ≡ c .before .before .before .before .before .before .before .args .s .control .node = search needs in
     let entry = c .before .before .before .before .before .before .before in
-    rw (lt-leb _ _ (c .before .before .if1 .taken)) (ap (λ (r : WingEvent). keptNext r (now (entry .args .state)) (now (entry .args .out))) (rw back at (c .event .ensures)))
+    rw (lt-leb _ _ (c .before .before .if1 .taken)) (ap (λ (r : WingEvent). keptNext r (now (entry .args .state)) (now (entry .args .out))) (rw back at (c .event .ensures)), entry .pre)
 
 event-requires-2 : tie.Need-event-requires-2
 event-requires-2 c κs = search needs
 
 returns-2 : tie.Need-returns-2
-unfolding nextSound
+unfolding nextSound nextState
 returns-2 c =
     let back : toZ w32 (ofZ w32 (c .before .before .before .before .before .before .before .before .args .s .control .node)) ≡ c .before .before .before .before .before .before .before .before .args .s .control .node = search needs in
     let entry = c .before .before .before .before .before .before .before .before in
-    rw (le-leb _ _ (c .before .before .before .if1 .left), lt-leb _ _ (c .before .before .if2 .taken)) (ap (λ (r : WingEvent). keptNext r (now (entry .args .state)) (now (entry .args .out))) (rw back at (c .event2 .ensures)))
+    rw (le-leb _ _ (c .before .before .before .if1 .left), lt-leb _ _ (c .before .before .if2 .taken)) (ap (λ (r : WingEvent). keptNext r (now (entry .args .state)) (now (entry .args .out))) (rw back at (c .event2 .ensures)), entry .pre)
 
 next-on-requires : tie.Need-next-on-requires
 next-on-requires c κs = search needs
@@ -40,7 +40,7 @@ same-length-2 : tie.Need-same-length-2
 same-length-2 c = search needs
 
 returns-3 : tie.Need-returns-3
-unfolding nextSound
+unfolding nextSound nextState
 returns-3 c = rw (le-leb _ _ (c .before .before .before .before .before .before .before .before .if1 .left), le-leb _ _ (c .before .before .before .before .before .before .before .if2 .left)) (c .before .before .before .before .next-on .ensures)
 
 pub next-sound-spec : {M : Type 1} → statement M

@@ -1,8 +1,7 @@
--- What `load` answers says whether the bytes are a state (`load-good`, `load-refused`); a state that was loaded is sound.
-use Rattle.wing_saved.proofs.Saving.Trips.{saved-laws}
-use mathlib.Core.Path.{_∙_, ap}
+-- What `load` answers says whether the bytes are a state (`load-good`, `load-refused`); then the call is that of `next_sound`.
+use mathlib.Core.Path.{ap}
 use Rattle.wing_c.specs.declared.answers.WingEvent.{WingEvent}
-use Rattle.wing_c.specs.Kept.{nextWith, keptNext}
+use Rattle.wing_c.specs.Kept.{nextWith, keptNext, stateNext}
 use denote.Ref.{now}
 use Rattle.wing_c.proofs.Loads.{load-good, load-refused}
 use borrow.Author.Needs.{needs}
@@ -18,7 +17,7 @@ enum-told c = search needs
 next-sound-requires : tie.Need-next-sound-requires
 next-sound-requires c κs =
     let loaded = c .before .before .before .before .before .load in
-    saved-laws .loaded (now (c .before .before .before .before .before .before .before .before .before .before .args .state)) (loaded .result .state) (load-good (now (c .before .before .before .before .before .before .before .before .before .before .args .state)) (loaded .result) (loaded .ensures) (c .before .before .before .enum-told .given .1)) .sound
+    load-good (now (c .before .before .before .before .before .before .before .before .before .before .args .state)) (loaded .result) (loaded .ensures) (c .before .before .before .enum-told .given .1)
 
 enum-known-a : tie.Need-enum-known-a
 enum-known-a c = search needs
@@ -33,7 +32,7 @@ same-length-2 : tie.Need-same-length-2
 same-length-2 c = search needs
 
 returns : tie.Need-returns
-unfolding nextWith
+unfolding nextWith stateNext
 returns c =
     let entry = c .before .before .before .before .before .before .before .before .before .before .before .before .before .before .before in
     let loaded = c .before .before .before .before .before .before .before .before .before .before .load in
@@ -43,11 +42,12 @@ same-length-3 : tie.Need-same-length-3
 same-length-3 c = search needs
 
 returns-2 : tie.Need-returns-2
-unfolding nextWith
+unfolding nextWith stateNext
 returns-2 c =
     let entry = c .before .before .before .before .before .before .before .before .before in
     let loaded = c .before .before .before .before .load in
-    rw (load-refused (now (entry .args .state)) (loaded .result) _ (loaded .ensures) (c .before .before .a .given .1)) (ap (λ (r : WingEvent). keptNext r (now (entry .args .state)) (now (entry .args .out))) (c .event .ensures))
+    let no = load-refused (now (entry .args .state)) (loaded .result) _ (loaded .ensures) (c .before .before .a .given .1) in
+    (rw no (ap (λ (r : WingEvent). keptNext r (now (entry .args .state)) (now (entry .args .out))) (c .event .ensures)), rw no)
 
 pub wing-next-spec : {M : Type 1} → statement M
 wing-next-spec =
