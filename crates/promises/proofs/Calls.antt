@@ -5,7 +5,7 @@ use mathlib.Core.Path.{_≡_, refl, sym, _∙_, ap}
 use mathlib.Core.Logic.{_↔_}
 use mathlib.Core.List.{List, [], _∷_, _++_}
 use native.Mathlib.Omega.{arith}
-use borrow.Author.Tests.{ltb-true, leb-true}
+use borrow.Author.Tests.{ltb-true, leb-true, eq-eqb, ne-eqb}
 use lib.Dec.{ltb, leb}
 use lib.IntN.{ℤ}
 use lib.ListN.{length, drop, getD}
@@ -16,7 +16,7 @@ use Rattle.wing_node.specs.Utf8.{utf8}
 use Rattle.wing_node.specs.Value.{NodeValue, integer, float, string}
 use Rattle.wing_node.proofs.Branches.{branch}
 use Rattle.wing_wire.specs.Range.{AreBytes}
-use Rattle.wing_wire.specs.State.{soundState}
+use Rattle.wing_wire.specs.State.{bodyLimit, soundState}
 use Rattle.wing_wire.specs.Write.{WriteEffect, writeEffect, writeOf}
 use Rattle.wing_wire.specs.Command.{setBytes}
 use Rattle.wing_wire.specs.RoundTrip.{Settable}
@@ -33,7 +33,7 @@ use Rattle.wing_mirror.specs.Query.{answerOf, lookupAnswer, readOf, refusedReco
 use Rattle.wing_mirror.specs.Answers.{lookupResult, entryResult, recordResult, sameResult, feedResult}
 use Rattle.wing_mirror.specs.Call.{tooLong, notText}
 use Rattle.wing_mirror.specs.Counts.{zeroCounts}
-use Rattle.wing_mirror.specs.Mirror.{FeedEffect, fedAll, takenFeed, mirrorFeed, SetEffect, mirrorSet}
+use Rattle.wing_mirror.specs.Mirror.{FeedEffect, fedAll, takenFeed, mirrorFeed, lentFeed, SetEffect, mirrorSet}
 use Rattle.wing_mirror.specs.Recall.{recallBytes, recallOf}
 use Rattle.wing_mirror.specs.History.{Equal, mirrorStep}
 use Rattle.wing_mirror.specs.declared.answer.Counts.{Counts}
@@ -46,7 +46,7 @@ use Rattle.wing_mirror.proofs.Records.Lookups.{read-row, lookups}
 use Rattle.wing_mirror.proofs.Calls.Outcomes.{passed, set-cases}
 use Rattle.wing_mirror.proofs.Histories.Demand.{histories}
 use Rattle.promises.specs.Lines.{_gives_, by, Answers}
-use Rattle.promises.specs.Mirror.{mirror, setLines, tableLines, recordLines, sameLines, FeedCall, SetCall, RecallCall, LookupCall, RecordCall, SameCall}
+use Rattle.promises.specs.Mirror.{mirror, setLines, tableLines, recordLines, sameLines, FeedCall, LentFeedCall, SetCall, RecallCall, LookupCall, RecordCall, SameCall}
 use Rattle.promises.proofs.Lines.{taken, line, unless, given}
 use Rattle.promises.proofs.Writers.{at-front, past-front, written-rest, command-writes}
 
@@ -71,6 +71,15 @@ feed-call s t bytes = record {
 
     W : FeedEffect → Type 0
     W x = (mirror (x .state) (x .table) ≡ mirror s t) × (x .counts ≡ zeroCounts)
+
+pub lent-feed-call : (s : State) (t : Table) (bytes : List ℕ) →
+    let x = lentFeed full s t bytes in
+    LentFeedCall (mirror s t) bytes (x .answer) (x .counts) (mirror (x .state) (x .table))
+unfolding lentFeed feedResult
+lent-feed-call s t bytes = record {
+  whole = λ e. rw (eq-eqb (length (s .store)) bodyLimit e) (feed-call s t bytes);
+  other = λ n. rw (ne-eqb (length (s .store)) bodyLimit n) (refl, refl);
+}
 
 -- ---- set
 

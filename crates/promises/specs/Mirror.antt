@@ -9,7 +9,7 @@ use lib.IntN.{ℤ}
 use lib.ListN.{length, getD}
 use Rattle.wing_node.specs.Result.{ok, refused}
 use Rattle.wing_node.specs.Value.{NodeValue}
-use Rattle.wing_wire.specs.State.{soundState}
+use Rattle.wing_wire.specs.State.{bodyLimit, soundState}
 use Rattle.wing_wire.specs.Command.{setBytes}
 use Rattle.wing_wire.specs.Reader.{value}
 use Rattle.wing_wire.specs.SetOrders.{ReadsAsSet}
@@ -75,6 +75,11 @@ pub record FeedCall (m : Mirror) (bytes : List ℕ) (answer : FeedAnswer) (count
   pub answered : Answers (feedLines m bytes) (fedAll full (m .decoder) (m .table) bytes .memo .counts) (feedResult answer counts) ((after ≡ m) × (counts ≡ zeroCounts))
   -- demand 3: one step of the mirror's history is this call
   pub step : mirrorStep full m (feed bytes) ≡ record { state = after; outcome = feedOutcome answer counts }
+
+-- a feed whose state's store is lent: that of the state; a store of another size than a state's is 8, and all is as it was
+pub record LentFeedCall (m : Mirror) (bytes : List ℕ) (answer : FeedAnswer) (counts : Counts) (after : Mirror) : Type 0 where
+  pub whole : length (m .decoder .store) ≡ bodyLimit → FeedCall m bytes answer counts after
+  pub other : (length (m .decoder .store) ≡ bodyLimit → ⊥) → (feedResult answer counts ≡ refused 8) × (after ≡ m)
 
 -- a set through the mirror
 pub record SetCall (id : ℤ) (v : NodeValue) (t : Table) (out : List ℕ) (answer : Written) (after : Table) (written : List ℕ) : Type 0 where

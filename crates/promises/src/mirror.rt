@@ -1,12 +1,15 @@
 // The calls of the mirror, each with what is promised of it as its contract. There is nothing here but the call.
 ghost use Rattle.wing_node.specs.Value.{integer as integerOf, float as floatOf, string as stringOf};
+ghost use Rattle.wing_wire.specs.State.{stateOf};
 ghost use Rattle.wing_mirror.specs.Table.{table as tableOf};
-ghost use Rattle.promises.specs.Mirror.{mirror as mirrorOf, FeedCall, SetCall, RecallCall, LookupCall, RecordCall, SameCall};
+ghost use Rattle.promises.specs.Mirror.{mirror as mirrorOf, FeedCall, LentFeedCall, SetCall, RecallCall, LookupCall, RecordCall, SameCall};
 use wing_mirror::answer::FeedReply;
+use wing_mirror::answer::LentFeedReply;
 use wing_mirror::answer::Lookup;
 use wing_mirror::answer::RecordRead;
 use wing_mirror::answer::Same;
 use wing_mirror::answer::SetReply;
+use wing_wire::state::Control;
 use wing_wire::state::State;
 use wing_wire::write::Written;
 
@@ -14,6 +17,18 @@ pub fn feed(state: State, table: &mut [u8], count: usize, bytes: &[u8]) -> FeedR
     ensures { λ r. ⌜ FeedCall (mirrorOf state (tableOf (now (table .entry)) count)) (now (bytes .entry)) (r .answer) (r .counts) (mirrorOf (r .state) (tableOf (now (table .exit)) (r .count))) ⌝ }
 {
     wing_mirror::feed::feed(state, table, count, bytes)
+}
+
+pub fn feed_lent(
+    c: Control,
+    store: &mut [u8],
+    table: &mut [u8],
+    count: usize,
+    bytes: &[u8],
+) -> LentFeedReply
+    ensures { λ r. ⌜ LentFeedCall (mirrorOf (stateOf c (now (store .entry))) (tableOf (now (table .entry)) count)) (now (bytes .entry)) (r .answer) (r .counts) (mirrorOf (stateOf (r .control) (now (store .exit))) (tableOf (now (table .exit)) (r .count))) ⌝ }
+{
+    wing_mirror::feed::feed_lent(c, store, table, count, bytes)
 }
 
 pub fn set_int(table: &mut [u8], count: usize, out: &mut [u8], id: i32, value: i32) -> SetReply
