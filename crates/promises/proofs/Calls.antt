@@ -78,7 +78,7 @@ pub lent-feed-call : (s : State) (t : Table) (bytes : List ℕ) →
 unfolding lentFeed feedResult
 lent-feed-call s t bytes = record {
   whole = λ e. rw (eq-eqb (length (s .store)) bodyLimit e) (feed-call s t bytes);
-  other = λ n. rw (ne-eqb (length (s .store)) bodyLimit n) (refl, refl);
+  other = λ n. rw (ne-eqb (length (s .store)) bodyLimit n) (refl, refl, refl);
 }
 
 -- ---- set

@@ -79,7 +79,7 @@ pub record FeedCall (m : Mirror) (bytes : List ℕ) (answer : FeedAnswer) (count
 -- a feed whose state's store is lent: that of the state; a store of another size than a state's is 8, and all is as it was
 pub record LentFeedCall (m : Mirror) (bytes : List ℕ) (answer : FeedAnswer) (counts : Counts) (after : Mirror) : Type 0 where
   pub whole : length (m .decoder .store) ≡ bodyLimit → FeedCall m bytes answer counts after
-  pub other : (length (m .decoder .store) ≡ bodyLimit → ⊥) → (feedResult answer counts ≡ refused 8) × (after ≡ m)
+  pub other : (length (m .decoder .store) ≡ bodyLimit → ⊥) → (feedResult answer counts ≡ refused 8) × (after ≡ m) × (counts ≡ zeroCounts)
 
 -- a set through the mirror
 pub record SetCall (id : ℤ) (v : NodeValue) (t : Table) (out : List ℕ) (answer : Written) (after : Table) (written : List ℕ) : Type 0 where

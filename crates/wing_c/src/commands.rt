@@ -124,7 +124,7 @@ pub extern "C" fn wing_request_meter(
 
 // 01: for ids from last to 1. 9.
 #[no_mangle]
-pub extern "C" fn wing_keep_alive_meters(out: &mut [u8], last_id: u16, port: u16) -> WingWritten
+pub extern "C" fn wing_keep_alive_meters(out: &mut [u8], port: u16, last_id: u16) -> WingWritten
     ensures { λ r. ⌜ command r (now (out .exit)) ≡ commandOf (writeOf (keepAlives port «last_id») (now (out .entry))) ⌝ }
 {
     answers::written(meter::keep_alive_meters(out, last_id, port))
