@@ -25,7 +25,8 @@ keep-state-requires c κs =
     let loaded = saved-laws .loaded (now (k .args .state)) (k .args .s) (k .pre) in
     let are = are-bytes (now (k .args .bytes)) (λ i. c .before .before .before .before .before .before .shared-slice-known .given i .fits) in
     let sound = feed-sound (k .args .s) (table (now (k .args .table)) (k .args .count)) (now (k .args .bytes)) (state-typed (k .args .s) _ (k .good .1 .0)) are (loaded .sound) in
-    (ap (λ (e : FeedEffect). soundState (e .state)) fed ∙ sound, loaded .size)
+    let after = ap (λ (e : FeedEffect). soundState (e .state)) fed ∙ sound in
+    ((cc), loaded .size)
 
 fed-requires : tie.Need-fed-requires
 fed-requires c κs = search needs
