@@ -2,13 +2,13 @@
 use Prim.Native.Nat.{ℕ}
 use mathlib.Core.Bool.{not}
 use mathlib.Core.List.{List, _++_}
-use lib.Dec.{ltb, leb}
+use lib.Dec.{ltb, leb, eqb}
 use lib.IntN.{ℤ}
 use lib.ListN.{length, drop}
 use Rattle.wing_node.specs.Bool.{if}
 use Rattle.wing_node.specs.Value.{NodeValue}
 use Rattle.wing_node.specs.Definition.{definitionOf}
-use Rattle.wing_wire.specs.State.{soundState}
+use Rattle.wing_wire.specs.State.{bodyLimit, stateOf, soundState}
 use Rattle.wing_wire.specs.Stream.{Fed, feedOf}
 use Rattle.wing_wire.specs.Reader.{Event, more, value, body, end, refused, eventOf}
 use Rattle.wing_wire.specs.Command.{setBytes}
@@ -27,6 +27,7 @@ use Rattle.wing_mirror.specs.declared.counts.Mark.the-variants.{Stored, 
 use Rattle.wing_mirror.specs.declared.answer.FeedAnswer.{FeedAnswer}
 use Rattle.wing_mirror.specs.declared.answer.FeedAnswer.the-variants.{Taken, Refused as FeedRefused}
 use Rattle.wing_mirror.specs.declared.answer.FeedReply.{FeedReply}
+use Rattle.wing_mirror.specs.declared.answer.LentFeedReply.{LentFeedReply}
 use Rattle.wing_mirror.specs.declared.answer.SetReply.{SetReply}
 
 -- a table, and the counts of a feed so far
@@ -56,6 +57,10 @@ takenFeed x = record { answer = Taken; counts = x .memo .counts; state = record 
 -- what the call leaves, by its reply and the lent buffer
 abbrev pub feedEffect : FeedReply → List ℕ → FeedEffect
 feedEffect r buffer = record { answer = r .answer; counts = r .counts; state = r .state; table = table buffer (r .count) }
+
+-- the same where the store is lent too
+abbrev pub lentEffect : LentFeedReply → List ℕ → List ℕ → FeedEffect
+lentEffect r store buffer = record { answer = r .answer; counts = r .counts; state = stateOf (r .control) store; table = table buffer (r .count) }
 
 -- what a set leaves
 pub record SetEffect : Type 0 where
@@ -101,6 +106,10 @@ module _ (L : Layout) where
       (if (leb (length bytes) 65536) (takenFeed (fedAll s t bytes)) (refusedFeed 14 s t))
       (refusedFeed 7 s t))
       (refusedFeed 8 s t)
+
+  -- the same where the state's store is lent: one of another size than a state's is no sound state's
+  unfoldable pub lentFeed : State → Table → List ℕ → FeedEffect
+  lentFeed s t bytes = if (eqb (length (s .store)) bodyLimit) (mirrorFeed s t bytes) (refusedFeed 8 s t)
 
   -- 01: set through the mirror writes the command and stores the value; 7, the number of a value that is not kept, 10, 1, 6, 9
   unfoldable pub mirrorSet : ℤ → NodeValue → Table → List ℕ → SetEffect

@@ -2,13 +2,13 @@
 use Prim.Native.Nat.{ℕ}
 use mathlib.Core.List.{List}
 use Rattle.wing_wire.specs.Stream.{Fed}
-use Rattle.wing_wire.specs.declared.state.State.{State}
+use Rattle.wing_wire.specs.declared.state.Control.{Control}
 use Rattle.wing_mirror.specs.Table.{table}
 use Rattle.wing_mirror.specs.Counts.{zeroCounts, tick}
 use Rattle.wing_mirror.specs.Mirror.{TableTally, tableTally}
 use Rattle.wing_mirror.specs.declared.answer.Counts.{Counts}
 use Rattle.wing_mirror.specs.declared.answer.FeedAnswer.the-variants.{Refused}
-use Rattle.wing_mirror.specs.declared.answer.FeedReply.{FeedReply}
+use Rattle.wing_mirror.specs.declared.answer.LentFeedReply.{LentFeedReply}
 use Rattle.wing_mirror.specs.declared.counts.Mark.{Mark}
 use Rattle.wing_mirror.specs.declared.keep.Tally.{Tally}
 use Rattle.wing_mirror.specs.declared.keep.FedOn.{FedOn}
@@ -22,8 +22,8 @@ abbrev pub ticked : ℕ → Counts → Mark → Tally
 ticked count counts m = record { count = count; counts = tick m counts }
 
 -- a refused feed's reply
-abbrev pub refusedFeedReply : ℕ → State → ℕ → FeedReply
-refusedFeedReply why s count = record { answer = Refused why; counts = zeroCounts; state = s; count = count }
+abbrev pub refusedLentReply : ℕ → Control → ℕ → LentFeedReply
+refusedLentReply why c count = record { answer = Refused why; counts = zeroCounts; control = c; count = count }
 
 -- what a feed leaves, with the store and the table that were lent
 abbrev pub fedOf : FedOn → List ℕ → List ℕ → Fed TableTally

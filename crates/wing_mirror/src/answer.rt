@@ -1,5 +1,6 @@
 // What the queries of a table, a feed and a set answer.
 use wing_node::value::Value;
+use wing_wire::state::Control;
 use wing_wire::state::State;
 use wing_wire::write::Written;
 
@@ -42,6 +43,14 @@ pub struct Counts {
 pub enum FeedAnswer {
     Taken,
     Refused(u8),
+}
+
+// The same where the store is lent: the control after it stands beside the counts.
+pub struct LentFeedReply {
+    pub answer: FeedAnswer,
+    pub counts: Counts,
+    pub control: Control,
+    pub count: usize,
 }
 
 // The answer of a feed with its six counts, the state after it and the number of records. A refused feed has six zero counts.

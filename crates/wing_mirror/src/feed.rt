@@ -6,10 +6,11 @@ ghost use lib.ListN.{length};
 ghost use Rattle.wing_wire.specs.State.{soundState, stateOf, bodyLimit};
 ghost use Rattle.wing_mirror.specs.Record.{full};
 ghost use Rattle.wing_mirror.specs.Table.{table as tableOf, usable};
-ghost use Rattle.wing_mirror.specs.Mirror.{fedAll, takenFeed, feedEffect, mirrorFeed};
-ghost use Rattle.wing_mirror.specs.Tally.{fedOf, refusedFeedReply};
+ghost use Rattle.wing_mirror.specs.Mirror.{fedAll, takenFeed, feedEffect, lentEffect, mirrorFeed, lentFeed};
+ghost use Rattle.wing_mirror.specs.Tally.{fedOf, refusedLentReply};
 use crate::answer::FeedAnswer;
 use crate::answer::FeedReply;
+use crate::answer::LentFeedReply;
 use crate::counts::zero_counts;
 use crate::keep::FedOn;
 use crate::keep::Tally;
@@ -17,7 +18,7 @@ use crate::keep::keep_answer;
 use crate::table::is_usable;
 use wing_wire::state::Control;
 use wing_wire::state::State;
-use wing_wire::state::is_sound;
+use wing_wire::state::is_sound_lent;
 use wing_wire::stream::advance;
 use wing_wire::stream::is_more;
 use wing_wire::stream::release;
@@ -49,38 +50,59 @@ fn feed_on(c: Control, store: &mut [u8], table: &mut [u8], count: usize, bytes: 
     }
 }
 
-fn fed(state: State, table: &mut [u8], count: usize, bytes: &[u8]) -> FeedReply
-    requires { ⌜ (soundState state ≡ true) × (usable full (tableOf (now table) count) ≡ true) × (length (now bytes) ≤ 65536) ⌝ }
-    ensures { λ r. ⌜ feedEffect r (now (table .exit)) ≡ takenFeed (fedAll full state (tableOf (now (table .entry)) count) (now (bytes .entry))) ⌝ }
+// A feed that is taken.
+fn fed(c: Control, store: &mut [u8], table: &mut [u8], count: usize, bytes: &[u8]) -> LentFeedReply
+    requires { ⌜ (soundState (stateOf c (now store)) ≡ true) × (length (now store) ≡ bodyLimit) × (usable full (tableOf (now table) count) ≡ true) × (length (now bytes) ≤ 65536) ⌝ }
+    ensures { λ r. ⌜ lentEffect r (now (store .exit)) (now (table .exit)) ≡ takenFeed (fedAll full (stateOf c (now (store .entry))) (tableOf (now (table .entry)) count) (now (bytes .entry))) ⌝ }
 {
-    let c = state.control;
-    let mut store = state.store;
-    let r = feed_on(c, &mut store, table, count, bytes);
+    let r = feed_on(c, store, table, count, bytes);
     let d = r.control;
     let t = r.tally;
     let counts = t.counts;
-    FeedReply {
+    LentFeedReply {
         answer: FeedAnswer::Taken,
         counts: counts,
-        state: State {
-            control: d,
-            store: store,
-        },
+        control: d,
         count: t.count,
     }
 }
 
 // 01: a refused feed changes and counts nothing.
-fn refused(why: u8, state: State, count: usize) -> FeedReply
-    ensures { λ r. ⌜ r ≡ refusedFeedReply why state count ⌝ }
+fn refused(why: u8, c: Control, count: usize) -> LentFeedReply
+    ensures { λ r. ⌜ r ≡ refusedLentReply why c count ⌝ }
 {
     let counts = zero_counts();
-    FeedReply {
+    LentFeedReply {
         answer: FeedAnswer::Refused(why),
         counts: counts,
-        state: state,
+        control: c,
         count: count,
     }
+}
+
+// A feed whose state's store is lent, so that nothing of it is copied. A store of another size than a state's is 8. 8, 7, 14.
+pub fn feed_lent(
+    c: Control,
+    store: &mut [u8],
+    table: &mut [u8],
+    count: usize,
+    bytes: &[u8],
+) -> LentFeedReply
+    ensures { λ r. ⌜ lentEffect r (now (store .exit)) (now (table .exit)) ≡ lentFeed full (stateOf c (now (store .entry))) (tableOf (now (table .entry)) count) (now (bytes .entry)) ⌝ }
+{
+    if store.len() != State::BODY_LIMIT {
+        return refused(8, c, count);
+    }
+    if is_sound_lent(c, store) {
+        if is_usable(table, count) {
+            if bytes.len() <= 65536 {
+                return fed(c, store, table, count, bytes);
+            }
+            return refused(14, c, count);
+        }
+        return refused(7, c, count);
+    }
+    refused(8, c, count)
 }
 
 // 01: a feed takes up to 65,536 bytes and runs next until 'more': each value is stored at its node or has no place, each body goes
@@ -88,14 +110,19 @@ fn refused(why: u8, state: State, count: usize) -> FeedReply
 pub fn feed(state: State, table: &mut [u8], count: usize, bytes: &[u8]) -> FeedReply
     ensures { λ r. ⌜ feedEffect r (now (table .exit)) ≡ mirrorFeed full state (tableOf (now (table .entry)) count) (now (bytes .entry)) ⌝ }
 {
-    if is_sound(state) {
-        if is_usable(table, count) {
-            if bytes.len() <= 65536 {
-                return fed(state, table, count, bytes);
-            }
-            return refused(14, state, count);
-        }
-        return refused(7, state, count);
+    let c = state.control;
+    let mut store = state.store;
+    let r = feed_lent(c, &mut store, table, count, bytes);
+    let answer = r.answer;
+    let counts = r.counts;
+    let d = r.control;
+    FeedReply {
+        answer: answer,
+        counts: counts,
+        state: State {
+            control: d,
+            store: store,
+        },
+        count: r.count,
     }
-    refused(8, state, count)
 }

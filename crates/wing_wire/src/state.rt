@@ -5,7 +5,7 @@ ghost use lib.Dec.{ltb};
 ghost use lib.ListN.{drop};
 ghost use Rattle.wing_wire.specs.State.{freshControl, freshState, zeros, underway, storedBy};
 ghost use Rattle.wing_wire.specs.State.{soundPending, soundEscape, soundNumber, soundString, soundBody};
-ghost use Rattle.wing_wire.specs.State.{soundCounts, soundToken, soundState};
+ghost use Rattle.wing_wire.specs.State.{soundCounts, soundToken, soundState, stateOf};
 use crate::token;
 use crate::token::Class;
 
@@ -227,15 +227,22 @@ fn sound_token(token: Token, store: &[u8]) -> bool
     false
 }
 
-// The states that a caller may hand back; any other is refused (refusal 8).
+// The states that a caller may hand back, by control and lent store; any other is refused (refusal 8).
+pub fn is_sound_lent(control: Control, store: &[u8]) -> bool
+    ensures { λ r. ⌜ r ≡ soundState (stateOf control (now (store .entry))) ⌝ }
+{
+    let escape = control.escape;
+    if sound_escape(escape) {
+        let token = control.token;
+        return sound_token(token, store);
+    }
+    false
+}
+
+// The same of a state by value.
 pub fn is_sound(s: State) -> bool
     ensures { λ r. ⌜ r ≡ soundState s ⌝ }
 {
     let control = s.control;
-    let escape = control.escape;
-    if sound_escape(escape) {
-        let token = control.token;
-        return sound_token(token, &s.store);
-    }
-    false
+    is_sound_lent(control, &s.store)
 }
