@@ -45,7 +45,7 @@ use Rattle.wing_c.specs.declared.answers.WingEvent.{WingEvent}
 use Rattle.wing_c.proofs.Effects.{feed-as}
 
 -- a sound state's bytes fill those of another
-pub saves : (s : State) (out : List ℕ) {w : Written} {kept : List ℕ} → Typed s → soundState s ≡ true → length out ≡ savedSize →
+saves : (s : State) (out : List ℕ) {w : Written} {kept : List ℕ} → Typed s → soundState s ≡ true → length out ≡ savedSize →
     writeEffect w kept ≡ saveOf s out → Saves kept s
 saves s out {w} {kept} t g l e =
     record { typed = t; sound = g; laid = sym (ap (λ (x : WriteEffect). x .out) (e ∙ saved-laws .kept s out g (t .range .store .size) l)) }

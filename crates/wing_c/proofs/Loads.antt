@@ -34,12 +34,12 @@ unfolding loadedResult
 load-refused bytes l n e a = read-as bytes l e ∙ ap (λ (x : LoadAnswer). loadedResult x (l .state)) a
 
 -- a next call that is not refused is a run of the core
-pub next-run : (s : State) (bytes : List ℕ) → soundState s ≡ true → length bytes ≤ 65536 → nextOf s bytes ≡ nextFrom (advanceOf (s .control) (s .store) bytes)
+next-run : (s : State) (bytes : List ℕ) → soundState s ≡ true → length bytes ≤ 65536 → nextOf s bytes ≡ nextFrom (advanceOf (s .control) (s .store) bytes)
 unfolding nextOf
 next-run s bytes g h = rw (g, le-leb (length bytes) 65536 h) refl
 
 -- and its event is that of the core's answer
-pub next-event : (s : State) (bytes : List ℕ) → soundState s ≡ true → length bytes ≤ 65536 →
+next-event : (s : State) (bytes : List ℕ) → soundState s ≡ true → length bytes ≤ 65536 →
     nextEvent s bytes ≡
     eventOf (advanceOf (s .control) (s .store) bytes .effect .answered .answer) (advanceOf (s .control) (s .store) bytes .effect .store)
     (advanceOf (s .control) (s .store) bytes .effect .store)
@@ -47,7 +47,7 @@ unfolding nextEvent
 next-event s bytes g h = rw (g, le-leb (length bytes) 65536 h) refl
 
 -- the bytes of an event stand at the front of the store
-pub event-bytes : (a : Answer) (s : List ℕ) → eventBytes (eventOf a s s) ≡ take (answerBytes a) s
+event-bytes : (a : Answer) (s : List ℕ) → eventBytes (eventOf a s s) ≡ take (answerBytes a) s
 unfolding eventBytes stringBytes eventOf
 event-bytes More s = refl
 event-bytes (Integer x) s = refl

@@ -2,7 +2,6 @@
 use mathlib.Core.Bool.{true, false}
 use mathlib.Core.Path.{_≡_, sym, _∙_}
 use borrow.Author.Tests.{eq-eqb, ne-eqb}
-use denote.Ref.{now}
 use Rattle.wing_saved.specs.Saved.{headBytes, controlIn, begins, headFrom, headAs}
 use borrow.Author.Needs.{needs}
 use Rattle.wing_saved.proofs.head.Statement.{statement}

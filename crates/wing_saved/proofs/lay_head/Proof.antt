@@ -2,7 +2,6 @@
 use mathlib.Core.Path.{refl}
 use native.Mathlib.Omega.{arith}
 use borrow.Author.Needs.{needs}
-use denote.Ref.{now}
 use lib.Seq.{sets}
 use Rattle.wing_wire.specs.Write.{Laid}
 use Rattle.wing_wire.proofs.Laws.{writer-laws}
