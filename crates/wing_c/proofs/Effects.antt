@@ -3,14 +3,15 @@ use Prim.Native.Nat.{ℕ}
 use mathlib.Core.Path.{_≡_, _∙_, ap}
 use mathlib.Core.List.{List}
 use lib.IntN.{ℤ}
+use Rattle.wing_wire.specs.State.{stateOf}
 use Rattle.wing_wire.specs.Write.{WriteEffect, writeEffect}
 use Rattle.wing_wire.specs.Meter.{RequestEffect, requestEffect, PacketEffect, packetEffect}
 use Rattle.wing_wire.specs.declared.write.Written.{Written}
 use Rattle.wing_wire.specs.declared.meter.Requested.{Requested}
 use Rattle.wing_wire.specs.declared.meter.MetersRead.{MetersRead}
-use Rattle.wing_mirror.specs.Mirror.{SetEffect, setEffect, FeedEffect, feedEffect}
+use Rattle.wing_mirror.specs.Mirror.{SetEffect, setEffect, FeedEffect, lentEffect}
 use Rattle.wing_mirror.specs.declared.answer.SetReply.{SetReply}
-use Rattle.wing_mirror.specs.declared.answer.FeedReply.{FeedReply}
+use Rattle.wing_mirror.specs.declared.answer.LentFeedReply.{LentFeedReply}
 use Rattle.wing_c.specs.Numbers.{writtenNumbers, setNumbers, requestedNumbers, metersNumbers, feedStatus, fedNumbers}
 use Rattle.wing_c.specs.Written.{command, commandOf, setOrder, setOrderOf, request, requestOf, packet, packetFrom}
 use Rattle.wing_c.specs.Kept.{keptFeed, stateAfter, feedFrom}
@@ -39,9 +40,10 @@ pub packet-as : {r : WingMeters} (w : MetersRead) {out : List ℤ} {e : PacketEf
 packet-as w {out} p q = ap (λ (x : WingMeters). packet x out) p ∙ ap packetFrom q
 
 -- a feed
-pub feed-as : {r : WingFed} (f : FeedReply) (before : List ℕ) {state buffer : List ℕ} {e : FeedEffect} → r ≡ fedNumbers (feedStatus (f .answer)) (f .counts) (f .count) →
-    state ≡ stateAfter (f .answer) (f .state) before → feedEffect f buffer ≡ e → keptFeed r state buffer ≡ feedFrom e before
-feed-as f before {state} {buffer} p s q =
+pub feed-as : {r : WingFed} (f : LentFeedReply) (before : List ℕ) {store state buffer : List ℕ} {e : FeedEffect} →
+    r ≡ fedNumbers (feedStatus (f .answer)) (f .counts) (f .count) → state ≡ stateAfter (f .answer) (stateOf (f .control) store) before →
+    lentEffect f store buffer ≡ e → keptFeed r state buffer ≡ feedFrom e before
+feed-as f before {store} {state} {buffer} p s q =
     ap (λ (x : WingFed). keptFeed x state buffer) p ∙
     ap (λ (x : List ℕ). keptFeed (fedNumbers (feedStatus (f .answer)) (f .counts) (f .count)) x buffer) s ∙
     ap (λ (x : FeedEffect). feedFrom x before) q

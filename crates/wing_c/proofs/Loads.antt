@@ -13,14 +13,12 @@ use Rattle.wing_wire.specs.declared.state.State.{State}
 use Rattle.wing_wire.specs.declared.stream.Advanced.{Advanced}
 use Rattle.wing_wire.specs.declared.unit.Answer.{Answer}
 use Rattle.wing_wire.specs.declared.unit.Answer.the-variants.{More, Integer, Float, String, Body, End, Refused}
-use Rattle.wing_saved.specs.Saved.{stateBytes, stateFrom, loadedResult, loadOf}
+use Rattle.wing_saved.specs.Saved.{stateFrom, loadedResult, loadOf}
 use Rattle.wing_saved.specs.declared.Loaded.{Loaded}
 use Rattle.wing_saved.specs.declared.LoadAnswer.{LoadAnswer}
 use Rattle.wing_saved.specs.declared.LoadAnswer.the-variants.{Good, Refused as NotLoaded}
 use Rattle.wing_saved.proofs.Saving.Trips.{loaded-result}
-use Rattle.wing_c.specs.Numbers.{eventNumbers}
-use Rattle.wing_c.specs.Kept.{stringBytes, eventBytes, answerBytes, keptNext, nextFrom as keptFrom}
-use Rattle.wing_c.specs.declared.answers.WingEvent.{WingEvent}
+use Rattle.wing_c.specs.Kept.{stringBytes, eventBytes, answerBytes, lentNext, nextLeft}
 
 -- the bytes read as what the answer and the state beside it say
 read-as : (bytes : List ℕ) (l : Loaded) → l ≡ loadOf bytes → stateFrom bytes ≡ loadedResult (l .answer) (l .state)
@@ -36,12 +34,12 @@ unfolding loadedResult
 load-refused bytes l n e a = read-as bytes l e ∙ ap (λ (x : LoadAnswer). loadedResult x (l .state)) a
 
 -- a next call that is not refused is a run of the core
-pub next-run : (s : State) (bytes : List ℕ) → soundState s ≡ true → length bytes ≤ 65536 → nextOf s bytes ≡ nextFrom (advanceOf (s .control) (s .store) bytes)
+next-run : (s : State) (bytes : List ℕ) → soundState s ≡ true → length bytes ≤ 65536 → nextOf s bytes ≡ nextFrom (advanceOf (s .control) (s .store) bytes)
 unfolding nextOf
 next-run s bytes g h = rw (g, le-leb (length bytes) 65536 h) refl
 
 -- and its event is that of the core's answer
-pub next-event : (s : State) (bytes : List ℕ) → soundState s ≡ true → length bytes ≤ 65536 →
+next-event : (s : State) (bytes : List ℕ) → soundState s ≡ true → length bytes ≤ 65536 →
     nextEvent s bytes ≡
     eventOf (advanceOf (s .control) (s .store) bytes .effect .answered .answer) (advanceOf (s .control) (s .store) bytes .effect .store)
     (advanceOf (s .control) (s .store) bytes .effect .store)
@@ -49,7 +47,7 @@ unfolding nextEvent
 next-event s bytes g h = rw (g, le-leb (length bytes) 65536 h) refl
 
 -- the bytes of an event stand at the front of the store
-pub event-bytes : (a : Answer) (s : List ℕ) → eventBytes (eventOf a s s) ≡ take (answerBytes a) s
+event-bytes : (a : Answer) (s : List ℕ) → eventBytes (eventOf a s s) ≡ take (answerBytes a) s
 unfolding eventBytes stringBytes eventOf
 event-bytes More s = refl
 event-bytes (Integer x) s = refl
@@ -59,12 +57,9 @@ event-bytes (Body n) s = refl
 event-bytes End s = refl
 event-bytes (Refused n) s = refl
 
--- a next call made by the core: its answer by numbers, its state kept, the bytes of its event at the front of the output
-pub next-as : (s : State) (bytes out : List ℕ) (x : Advanced) (store : List ℕ) {r : WingEvent} {kept handed : List ℕ} →
+-- a next call made by the core: its answer, the bytes of its event at the front of the output, and the store cleared of them
+pub next-left : (s : State) (bytes out : List ℕ) (x : Advanced) (store : List ℕ) {cleared handed : List ℕ} →
     soundState s ≡ true → length bytes ≤ 65536 → run x store ≡ advanceOf (s .control) (s .store) bytes →
-    r ≡ eventNumbers (x .answer) (x .control .node) (x .taken) →
-    stateBytes (record { control = x .control; store = released (x .answer) store }) ≡ kept →
-    handed ≡ over (take (answerBytes (x .answer)) store) out →
-    keptNext r kept handed ≡ keptFrom (nextOf s bytes) (nextEvent s bytes) out
-next-as s bytes out x store {r} {kept} {handed} g h a p q o =
-    rw (next-run s bytes g h, next-event s bytes g h, ← a, event-bytes (x .answer) store, p, o, q) refl
+    cleared ≡ released (x .answer) store → handed ≡ over (take (answerBytes (x .answer)) store) out → lentNext x cleared handed ≡ nextLeft s bytes out
+next-left s bytes out x store g h a p o =
+    rw (next-run s bytes g h, next-event s bytes g h, ← a, event-bytes (x .answer) store, p, o) refl

@@ -3,13 +3,15 @@ use Prim.Native.Nat.{ℕ}
 use mathlib.Core.List.{List, []}
 use lib.Dec.{leb}
 use lib.IntN.{ℤ, pos}
-use lib.ListN.{length}
+use lib.ListN.{length, drop}
 use Rattle.wing_node.specs.Bool.{if}
 use Rattle.wing_node.specs.Result.{Result, ok, refused}
 use Rattle.wing_node.specs.Value.{NodeValue, integer, float, string}
-use Rattle.wing_wire.specs.State.{bodyLimit}
+use Rattle.wing_wire.specs.State.{bodyLimit, stateOf}
 use Rattle.wing_wire.specs.Reader.{Event, more, value, body, end, refused as refusal, over, nextOf, nextEvent}
+use Rattle.wing_wire.specs.declared.state.Control.{Control}
 use Rattle.wing_wire.specs.declared.state.State.{State}
+use Rattle.wing_wire.specs.declared.stream.Advanced.{Advanced}
 use Rattle.wing_wire.specs.declared.reader.Reply.{Reply}
 use Rattle.wing_wire.specs.declared.unit.Answer.{Answer}
 use Rattle.wing_wire.specs.declared.unit.Answer.the-variants.{More, Integer, Float, String, Body, End, Refused as NextRefused}
@@ -28,6 +30,10 @@ use Rattle.wing_c.specs.declared.answers.WingEvent.{WingEvent}
 abbrev pub stateStatus : Result State → ℤ
 stateStatus (ok s) = pos 0
 stateStatus (refused n) = minus n
+
+-- the state of a control and of the store in a state's bytes
+abbrev pub stateIn : Control → List ℕ → State
+stateIn c state = stateOf c (drop 27 state)
 
 -- ---- feed
 
@@ -105,6 +111,23 @@ answerBytes (String n) = n
 answerBytes (Body n) = n
 answerBytes End = 0
 answerBytes (NextRefused n) = 0
+
+-- what a next call on a lent store leaves: its answer, the bytes taken, the state and the output
+pub record LentNext : Type 0 where
+  pub answer : Answer
+  pub taken : ℕ
+  pub state : State
+  pub out : List ℕ
+
+-- the core's answer, with the store and the output
+abbrev pub lentNext : Advanced → List ℕ → List ℕ → LentNext
+lentNext r store out = record { answer = r .answer; taken = r .taken; state = stateOf (r .control) store; out = out }
+
+-- the library's next call, with the bytes of a string or a body at the front of the output
+abbrev pub nextLeft : State → List ℕ → List ℕ → LentNext
+nextLeft s bytes out =
+    let r = nextOf s bytes in
+    record { answer = r .answer; taken = r .taken; state = r .state; out = over (eventBytes (nextEvent s bytes)) out }
 
 -- the library's reply and event: numbers, the state's bytes, and the bytes of a string or a body at the front of the output
 abbrev pub nextFrom : Reply → Event → List ℕ → KeptNext

@@ -4,7 +4,7 @@ ghost use Rattle.wing_mirror.specs.Counts.{zeroCounts};
 ghost use Rattle.wing_c.specs.Numbers.{minus as minusOf, writtenNumbers, setNumbers, feedStatus, fedNumbers, lookupNumbers, sameNumber};
 ghost use Rattle.wing_c.specs.Numbers.{heldNumbers, recordNumbers, eventAs, noEvent, eventNumbers, requestedNumbers, metersNumbers};
 use wing_mirror::answer::FeedAnswer;
-use wing_mirror::answer::FeedReply;
+use wing_mirror::answer::LentFeedReply;
 use wing_mirror::answer::Lookup;
 use wing_mirror::answer::RecordAnswer;
 use wing_mirror::answer::RecordRead;
@@ -138,7 +138,7 @@ pub(crate) fn feed_status(a: FeedAnswer) -> i32
     }
 }
 
-pub(crate) fn fed(r: FeedReply) -> WingFed
+pub(crate) fn fed(r: LentFeedReply) -> WingFed
     ensures { λ x. ⌜ x ≡ fedNumbers (feedStatus (r .answer)) (r .counts) (r .count) ⌝ }
 {
     let a = r.answer;

@@ -4,18 +4,18 @@ ghost use mathlib.Core.Bool.{true};
 ghost use lib.IntN.{pos};
 ghost use lib.ListN.{length};
 ghost use Rattle.wing_node.specs.Bool.{if};
-ghost use Rattle.wing_node.specs.Result.{ok};
 ghost use Rattle.wing_node.specs.Value.{integer, float, string as stringOf};
 ghost use Rattle.wing_wire.specs.State.{soundState};
-ghost use Rattle.wing_saved.specs.Saved.{savedSize, stateFrom};
+ghost use Rattle.wing_saved.specs.Saved.{savedSize, stateFrom, HeadOf};
 ghost use Rattle.wing_mirror.specs.Record.{full};
 ghost use Rattle.wing_mirror.specs.Table.{table as tableOf, usable};
-ghost use Rattle.wing_mirror.specs.Mirror.{mirrorFeed, mirrorSet};
+ghost use Rattle.wing_mirror.specs.Mirror.{mirrorSet};
+ghost use Rattle.wing_mirror.specs.declared.answer.FeedAnswer.the-variants.{Taken};
 ghost use Rattle.wing_mirror.specs.Recall.{recallOf};
 ghost use Rattle.wing_mirror.specs.Query.{lookupAnswer, recordAnswer, sameAnswer};
 ghost use Rattle.wing_c.specs.Numbers.{minus, lookupNumbers, recordNumbers, sameNumber};
 ghost use Rattle.wing_c.specs.Written.{command, commandOf, setOrder, setOrderOf};
-ghost use Rattle.wing_c.specs.Kept.{keptFeed, stateAfter, readAfter, feedFrom, feedKept, stateFed};
+ghost use Rattle.wing_c.specs.Kept.{stateIn, keptFeed, stateAfter, readAfter, feedKept, stateFed};
 use crate::answers;
 use crate::answers::WingFed;
 use crate::answers::WingLookup;
@@ -24,13 +24,14 @@ use crate::answers::WingSet;
 use crate::answers::WingWritten;
 use crate::state::keep;
 use wing_mirror::answer::FeedAnswer;
-use wing_mirror::feed::feed;
+use wing_mirror::feed::feed_lent;
 use wing_mirror::query;
 use wing_mirror::recall::recall;
 use wing_mirror::set;
 use wing_mirror::table::is_usable;
+use wing_saved::HEAD;
 use wing_saved::LoadAnswer;
-use wing_wire::state::State;
+use wing_wire::state::Control;
 
 // 0 for a table that the calls take. 7.
 #[no_mangle]
@@ -43,11 +44,11 @@ pub extern "C" fn wing_table_check(table: &[u8], count: usize) -> i32
     answers::minus(7)
 }
 
-// A feed that was taken leaves its state.
-fn keep_state(state: &mut [u8], a: FeedAnswer, after: State)
-    requires { ⌜ (soundState after ≡ true) × (length (now state) ≡ savedSize) ⌝ }
-    ensures { λ _. ⌜ now (state .exit) ≡ stateAfter a after (now (state .entry)) ⌝ }
-    ensures { λ _. ⌜ stateFrom (now (state .exit)) ≡ readAfter a after (stateFrom (now (state .entry))) ⌝ }
+// A feed that was taken leaves its control before the store.
+fn keep_state(state: &mut [u8], a: FeedAnswer, after: Control)
+    requires { ⌜ (a ≡ Taken → soundState (stateIn after (now state)) ≡ true) × (length (now state) ≡ savedSize) ⌝ }
+    ensures { λ _. ⌜ now (state .exit) ≡ stateAfter a (stateIn after (now (state .entry))) (now (state .entry)) ⌝ }
+    ensures { λ _. ⌜ stateFrom (now (state .exit)) ≡ readAfter a (stateIn after (now (state .entry))) (stateFrom (now (state .entry))) ⌝ }
 {
     match a {
         FeedAnswer::Taken => {
@@ -57,14 +58,15 @@ fn keep_state(state: &mut [u8], a: FeedAnswer, after: State)
     }
 }
 
-fn feed_on(state: &mut [u8], s: State, table: &mut [u8], count: usize, bytes: &[u8]) -> WingFed
-    requires { ⌜ stateFrom (now state) ≡ ok s ⌝ }
-    ensures { λ r. ⌜ keptFeed r (now (state .exit)) (now (table .exit)) ≡ feedFrom (mirrorFeed full s (tableOf (now (table .entry)) count) (now (bytes .entry))) (now (state .entry)) ⌝ }
-    ensures { λ _. ⌜ stateFrom (now (state .exit)) ≡ ok (mirrorFeed full s (tableOf (now (table .entry)) count) (now (bytes .entry)) .state) ⌝ }
+// The store is used where it stands, so that nothing of it is copied; the library refuses a state that is not sound.
+fn feed_in(state: &mut [u8], c: Control, table: &mut [u8], count: usize, bytes: &[u8]) -> WingFed
+    requires { ⌜ HeadOf (now state) c ⌝ }
+    ensures { λ r. ⌜ keptFeed r (now (state .exit)) (now (table .exit)) ≡ feedKept (now (state .entry)) (tableOf (now (table .entry)) count) (now (bytes .entry)) ⌝ }
+    ensures { λ _. ⌜ stateFrom (now (state .exit)) ≡ stateFed (stateFrom (now (state .entry))) (tableOf (now (table .entry)) count) (now (bytes .entry)) ⌝ }
 {
-    let r = feed(s, table, count, bytes);
+    let r = feed_lent(c, &mut state[HEAD..], table, count, bytes);
     let a = r.answer;
-    let after = r.state;
+    let after = r.control;
     keep_state(state, a, after);
     answers::fed(r)
 }
@@ -80,12 +82,12 @@ pub extern "C" fn wing_feed(
     ensures { λ r. ⌜ keptFeed r (now (state .exit)) (now (table .exit)) ≡ feedKept (now (state .entry)) (tableOf (now (table .entry)) count) (now (bytes .entry)) ⌝ }
     ensures { λ _. ⌜ stateFrom (now (state .exit)) ≡ stateFed (stateFrom (now (state .entry))) (tableOf (now (table .entry)) count) (now (bytes .entry)) ⌝ }
 {
-    let loaded = wing_saved::load(state);
-    let a = loaded.answer;
+    let h = wing_saved::head(state);
+    let a = h.answer;
     match a {
         LoadAnswer::Good => {
-            let s = loaded.state;
-            feed_on(state, s, table, count, bytes)
+            let c = h.control;
+            feed_in(state, c, table, count, bytes)
         }
         LoadAnswer::Refused(why) => answers::feed_refused(why, count),
     }

@@ -4,19 +4,23 @@ ghost use Prim.Native.Nat.{_≤_};
 ghost use mathlib.Core.Bool.{true};
 ghost use lib.ListN.{length, take};
 ghost use Rattle.wing_node.specs.Result.{ok};
-ghost use Rattle.wing_wire.specs.State.{freshState, soundState};
+ghost use Rattle.wing_wire.specs.State.{stateOf, freshState, soundState};
 ghost use Rattle.wing_wire.specs.Reader.{over, nextOf, nextEvent};
-ghost use Rattle.wing_saved.specs.Saved.{Saves, savedSize, stateFrom, saveOf};
+ghost use Rattle.wing_saved.specs.Saved.{Saves, savedSize, stateFrom, saveOf, HeadOf};
 ghost use Rattle.wing_c.specs.Written.{command, commandOf};
-ghost use Rattle.wing_c.specs.Kept.{stateStatus, answerBytes, keptNext, nextFrom, nextSound, nextKept, nextState, stateNext};
+ghost use Rattle.wing_c.specs.Kept.{stateStatus, stateIn, answerBytes, lentNext, nextLeft, keptNext, nextFrom, nextSound, nextKept, nextState, stateNext};
 use crate::answers::WingEvent;
 use crate::answers::WingWritten;
 use crate::answers::event;
 use crate::answers::minus;
 use crate::answers::written;
 use wing_node::field::least;
+use wing_saved::HEAD;
 use wing_saved::LoadAnswer;
+use wing_wire::state::Control;
 use wing_wire::state::State;
+use wing_wire::state::is_sound_lent;
+use wing_wire::stream::Advanced;
 use wing_wire::stream::advance;
 use wing_wire::stream::release;
 use wing_wire::unit::Answer;
@@ -43,12 +47,12 @@ pub extern "C" fn wing_state_check(state: &[u8]) -> i32
     }
 }
 
-// The bytes of a sound state where those of another stood.
-pub(crate) fn keep(state: &mut [u8], after: State)
-    requires { ⌜ (soundState after ≡ true) × (length (now state) ≡ savedSize) ⌝ }
-    ensures { λ _. ⌜ Saves (now (state .exit)) after ⌝ }
+// The fields of a control before its store, where those of another stood: the bytes are then a sound state's.
+pub(crate) fn keep(state: &mut [u8], after: Control)
+    requires { ⌜ (soundState (stateIn after (now state)) ≡ true) × (length (now state) ≡ savedSize) ⌝ }
+    ensures { λ _. ⌜ Saves (now (state .exit)) (stateIn after (now (state .entry))) ⌝ }
 {
-    wing_saved::save(state, after);
+    wing_saved::lay_head(state, after);
 }
 
 // The first n bytes of s to the front of out, as far as both reach.
@@ -78,41 +82,54 @@ fn bytes_of(a: Answer) -> usize
     }
 }
 
-fn next_on(state: &mut [u8], s: State, bytes: &[u8], out: &mut [u8]) -> WingEvent
-    requires { ⌜ (stateFrom (now state) ≡ ok s) × (length (now bytes) ≤ 65536) ⌝ }
-    ensures { λ r. ⌜ keptNext r (now (state .exit)) (now (out .exit)) ≡ nextFrom (nextOf s (now (bytes .entry))) (nextEvent s (now (bytes .entry))) (now (out .entry)) ⌝ }
-    ensures { λ _. ⌜ stateFrom (now (state .exit)) ≡ ok (nextOf s (now (bytes .entry)) .state) ⌝ }
+// The core's next answer, the bytes of its string or body handed out and given up.
+fn next_lent(c: Control, store: &mut [u8], bytes: &[u8], out: &mut [u8]) -> Advanced
+    requires { ⌜ (soundState (stateOf c (now store)) ≡ true) × (length (now bytes) ≤ 65536) ⌝ }
+    ensures { λ r. ⌜ lentNext r (now (store .exit)) (now (out .exit)) ≡ nextLeft (stateOf c (now (store .entry))) (now (bytes .entry)) (now (out .entry)) ⌝ }
 {
-    let c = s.control;
-    let mut store = s.store;
-    let r = advance(c, &mut store, bytes);
+    let r = advance(c, store, bytes);
     let a = r.answer;
-    let d = r.control;
-    copy_front(out, &store, bytes_of(a));
-    release(&mut store, a);
-    keep(
-        state,
-        State {
-            control: d,
-            store: store,
-        },
-    );
-    event(a, d.node, r.taken)
+    copy_front(out, store, bytes_of(a));
+    release(store, a);
+    r
 }
 
-fn next_sound(state: &mut [u8], s: State, bytes: &[u8], out: &mut [u8]) -> WingEvent
-    requires { ⌜ stateFrom (now state) ≡ ok s ⌝ }
-    ensures { λ r. ⌜ keptNext r (now (state .exit)) (now (out .exit)) ≡ nextSound s (now (state .entry)) (now (bytes .entry)) (now (out .entry)) ⌝ }
-    ensures { λ _. ⌜ stateFrom (now (state .exit)) ≡ ok (nextState s (now (bytes .entry)) (now (out .entry))) ⌝ }
+fn next_on(state: &mut [u8], c: Control, bytes: &[u8], out: &mut [u8]) -> WingEvent
+    requires { ⌜ (soundState (stateIn c (now state)) ≡ true) × (length (now state) ≡ savedSize) × (length (now bytes) ≤ 65536) ⌝ }
+    ensures { λ r. ⌜ keptNext r (now (state .exit)) (now (out .exit)) ≡ nextFrom (nextOf (stateIn c (now (state .entry))) (now (bytes .entry))) (nextEvent (stateIn c (now (state .entry))) (now (bytes .entry))) (now (out .entry)) ⌝ }
+    ensures { λ _. ⌜ stateFrom (now (state .exit)) ≡ ok (nextOf (stateIn c (now (state .entry))) (now (bytes .entry)) .state) ⌝ }
 {
-    let c = s.control;
+    let r = next_lent(c, &mut state[HEAD..], bytes, out);
+    let a = r.answer;
+    let after = r.control;
+    keep(state, after);
+    event(a, after.node, r.taken)
+}
+
+fn next_sound(state: &mut [u8], c: Control, bytes: &[u8], out: &mut [u8]) -> WingEvent
+    requires { ⌜ (HeadOf (now state) c) × (soundState (stateIn c (now state)) ≡ true) ⌝ }
+    ensures { λ r. ⌜ keptNext r (now (state .exit)) (now (out .exit)) ≡ nextSound (stateIn c (now (state .entry))) (now (state .entry)) (now (bytes .entry)) (now (out .entry)) ⌝ }
+    ensures { λ _. ⌜ stateFrom (now (state .exit)) ≡ ok (nextState (stateIn c (now (state .entry))) (now (bytes .entry)) (now (out .entry))) ⌝ }
+{
     if 65536 < bytes.len() {
         return event(Answer::Refused(14), c.node, 0);
     }
     if out.len() < State::BODY_LIMIT {
         return event(Answer::Refused(9), c.node, 0);
     }
-    next_on(state, s, bytes, out)
+    next_on(state, c, bytes, out)
+}
+
+// The store is used where it stands, so that nothing of it is copied.
+fn next_in(state: &mut [u8], c: Control, bytes: &[u8], out: &mut [u8]) -> WingEvent
+    requires { ⌜ HeadOf (now state) c ⌝ }
+    ensures { λ r. ⌜ keptNext r (now (state .exit)) (now (out .exit)) ≡ nextKept (now (state .entry)) (now (bytes .entry)) (now (out .entry)) ⌝ }
+    ensures { λ _. ⌜ stateFrom (now (state .exit)) ≡ stateNext (stateFrom (now (state .entry))) (now (bytes .entry)) (now (out .entry)) ⌝ }
+{
+    if is_sound_lent(c, &state[HEAD..]) {
+        return next_sound(state, c, bytes, out);
+    }
+    event(Answer::Refused(8), 0, 0)
 }
 
 // 01: stops after the unit that completes an event or refusal. The bytes of a string or a body go to the front of the output, which has
@@ -122,12 +139,12 @@ pub extern "C" fn wing_next(state: &mut [u8], bytes: &[u8], out: &mut [u8]) -> W
     ensures { λ r. ⌜ keptNext r (now (state .exit)) (now (out .exit)) ≡ nextKept (now (state .entry)) (now (bytes .entry)) (now (out .entry)) ⌝ }
     ensures { λ _. ⌜ stateFrom (now (state .exit)) ≡ stateNext (stateFrom (now (state .entry))) (now (bytes .entry)) (now (out .entry)) ⌝ }
 {
-    let loaded = wing_saved::load(state);
-    let a = loaded.answer;
+    let h = wing_saved::head(state);
+    let a = h.answer;
     match a {
         LoadAnswer::Good => {
-            let s = loaded.state;
-            next_sound(state, s, bytes, out)
+            let c = h.control;
+            next_in(state, c, bytes, out)
         }
         LoadAnswer::Refused(why) => event(Answer::Refused(why), 0, 0),
     }

@@ -10,7 +10,7 @@ use Rattle.wing_node.specs.Result.{Result, ok, refused}
 use Rattle.wing_node.specs.Field.{bytesOf, fieldAt}
 use Rattle.wing_node.specs.Signed.{signed, unsigned}
 use Rattle.wing_wire.specs.Token.{classes, classNumber}
-use Rattle.wing_wire.specs.State.{bodyLimit, escape, control, stateOf, soundState, freshState}
+use Rattle.wing_wire.specs.State.{bodyLimit, escape, control, stateOf, soundState, freshControl, freshState}
 use Rattle.wing_wire.specs.Write.{WriteEffect, writeEffect, writeOf}
 use Rattle.wing_wire.specs.Range.{AreBytes, InRange}
 use Rattle.wing_wire.specs.declared.token.Class.{Class}
@@ -23,6 +23,7 @@ use Rattle.wing_wire.specs.declared.state.Control.{Control}
 use Rattle.wing_wire.specs.declared.state.State.{State}
 use Rattle.wing_wire.specs.declared.write.Written.the-variants.{Bytes, Refused}
 use Rattle.wing_saved.specs.declared.TokenFields.{TokenFields}
+use Rattle.wing_saved.specs.declared.HeadRead.{HeadRead}
 use Rattle.wing_saved.specs.declared.Loaded.{Loaded}
 use Rattle.wing_saved.specs.declared.LoadAnswer.{LoadAnswer}
 use Rattle.wing_saved.specs.declared.LoadAnswer.the-variants.{Good, Refused as NotLoaded}
@@ -115,18 +116,30 @@ begins (a ∷ front) (b ∷ s) = and (eqb b a) (begins front s)
 unfoldable pub soundOnly : State → Result State
 soundOnly s = if (soundState s) (ok s) (refused 8)
 
+-- the control that bytes say, if they are as many as a state's and begin with its fields; else 8
+unfoldable pub headFrom : List ℕ → Result Control
+headFrom bytes =
+    if (eqb (length bytes) savedSize) (if (begins (headBytes (controlIn bytes)) bytes) (ok (controlIn bytes)) (refused 8)) (refused 8)
+
+-- that control and the store after its fields, if they are a sound state
+unfoldable pub stateWith : Result Control → List ℕ → Result State
+stateWith (ok c) bytes = soundOnly (stateOf c (drop 27 bytes))
+stateWith (refused n) bytes = refused n
+
 -- the state that bytes say, if they are as many as a state's, begin with its fields and it is sound; else 8
 unfoldable pub stateFrom : List ℕ → Result State
-stateFrom bytes =
-    if (eqb (length bytes) savedSize)
-    (if (begins (headBytes (controlIn bytes)) bytes) (soundOnly (stateOf (controlIn bytes) (drop 27 bytes))) (refused 8))
-    (refused 8)
+stateFrom bytes = stateWith (headFrom bytes) bytes
 
 -- ---- the calls
 
 -- 8 for a state that is not sound; else its bytes, or 9
 unfoldable pub saveOf : State → List ℕ → WriteEffect
 saveOf s out = if (soundState s) (writeOf (stateBytes s) out) (writeEffect (Refused 8) out)
+
+-- the answer with the control, or with a fresh one beside a refusal
+unfoldable pub headAs : Result Control → HeadRead
+headAs (ok c) = record { answer = Good; control = c }
+headAs (refused n) = record { answer = NotLoaded n; control = freshControl }
 
 -- the answer with the state, or with a fresh one beside a refusal
 unfoldable pub loadedAs : Result State → Loaded
@@ -168,6 +181,12 @@ pub record LoadedSound (bytes : List ℕ) (s : State) : Type 0 where
   pub size : length bytes ≡ savedSize
   pub store : length (s .store) ≡ bodyLimit
 
+-- bytes that begin with a control's fields are these and a store, and read as the state of both if it is sound
+pub record HeadOf (bytes : List ℕ) (c : Control) : Type 0 where
+  pub size : length bytes ≡ savedSize
+  pub laid : stateBytes (stateOf c (drop 27 bytes)) ≡ bytes
+  pub state : stateFrom bytes ≡ soundOnly (stateOf c (drop 27 bytes))
+
 -- what a user of the calls may rely on besides the contracts
 pub record SavedLaws : Type 0 where
   -- every state has as many bytes
@@ -183,3 +202,7 @@ pub record SavedLaws : Type 0 where
   -- a sound state fills an output of the size, whatever stood in it
   pub kept : (s : State) (out : List ℕ) → soundState s ≡ true → length (s .store) ≡ bodyLimit → length out ≡ savedSize →
       saveOf s out ≡ writeEffect (Bytes savedSize) (stateBytes s)
+  -- the head of bytes, whether or not the state is sound
+  pub head : (bytes : List ℕ) (c : Control) → headFrom bytes ≡ ok c → HeadOf bytes c
+  -- bytes without a head are no state's
+  pub headless : (bytes : List ℕ) (n : ℕ) → headFrom bytes ≡ refused n → stateFrom bytes ≡ refused n

@@ -9,7 +9,7 @@ ghost use Rattle.wing_wire.specs.Token.{classNumber};
 ghost use Rattle.wing_wire.specs.State.{bodyLimit, stateOf};
 ghost use Rattle.wing_wire.specs.Write.{writeEffect, writeOf};
 ghost use Rattle.wing_saved.specs.Saved.{savedSize, flag as flagOf, pendingFlag, pendingByteOf, fieldsOf, headBytes, stateBytes};
-ghost use Rattle.wing_saved.specs.Saved.{pendingIn, classIn, tokenIn, fieldsIn, controlIn, begins, soundOnly, loadedAs, saveOf, loadOf};
+ghost use Rattle.wing_saved.specs.Saved.{pendingIn, classIn, tokenIn, fieldsIn, controlIn, begins, soundOnly, headFrom, headAs, loadedAs, saveOf, loadOf};
 use wing_node::field::i32_at;
 use wing_node::field::put_i32;
 use wing_node::field::put_u32;
@@ -28,7 +28,7 @@ use wing_wire::write::Written;
 pub const VERSION: u8 = 1;
 
 // The bytes of the fields before the store.
-const HEAD: usize = 27;
+pub const HEAD: usize = 27;
 
 // The bytes of a saved state.
 pub const SIZE: usize = HEAD + State::BODY_LIMIT;
@@ -47,6 +47,12 @@ struct TokenFields {
 pub enum LoadAnswer {
     Good,
     Refused(u8),
+}
+
+// The answer with the control; beside a refusal stands a fresh one.
+pub struct HeadRead {
+    pub answer: LoadAnswer,
+    pub control: Control,
 }
 
 // The answer with the state; beside a refusal stands a fresh one.
@@ -190,6 +196,18 @@ fn lay(out: &mut [u8], at: usize, src: &[u8])
     }
 }
 
+// The bytes of a control's fields to the front of the output: with the store after them, a state's bytes. 9.
+pub fn lay_head(out: &mut [u8], c: Control) -> Written
+    ensures { λ r. ⌜ writeEffect r (now (out .exit)) ≡ writeOf (headBytes c) (now (out .entry)) ⌝ }
+{
+    if out.len() < HEAD {
+        return Written::Refused(9);
+    }
+    let head = head_of(c);
+    lay(out, 0, &head);
+    Written::Bytes(HEAD)
+}
+
 fn lay_state(out: &mut [u8], s: State) -> Written
     ensures { λ r. ⌜ writeEffect r (now (out .exit)) ≡ writeOf (stateBytes s) (now (out .entry)) ⌝ }
 {
@@ -282,7 +300,7 @@ fn fields_in(s: &[u8]) -> TokenFields
     }
 }
 
-// What the fields say, whatever the bytes. load then lays the control's own fields and takes it only if they are these bytes, so that no
+// What the fields say, whatever the bytes. head then lays the control's own fields and takes it only if they are these bytes, so that no
 // other number, such as a flag of 2 or a byte where none is pending, needs a test of its own.
 fn control_in(s: &[u8]) -> Control
     requires { ⌜ length (now s) ≡ savedSize ⌝ }
@@ -315,11 +333,39 @@ fn begins_with(s: &[u8], front: &[u8]) -> bool
     true
 }
 
-fn refuse() -> Loaded
-    ensures { λ r. ⌜ r ≡ loadedAs (refused 8) ⌝ }
+fn no_head() -> HeadRead
+    ensures { λ r. ⌜ r ≡ headAs (refused 8) ⌝ }
+{
+    HeadRead {
+        answer: LoadAnswer::Refused(8),
+        control: Control::fresh(),
+    }
+}
+
+// The control of a state's bytes, which are its fields and then the store; 8 if they are not as many, or begin with no control's fields. Whether
+// the state is sound is not tested.
+pub fn head(bytes: &[u8]) -> HeadRead
+    ensures { λ r. ⌜ r ≡ headAs (headFrom (now (bytes .entry))) ⌝ }
+{
+    if bytes.len() == SIZE {
+        let c = control_in(bytes);
+        let front = head_of(c);
+        if begins_with(bytes, &front) {
+            return HeadRead {
+                answer: LoadAnswer::Good,
+                control: c,
+            };
+        }
+        return no_head();
+    }
+    no_head()
+}
+
+fn refuse(why: u8) -> Loaded
+    ensures { λ r. ⌜ r ≡ loadedAs (refused why) ⌝ }
 {
     Loaded {
-        answer: LoadAnswer::Refused(8),
+        answer: LoadAnswer::Refused(why),
         state: State::fresh(),
     }
 }
@@ -340,20 +386,20 @@ fn load_sound(c: Control, bytes: &[u8]) -> Loaded
             state: s,
         };
     }
-    refuse()
+    refuse(8)
 }
 
 // The state whose bytes these are; 8 if they are no sound state's.
 pub fn load(bytes: &[u8]) -> Loaded
     ensures { λ r. ⌜ r ≡ loadOf (now (bytes .entry)) ⌝ }
 {
-    if bytes.len() == SIZE {
-        let c = control_in(bytes);
-        let head = head_of(c);
-        if begins_with(bytes, &head) {
-            return load_sound(c, &bytes[HEAD..]);
+    let h = head(bytes);
+    let a = h.answer;
+    match a {
+        LoadAnswer::Good => {
+            let c = h.control;
+            load_sound(c, &bytes[HEAD..])
         }
-        return refuse();
+        LoadAnswer::Refused(why) => refuse(why),
     }
-    refuse()
 }

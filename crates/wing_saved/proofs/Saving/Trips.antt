@@ -22,13 +22,16 @@ use Rattle.wing_wire.specs.declared.token.Class.{Class}
 use Rattle.wing_wire.specs.declared.token.Class.the-variants.{NoEvent, Integer, String, Length, Int16, Int32, Float, Node, End, Count, ZeroCount}
 use Rattle.wing_wire.specs.declared.state.Token.{Token}
 use Rattle.wing_wire.specs.declared.state.Token.the-variants.{Between, Number, String as InString, Body as InBody}
+use Rattle.wing_wire.specs.declared.state.Control.{Control}
 use Rattle.wing_wire.specs.declared.state.State.{State}
 use Rattle.wing_wire.specs.declared.write.Written.the-variants.{Bytes}
 use Rattle.wing_wire.proofs.Reading.Ranges.{bytes-drop}
 use Rattle.wing_wire.proofs.Reading.Sound.{Sound, state-parts, sound-within}
-use Rattle.wing_saved.specs.Saved.{savedSize, pendingFlag, pendingByteOf, fieldsOf, headBytes, stateBytes, pendingIn, tokenIn, fieldsIn, controlIn, begins, soundOnly, stateFrom}
-use Rattle.wing_saved.specs.Saved.{saveOf, loadedAs, loadedResult, CountIn, Saves, LoadedSound, SavedLaws}
+use Rattle.wing_saved.specs.Saved.{savedSize, pendingFlag, pendingByteOf, fieldsOf, headBytes, stateBytes, pendingIn, tokenIn, fieldsIn, controlIn, begins, soundOnly, headFrom, stateWith, stateFrom}
+use Rattle.wing_saved.specs.Saved.{saveOf, headAs, loadedAs, loadedResult, CountIn, Saves, LoadedSound, HeadOf, SavedLaws}
 use Rattle.wing_saved.specs.declared.TokenFields.{TokenFields}
+use Rattle.wing_saved.specs.declared.HeadRead.{HeadRead}
+use Rattle.wing_saved.specs.declared.LoadAnswer.the-variants.{Good, Refused as NotLoaded}
 use Rattle.wing_saved.proofs.Saving.Fronts.{begins-joined, begins-parts}
 use Rattle.wing_saved.proofs.Saving.Heads.{Fits, head-size, after-head, channel-fits, control-back}
 
@@ -81,7 +84,7 @@ module _ (s : State) (range : InRange (s .control) (s .store)) (count : CountIn 
   front = begins-joined (headBytes (s .control)) (s .store)
 
   reads-back : stateFrom (stateBytes s) ≡ ok s
-  unfolding stateFrom soundOnly
+  unfolding stateFrom stateWith headFrom soundOnly
   reads-back = rw (eq-eqb (length (stateBytes s)) savedSize (state-size s (range .store .size)), said, front, rest, sound)
 
 back : (bytes : List ℕ) (s : State) → Saves bytes s → stateFrom bytes ≡ ok s
@@ -93,6 +96,63 @@ back bytes s g = subst (λ (l : List ℕ). stateFrom l ≡ ok s) (g .laid) (read
 abbrev said-by : List ℕ → State
 said-by bytes = stateOf (controlIn bytes) (drop 27 bytes)
 
+-- the tests that bytes passed whose control is c
+record Begun (bytes : List ℕ) (c : Control) : Type 0 where
+  size : length bytes ≡ savedSize
+  front : begins (headBytes (controlIn bytes)) bytes ≡ true
+  same : controlIn bytes ≡ c
+
+begun : (bytes : List ℕ) (c : Control) → headFrom bytes ≡ ok c → Begun bytes c
+unfolding headFrom
+begun bytes c =
+    branch P (eqb (length bytes) savedSize) _ _
+    (λ a. branch P (begins (headBytes (controlIn bytes)) bytes) _ _
+    (λ b e. record { size = eqb-true (length bytes) savedSize a; front = b; same = let z : controlIn bytes ≡ c = cc in z }) (λ _. none)) (λ _. none)
+  where
+    P : Result Control → Type 0
+    P r = r ≡ ok c → Begun bytes c
+
+    none : P (refused 8)
+    none e = absurd (let z : _≡_ {A = ℕ} 0 1 = cc in omega arith)
+
+laid-again : (bytes : List ℕ) → begins (headBytes (controlIn bytes)) bytes ≡ true → stateBytes (said-by bytes) ≡ bytes
+unfolding stateBytes
+laid-again bytes e =
+    ap (λ (n : ℕ). headBytes (controlIn bytes) ++ drop n bytes) (sym (head-size (controlIn bytes))) ∙ begins-parts (headBytes (controlIn bytes)) bytes e
+
+-- the head of bytes
+head-of : (bytes : List ℕ) (c : Control) → headFrom bytes ≡ ok c → HeadOf bytes c
+unfolding stateFrom stateWith
+head-of bytes c e =
+    let p = begun bytes c e in
+    record {
+      size = p .size;
+      laid = subst (λ (d : Control). stateBytes (stateOf d (drop 27 bytes)) ≡ bytes) (p .same) (laid-again bytes (p .front));
+      state = ap (λ (r : Result Control). stateWith r bytes) e;
+    }
+
+headless : (bytes : List ℕ) (n : ℕ) → headFrom bytes ≡ refused n → stateFrom bytes ≡ refused n
+unfolding stateFrom stateWith
+headless bytes n e = ap (λ (r : Result Control). stateWith r bytes) e
+
+-- what the answer of head says of the bytes
+said-good : (r : Result Control) (h : HeadRead) → h ≡ headAs r → h .answer ≡ Good → r ≡ ok (h .control)
+unfolding headAs
+said-good (ok c) h e a = ap (λ (x : HeadRead). ok (x .control)) (sym e)
+said-good (refused n) h e a = absurd (let b = ap (λ (x : HeadRead). x .answer) e in let z : _≡_ {A = ℕ} 0 1 = cc in omega arith)
+
+said-refused : (r : Result Control) (h : HeadRead) (n : ℕ) → h ≡ headAs r → h .answer ≡ NotLoaded n → r ≡ refused n
+unfolding headAs
+said-refused (ok c) h n e a = absurd (let b = ap (λ (x : HeadRead). x .answer) e in let z : _≡_ {A = ℕ} 0 1 = cc in omega arith)
+said-refused (refused m) h n e a = let b = ap (λ (x : HeadRead). x .answer) e in let z : m ≡ n = cc in ap refused z
+
+module _ (bytes : List ℕ) (h : HeadRead) (e : h ≡ headAs (headFrom bytes)) where
+  pub head-good : h .answer ≡ Good → HeadOf bytes (h .control)
+  head-good a = head-of bytes (h .control) (said-good (headFrom bytes) h e a)
+
+  pub head-refused : (n : ℕ) → h .answer ≡ NotLoaded n → stateFrom bytes ≡ refused n
+  head-refused n a = headless bytes n (said-refused (headFrom bytes) h n e a)
+
 -- the tests that bytes passed which read as s
 record Passed (bytes : List ℕ) (s : State) : Type 0 where
   size : length bytes ≡ savedSize
@@ -101,10 +161,10 @@ record Passed (bytes : List ℕ) (s : State) : Type 0 where
   same : said-by bytes ≡ s
 
 passed : (bytes : List ℕ) (s : State) → stateFrom bytes ≡ ok s → Passed bytes s
-unfolding stateFrom soundOnly
+unfolding stateFrom stateWith headFrom soundOnly
 passed bytes s =
-    branch P (eqb (length bytes) savedSize) _ _
-    (λ a. branch P (begins (headBytes (controlIn bytes)) bytes) _ _
+    branch (λ (r : Result Control). P (stateWith r bytes)) (eqb (length bytes) savedSize) _ _
+    (λ a. branch (λ (r : Result Control). P (stateWith r bytes)) (begins (headBytes (controlIn bytes)) bytes) _ _
     (λ b. branch P (soundState (said-by bytes)) _ _
     (λ c e. record { size = eqb-true (length bytes) savedSize a; front = b; sound = c; same = let z : said-by bytes ≡ s = cc in z })
     (λ _. none)) (λ _. none)) (λ _. none)
@@ -114,11 +174,6 @@ passed bytes s =
 
     none : P (refused 8)
     none e = absurd (let z : _≡_ {A = ℕ} 0 1 = cc in omega arith)
-
-laid-again : (bytes : List ℕ) → begins (headBytes (controlIn bytes)) bytes ≡ true → stateBytes (said-by bytes) ≡ bytes
-unfolding stateBytes
-laid-again bytes e =
-    ap (λ (n : ℕ). headBytes (controlIn bytes) ++ drop n bytes) (sym (head-size (controlIn bytes))) ∙ begins-parts (headBytes (controlIn bytes)) bytes e
 
 -- bytes as digits of base 256
 are-digits : (s : List ℕ) → AreBytes s → Digits 256 s
@@ -176,14 +231,17 @@ module _ (bytes : List ℕ) (are : AreBytes bytes) where
 
 -- no other number than 8
 refusal : (bytes : List ℕ) (n : ℕ) → stateFrom bytes ≡ refused n → n ≡ 8
-unfolding stateFrom soundOnly
+unfolding stateFrom stateWith headFrom soundOnly
 refusal bytes =
-    branch Eight (eqb (length bytes) savedSize) _ _
-    (λ _. branch Eight (begins (headBytes (controlIn bytes)) bytes) _ _ (λ _. branch Eight (soundState (said-by bytes)) _ _ (λ _. taken) (λ _. eight)) (λ _. eight))
+    branch Head (eqb (length bytes) savedSize) _ _
+    (λ _. branch Head (begins (headBytes (controlIn bytes)) bytes) _ _ (λ _. branch Eight (soundState (said-by bytes)) _ _ (λ _. taken) (λ _. eight)) (λ _. eight))
     (λ _. eight)
   where
     Eight : Result State → Type 0
     Eight r = (n : ℕ) → r ≡ refused n → n ≡ 8
+
+    Head : Result Control → Type 0
+    Head r = Eight (stateWith r bytes)
 
     eight : Eight (refused 8)
     eight n e = let z : 8 ≡ n = cc in sym z
@@ -218,4 +276,13 @@ fresh-head = refl
 
 -- what a user of the two calls may rely on
 pub saved-laws : SavedLaws
-saved-laws = record { size = state-size; back = back; again = λ bytes s are e. said-saves bytes are s e; refusal = refusal; loaded = loaded-sound; kept = kept }
+saved-laws = record {
+  size = state-size;
+  back = back;
+  again = λ bytes s are e. said-saves bytes are s e;
+  refusal = refusal;
+  loaded = loaded-sound;
+  kept = kept;
+  head = head-of;
+  headless = headless;
+}

@@ -1,50 +1,39 @@
--- The core gives the run, whose answer, state and bytes are those of a next call (`next-as`), and whose state is sound (`next-sound`), so that its bytes read as it.
-use Rattle.wing_c.proofs.Loads.{next-as}
-use Rattle.wing_c.proofs.Keeps.{next-state, next-sound}
-use Rattle.wing_saved.proofs.Saving.Trips.{saved-laws}
-use Rattle.wing_saved.proofs.Saving.Types.{are-bytes, state-typed}
-use Rattle.wing_wire.specs.Reader.{over}
-use lib.ListN.{take}
+-- The contract of `next_lent` on the store where it stands: what it leaves, and that this reads as the state after it (`next-in`), which is sound (`next-sound`).
 use Prim.Native.Nat.{ℕ}
-use denote.Ref.{now}
+use mathlib.Core.Path.{_≡_, _∙_, ap}
+use mathlib.Core.List.{List}
 use mir.Syntax.{w32}
 use mir.Val.{toZ, ofZ}
-use mathlib.Core.Path.{_≡_, _∙_, ap}
+use denote.Ref.{now}
+use Rattle.wing_wire.specs.State.{stateOf, soundState}
+use Rattle.wing_saved.proofs.Saving.Types.{are-bytes}
+use Rattle.wing_c.proofs.Keeps.{lent-part, kept-typed, next-sound, next-in}
 use borrow.Author.Needs.{needs}
 use Rattle.wing_c.proofs.state.next_on.Statement.{statement}
 use Rattle.wing_c.proofs.state.next_on.Tie as tie
 
-slice-aggregate-advance : tie.Need-slice-aggregate-advance
-slice-aggregate-advance c = search needs
+sub-next-lent : tie.Need-sub-next-lent
+sub-next-lent c = search needs
 
-advance-requires : tie.Need-advance-requires
-advance-requires c κs = search needs
+part-next-lent-start : tie.Need-part-next-lent-start
+part-next-lent-start c = search needs
 
-slice-aggregate-copy-front : tie.Need-slice-aggregate-copy-front
-slice-aggregate-copy-front c = search needs
+part-next-lent-end : tie.Need-part-next-lent-end
+part-next-lent-end c = search needs
 
-bytes-of-requires : tie.Need-bytes-of-requires
-bytes-of-requires c κs = search needs
-
-copy-front-requires : tie.Need-copy-front-requires
-copy-front-requires c κs = search needs
-
-slice-aggregate-release : tie.Need-slice-aggregate-release
-slice-aggregate-release c = search needs
-
-release-requires : tie.Need-release-requires
-release-requires c κs = search needs
+next-lent-requires : tie.Need-next-lent-requires
+next-lent-requires c κs =
+    let k = c .before .before .before .before .before in
+    (ap (λ (l : List ℕ). soundState (stateOf (k .args .c) l)) (lent-part (now (k .args .state))) ∙ k .pre .0, k .pre .2)
 
 keep-requires : tie.Need-keep-requires
 keep-requires c κs =
-    let k = c .before .before .before .before .before .before .before .before .before .before .before .before .before .before .before .before .before .before .before in
-    let ran = c .before .before .before .before .before .before .before .before .before .before .before .before .advance in
-    let loaded = saved-laws .loaded (now (k .args .state)) (k .args .s) (k .pre .0) in
-    let are = are-bytes (now (k .args .bytes)) (λ i. c .before .before .before .before .before .before .before .before .before .before .before .before .before .before .before .before .before .shared-slice-known .given i .fits) in (
-      rw (c .before .before .release .ensures)
-          (next-sound (k .args .s) (now (k .args .bytes)) (ran .result) (ran .last .1 .0) (loaded .sound) (k .pre .1) (ran .ensures) (state-typed (k .args .s) _ (k .good .1 .0)) are),
-      loaded .size,
-    )
+    let k = c .before .before .before .before .before .before .before .before .before .before .before .before in
+    let call = c .before .before .before .before .before .before .next-lent in
+    let state = now (k .args .state) in
+    let typed = kept-typed (k .args .c) _ (k .good .1 .0) state (are-bytes state (λ i. c .before .before .before .before .before .before .before .before .before .before .before .slice-known .given i .fits)) (k .pre .1) in
+    let are = are-bytes (now (k .args .bytes)) (λ i. c .before .before .before .before .before .before .before .before .before .before .shared-slice-known .given i .fits) in
+    (next-sound state (k .args .c) (now (k .args .bytes)) (now (k .args .out)) (k .pre .1) (call .result) (call .last .1 .0) _ (call .ensures) typed are (k .pre .0), search needs)
 
 event-requires : tie.Need-event-requires
 event-requires c κs = search needs
@@ -57,29 +46,20 @@ same-length-2 c = search needs
 
 returns : tie.Need-returns
 returns c =
-    let back : toZ w32 (ofZ w32 (c .before .before .before .before .before .before .before .before .before .before .before .before .before .before .before .before .before .advance .result .control .node)) ≡ c .before .before .before .before .before .before .before .before .before .before .before .before .before .before .before .before .before .advance .result .control .node = search needs in
-    let k = c .before .before .before .before .before .before .before .before .before .before .before .before .before .before .before .before .before .before .before .before .before .before .before .before in
-    let ran = c .before .before .before .before .before .before .before .before .before .before .before .before .before .before .before .before .before .advance in
-    let freed = c .before .before .before .before .before .before .before .release .ensures in
-    let kept = c .before .before .before .before .keep .ensures in
-    let sound = saved-laws .loaded (now (k .args .state)) (k .args .s) (k .pre .0) .sound in
-    let after = next-state (k .args .s) (now (k .args .bytes)) (ran .result) (ran .last .1 .0) sound (k .pre .1) (ran .ensures) in (
-      next-as (k .args .s) (now (k .args .bytes)) (now (k .args .out)) (ran .result) (ran .last .1 .0) sound (k .pre .1) (ran .ensures) (rw back at (c .event .ensures)) (rw freed at (kept .laid))
-          (c .before .before .before .before .before .before .before .before .before .before .before .copy-front .ensures ∙ ap (λ (n : ℕ). over (take n (ran .last .1 .0)) (now (k .args .out))) (c .before .before .before .before .before .before .before .before .before .before .before .before .bytes-of .ensures)),
-      rw (after, ← freed) (saved-laws .back _ _ kept),
-    )
+    let k = c .before .before .before .before .before .before .before .before .before .before .before .before .before .before .before .before .before in
+    let call = c .before .before .before .before .before .before .before .before .before .before .before .next-lent in
+    let back : toZ w32 (ofZ w32 (c .before .before .before .before .before .before .before .before .before .before .before .next-lent .result .control .node)) ≡ c .before .before .before .before .before .before .before .before .before .before .before .next-lent .result .control .node = search needs in
+    next-in (now (k .args .state)) (k .args .c) (now (k .args .bytes)) (now (k .args .out)) (k .pre .1) (call .result) (call .last .1 .0) _ (call .ensures) (rw back at (c .event .ensures))
+    (c .before .before .before .before .keep .ensures)
 
 pub next-on-spec : {M : Type 1} → statement M
 next-on-spec =
     tie.close
     (tie.spec
-    slice-aggregate-advance
-    advance-requires
-    slice-aggregate-copy-front
-    bytes-of-requires
-    copy-front-requires
-    slice-aggregate-release
-    release-requires
+    sub-next-lent
+    part-next-lent-start
+    part-next-lent-end
+    next-lent-requires
     keep-requires
     event-requires
     same-length

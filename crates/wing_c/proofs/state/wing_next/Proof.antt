@@ -1,23 +1,21 @@
--- What `load` answers says whether the bytes are a state (`load-good`, `load-refused`); then the call is that of `next_sound`.
+-- What `head` answers says whether the bytes begin with a control (`head-good`, `head-refused`); then the call is that of `next_in`.
 use mathlib.Core.Path.{ap}
-use Rattle.wing_c.specs.declared.answers.WingEvent.{WingEvent}
-use Rattle.wing_c.specs.Kept.{nextWith, keptNext, stateNext}
 use denote.Ref.{now}
-use Rattle.wing_c.proofs.Loads.{load-good, load-refused}
+use Rattle.wing_saved.proofs.Saving.Trips.{head-good, head-refused}
+use Rattle.wing_c.specs.Kept.{nextWith, keptNext, stateNext}
+use Rattle.wing_c.specs.declared.answers.WingEvent.{WingEvent}
 use borrow.Author.Needs.{needs}
 use Rattle.wing_c.proofs.state.wing_next.Statement.{statement}
 use Rattle.wing_c.proofs.state.wing_next.Tie as tie
 
-load-requires : tie.Need-load-requires
-load-requires c κs = search needs
+head-requires : tie.Need-head-requires
+head-requires c κs = search needs
 
 enum-told : tie.Need-enum-told
 enum-told c = search needs
 
-next-sound-requires : tie.Need-next-sound-requires
-next-sound-requires c κs =
-    let loaded = c .before .before .before .before .before .load in
-    load-good (now (c .before .before .before .before .before .before .before .before .before .before .args .state)) (loaded .result) (loaded .ensures) (c .before .before .before .enum-told .given .1)
+next-in-requires : tie.Need-next-in-requires
+next-in-requires c κs = head-good (now (c .before .before .before .before .before .before .before .before .before .before .args .state)) (c .before .before .before .before .before .head .result) (c .before .before .before .before .before .head .ensures) (c .before .before .before .enum-told .given .1)
 
 enum-known-a : tie.Need-enum-known-a
 enum-known-a c = search needs
@@ -32,11 +30,7 @@ same-length-2 : tie.Need-same-length-2
 same-length-2 c = search needs
 
 returns : tie.Need-returns
-unfolding nextWith stateNext
-returns c =
-    let entry = c .before .before .before .before .before .before .before .before .before .before .before .before .before .before .before in
-    let loaded = c .before .before .before .before .before .before .before .before .before .before .load in
-    rw (load-good (now (entry .args .state)) (loaded .result) (loaded .ensures) (c .before .before .before .before .before .before .before .before .enum-told .given .1)) (c .before .before .before .before .next-sound .ensures)
+returns c = search needs
 
 same-length-3 : tie.Need-same-length-3
 same-length-3 c = search needs
@@ -44,18 +38,18 @@ same-length-3 c = search needs
 returns-2 : tie.Need-returns-2
 unfolding nextWith stateNext
 returns-2 c =
-    let entry = c .before .before .before .before .before .before .before .before .before in
-    let loaded = c .before .before .before .before .load in
-    let no = load-refused (now (entry .args .state)) (loaded .result) _ (loaded .ensures) (c .before .before .a .given .1) in
-    (rw no (ap (λ (r : WingEvent). keptNext r (now (entry .args .state)) (now (entry .args .out))) (c .event .ensures)), rw no)
+    let k = c .before .before .before .before .before .before .before .before .before in
+    let read = c .before .before .before .before .head in
+    let no = head-refused (now (k .args .state)) (read .result) (read .ensures) _ (c .before .before .a .given .1) in
+    (rw no (ap (λ (r : WingEvent). keptNext r (now (k .args .state)) (now (k .args .out))) (c .event .ensures)), rw no)
 
 pub wing-next-spec : {M : Type 1} → statement M
 wing-next-spec =
     tie.close
     (tie.spec
-    load-requires
+    head-requires
     enum-told
-    next-sound-requires
+    next-in-requires
     enum-known-a
     event-requires
     same-length
