@@ -3,3 +3,5 @@ mod Effects
 mod Loads
 mod Keeps
 mod Pairs
+pub mod Said
+pub mod SaidDefinitions

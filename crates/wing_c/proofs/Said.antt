@@ -1,0 +1,133 @@
+-- Every answer is what its numbers mean: each case is computed, and an integer's 32 bits read as the integer.
+use Prim.Native.Nat.{ℕ, suc, _-_, _≤_}
+use mathlib.Core.Path.{_≡_, refl, ap}
+use mathlib.Core.List.{List}
+use native.Mathlib.Omega.{arith}
+use lib.IntN.{ℤ, negsuc}
+use borrow.Author.Tests.{ne-eqb}
+use Rattle.wing_node.specs.Signed.{signed, unsigned}
+use Rattle.wing_node.proofs.Numerals.Signs.{signed-unsigned}
+use Rattle.wing_node.specs.declared.value.Value.the-variants.{Integer, Float, String}
+use Rattle.wing_wire.specs.declared.write.Written.{Written}
+use Rattle.wing_wire.specs.declared.write.Written.the-variants.{Bytes, Refused}
+use Rattle.wing_wire.specs.declared.meter.Requested.{Requested}
+use Rattle.wing_wire.specs.declared.meter.Requested.the-variants.{Bytes as RequestWritten, Refused as RequestRefused}
+use Rattle.wing_wire.specs.declared.meter.MetersRead.{MetersRead}
+use Rattle.wing_wire.specs.declared.meter.MetersRead.the-variants.{Readings, Refused as ReadRefused}
+use Rattle.wing_wire.specs.declared.unit.Answer.{Answer}
+use Rattle.wing_wire.specs.declared.unit.Answer.the-variants.{More, Integer as IntegerAt, Float as FloatAt, String as StringAt, Body, End, Refused as NextRefused}
+use Rattle.wing_mirror.specs.declared.answer.Counts.{Counts}
+use Rattle.wing_mirror.specs.declared.answer.FeedAnswer.{FeedAnswer}
+use Rattle.wing_mirror.specs.declared.answer.FeedAnswer.the-variants.{Taken, Refused as FeedRefused}
+use Rattle.wing_mirror.specs.declared.answer.Lookup.{Lookup}
+use Rattle.wing_mirror.specs.declared.answer.Lookup.the-variants.{At, None, Refused as LookupRefused}
+use Rattle.wing_mirror.specs.declared.answer.RecordAnswer.{RecordAnswer}
+use Rattle.wing_mirror.specs.declared.answer.RecordAnswer.the-variants.{Record, Refused as RecordRefused}
+use Rattle.wing_mirror.specs.declared.answer.Same.{Same}
+use Rattle.wing_mirror.specs.declared.answer.Same.the-variants.{Yes, No, Refused as SameRefused}
+use Rattle.wing_c.specs.Numbers.{minus, writtenNumbers, setNumbers, feedStatus, fedNumbers, lookupNumbers, sameNumber, recordNumbers, eventNumbers, requestedNumbers, metersNumbers}
+use Rattle.wing_c.specs.Meanings.{writtenIn, setIn, feedAnswerIn, countsIn, lookupIn, sameIn, valueIn, recordIn, kindIn, answerIn, requestedIn, metersIn}
+use Rattle.wing_c.specs.Meanings.{OfWritten, OfFeed, OfLookup, OfSame, OfRecord, OfNext, OfRequested, OfMeters, NextBeside, NumbersSay}
+
+-- a refusal's status is below 0, and its number without the sign is the refusal's
+pub below : (n : ℕ) → 1 ≤ n → minus n ≡ negsuc (n - 1)
+below n h = simp (ne-eqb n 0 (λ (e : n ≡ 0). omega arith))
+
+pub again : (n : ℕ) → 1 ≤ n → suc (n - 1) ≡ n
+again n h = omega arith
+
+written : (w : Written) → OfWritten w → writtenIn (writtenNumbers w) ≡ w
+unfolding writtenIn
+written (Bytes n) h = refl
+written (Refused n) h = rw (below n h) (ap Refused (again n h))
+
+set : (w : Written) (count : ℕ) → OfWritten w → setIn (setNumbers w count) ≡ w
+unfolding setIn
+set (Bytes n) count h = refl
+set (Refused n) count h = rw (below n h) (ap Refused (again n h))
+
+set-beside : (w : Written) (count : ℕ) → setNumbers w count .count ≡ count
+set-beside (Bytes n) count = refl
+set-beside (Refused n) count = refl
+
+feed : (a : FeedAnswer) (c : Counts) (count : ℕ) → OfFeed a → feedAnswerIn (fedNumbers (feedStatus a) c count) ≡ a
+unfolding feedAnswerIn
+feed Taken c count h = refl
+feed (FeedRefused n) c count h = rw (below n h) (ap FeedRefused (again n h))
+
+counts : (status : ℤ) (c : Counts) (count : ℕ) → countsIn (fedNumbers status c count) ≡ c
+unfolding countsIn
+counts status c count = refl
+
+lookup : (l : Lookup) → OfLookup l → lookupIn (lookupNumbers l) ≡ l
+unfolding lookupIn
+lookup (At n) h = refl
+lookup None h = refl
+lookup (LookupRefused n) h = rw (below n h) (ap LookupRefused (again n h))
+
+same : (s : Same) → OfSame s → sameIn (sameNumber s) ≡ s
+unfolding sameIn
+same Yes h = refl
+same No h = refl
+same (SameRefused n) h = rw (below n h) (ap SameRefused (again n h))
+
+read : (a : RecordAnswer) (s : List ℕ) → OfRecord a → recordIn (recordNumbers a s) ≡ a
+unfolding recordIn valueIn
+read (Record id (Integer x)) s h = ap (λ (y : ℤ). Record id (Integer y)) (signed-unsigned 31 x h)
+read (Record id (Float bits)) s h = refl
+read (Record id (String n)) s h = refl
+read (RecordRefused n) s h = rw (below n h) (ap RecordRefused (again n h))
+
+read-beside : (a : RecordAnswer) (s : List ℕ) → recordNumbers a s .string ≡ s
+read-beside (Record id (Integer x)) s = refl
+read-beside (Record id (Float bits)) s = refl
+read-beside (Record id (String n)) s = refl
+read-beside (RecordRefused n) s = refl
+
+next : (a : Answer) (node : ℤ) (taken : ℕ) → OfNext a → answerIn (eventNumbers a node taken) ≡ a
+unfolding answerIn kindIn
+next More node taken h = refl
+next (IntegerAt x) node taken h = ap IntegerAt (signed-unsigned 31 x h)
+next (FloatAt bits) node taken h = refl
+next (StringAt n) node taken h = refl
+next (Body n) node taken h = refl
+next End node taken h = refl
+next (NextRefused n) node taken h = rw (below n h) (ap NextRefused (again n h))
+
+next-beside : (a : Answer) (node : ℤ) (taken : ℕ) → NextBeside a node taken
+next-beside More node taken = record { node = refl; taken = refl }
+next-beside (IntegerAt x) node taken = record { node = refl; taken = refl }
+next-beside (FloatAt bits) node taken = record { node = refl; taken = refl }
+next-beside (StringAt n) node taken = record { node = refl; taken = refl }
+next-beside (Body n) node taken = record { node = refl; taken = refl }
+next-beside End node taken = record { node = refl; taken = refl }
+next-beside (NextRefused n) node taken = record { node = refl; taken = refl }
+
+requested : (r : Requested) → OfRequested r → requestedIn (requestedNumbers r) ≡ r
+unfolding requestedIn
+requested (RequestWritten n id) h = refl
+requested (RequestRefused n) h = rw (below n h) (ap RequestRefused (again n h))
+
+meters : (m : MetersRead) → OfMeters m → metersIn (metersNumbers m) ≡ m
+unfolding metersIn
+meters (Readings id n) h = refl
+meters (ReadRefused n) h = rw (below n h) (ap ReadRefused (again n h))
+
+-- every answer is what its numbers mean
+pub numbers-say : NumbersSay
+numbers-say =
+    record {
+      written = written;
+      set = set;
+      set-beside = set-beside;
+      feed = feed;
+      feed-beside = λ status c count. record { counts = counts status c count; records = refl };
+      lookup = lookup;
+      same = same;
+      read = read;
+      read-beside = read-beside;
+      next = next;
+      next-beside = next-beside;
+      requested = requested;
+      meters = meters;
+    }

@@ -1,0 +1,87 @@
+-- Every definition, item and walk is what its numbers mean: type and unit come back by 01's tables, the details by the type.
+use Prim.Native.Nat.{ℕ}
+use mathlib.Core.Path.{_≡_, refl, _∙_, ap}
+use lib.IntN.{ℤ}
+use Rattle.wing_node.specs.Types.{typeOf, unitOf}
+use Rattle.wing_node.proofs.Numerals.Signs.{signed-unsigned}
+use Rattle.wing_node.specs.declared.node_type.NodeType.{NodeType}
+use Rattle.wing_node.specs.declared.node_type.NodeType.the-variants.{Node, LinearFloat, LogarithmicFloat, FaderLevel, Integer, StringEnum, FloatEnum, String}
+use Rattle.wing_node.specs.declared.node_type.NodeUnit.{NodeUnit}
+use Rattle.wing_node.specs.declared.node_type.NodeUnit.the-variants.{None as NoUnit, Db, Percent, Milliseconds, Hertz, Meters, Seconds, Octaves}
+use Rattle.wing_node.specs.declared.definition.Details.{Details}
+use Rattle.wing_node.specs.declared.definition.Item.{Item}
+use Rattle.wing_node.specs.declared.definition.Item.the-variants.{None as NoItem, Strings, Float, Refused as ItemRefused}
+use Rattle.wing_node.specs.declared.definition.Definition.{Definition}
+use Rattle.wing_node.specs.declared.definition.Parsed.{Parsed}
+use Rattle.wing_node.specs.declared.definition.Parsed.the-variants.{Good, Refused}
+use Rattle.wing_node.specs.declared.items.Walk.{Walk}
+use Rattle.wing_node.specs.declared.items.Begun.{Begun}
+use Rattle.wing_node.specs.declared.items.Begun.the-variants.{Good as WalkBegun, Refused as WalkRefused}
+use Rattle.wing_node.specs.declared.items.Step.{Step}
+use Rattle.wing_c.specs.Definitions.{typeNumber, unitNumber, takenNumbers, definitionNumbers, walkNumbers, begunNumbers, itemNumbers, stepNumbers}
+use Rattle.wing_c.specs.DefinitionMeanings.{detailsIn, definitionIn, parsedIn, walkIn, begunIn, itemKindIn, itemIn, stepIn, OfType, OfParsed, OfBegun, OfItem, DefinitionsSay}
+use Rattle.wing_c.specs.DefinitionMeanings.OfType.{node, linear, logarithmic, fader, integers, strings, floats, text}
+use Rattle.wing_c.proofs.Said.{below, again}
+
+types : (t : NodeType) → typeOf (typeNumber t) ≡ t
+unfolding typeOf
+types Node = refl
+types LinearFloat = refl
+types LogarithmicFloat = refl
+types FaderLevel = refl
+types Integer = refl
+types StringEnum = refl
+types FloatEnum = refl
+types String = refl
+
+units : (u : NodeUnit) → unitOf (unitNumber u) ≡ u
+unfolding unitOf
+units NoUnit = refl
+units Db = refl
+units Percent = refl
+units Milliseconds = refl
+units Hertz = refl
+units Meters = refl
+units Seconds = refl
+units Octaves = refl
+
+-- what the type has is read from the fields that it has
+details : (d : Definition) (t : NodeType) (x : Details) → d .details ≡ x → OfType t x → detailsIn t (takenNumbers d) ≡ x
+unfolding detailsIn
+details d t x e node = refl
+details d t x e linear = rw e
+details d t x e logarithmic = rw e
+details d t x e fader = refl
+details d t x e (integers {min} {max} a b) = rw e (rw (signed-unsigned 31 min a, signed-unsigned 31 max b))
+details d t x e strings = rw e
+details d t x e floats = rw e
+details d t x e text = rw e
+
+parsed : (p : Parsed) → OfParsed p → parsedIn (definitionNumbers p) ≡ p
+unfolding parsedIn definitionIn
+parsed (Good d) h = rw (types (d .«node_type»), units (d .unit), details d (d .«node_type») (d .details) refl h)
+parsed (Refused n) h = rw (below n h) (ap Refused (again n h))
+
+walk : (w : Walk) → walkIn (walkNumbers w) ≡ w
+unfolding walkIn
+walk w = rw (types (w .kind))
+
+begun : (b : Begun) → OfBegun b → begunIn (begunNumbers b) ≡ b
+unfolding begunIn
+begun (WalkBegun w) h = ap WalkBegun (walk w)
+begun (WalkRefused n) h = rw (below n h) (ap WalkRefused (again n h))
+
+item : (i : Item) → OfItem i → itemIn (itemNumbers i) ≡ i
+unfolding itemIn itemKindIn
+item NoItem h = refl
+item (Strings a b) h = refl
+item (Float bits b) h = refl
+item (ItemRefused n) h = rw (below n h) (ap ItemRefused (again n h))
+
+step : (s : Step) → OfItem (s .item) → stepIn (stepNumbers s) ≡ s
+unfolding stepIn
+step s h = rw (item (s .item) h, walk (s .next))
+
+-- every definition, item and walk is what its numbers mean
+pub definitions-say : DefinitionsSay
+definitions-say = record { parsed = parsed; walk = walk; begun = begun; item = item; step = step }

@@ -1,0 +1,127 @@
+-- What the numbers of definitions and items mean, by the header's words, and that each of them is the meaning of its numbers.
+use Prim.Native.Nat.{ℕ, _≤_}
+use mathlib.Core.Path.{_≡_}
+use lib.Dec.{eqb}
+use lib.IntN.{ℤ}
+use Rattle.wing_node.specs.Bool.{if}
+use Rattle.wing_node.specs.Signed.{signed, InBits}
+use Rattle.wing_node.specs.Types.{typeOf, unitOf}
+use Rattle.wing_node.specs.declared.node_type.NodeType.{NodeType}
+use Rattle.wing_node.specs.declared.node_type.NodeType.the-variants.{Node, LinearFloat, LogarithmicFloat, FaderLevel, Integer, StringEnum, FloatEnum, String}
+use Rattle.wing_node.specs.declared.definition.Span.{Span}
+use Rattle.wing_node.specs.declared.definition.Details.{Details}
+use Rattle.wing_node.specs.declared.definition.Details.the-variants.{None, Floats, Integers, Items, String as MaxLen}
+use Rattle.wing_node.specs.declared.definition.Item.{Item}
+use Rattle.wing_node.specs.declared.definition.Item.the-variants.{None as NoItem, Strings, Float, Refused as ItemRefused}
+use Rattle.wing_node.specs.declared.definition.Definition.{Definition}
+use Rattle.wing_node.specs.declared.definition.Parsed.{Parsed}
+use Rattle.wing_node.specs.declared.definition.Parsed.the-variants.{Good, Refused}
+use Rattle.wing_node.specs.declared.items.Walk.{Walk}
+use Rattle.wing_node.specs.declared.items.Begun.{Begun}
+use Rattle.wing_node.specs.declared.items.Begun.the-variants.{Good as WalkBegun, Refused as WalkRefused}
+use Rattle.wing_node.specs.declared.items.Step.{Step}
+use Rattle.wing_c.specs.Definitions.{definitionNumbers, walkNumbers, begunNumbers, itemNumbers, stepNumbers}
+use Rattle.wing_c.specs.Meanings.{byStatus}
+use Rattle.wing_c.specs.declared.definitions.WingDefinition.{WingDefinition}
+use Rattle.wing_c.specs.declared.definitions.WingWalk.{WingWalk}
+use Rattle.wing_c.specs.declared.definitions.WingItem.{WingItem}
+use Rattle.wing_c.specs.declared.definitions.WingStep.{WingStep}
+
+-- ---- what the numbers mean
+
+-- a string in the body: where it stands and how many bytes it has
+abbrev pub span : ℕ → ℕ → Span
+span start len = record { start = start; len = len }
+
+-- what a type adds. Types 1, 2: min, max and steps; 4: min and max, by their 32 bits; 5, 6: how many items, and where the first stands; 7: the
+-- longest string
+unfoldable pub detailsIn : NodeType → WingDefinition → Details
+detailsIn Node r = None
+detailsIn LinearFloat r = Floats (r .min) (r .max) (r .steps)
+detailsIn LogarithmicFloat r = Floats (r .min) (r .max) (r .steps)
+detailsIn FaderLevel r = None
+detailsIn Integer r = Integers (signed 31 (r .min)) (signed 31 (r .max))
+detailsIn StringEnum r = Items (r .count) (r .«first_item»)
+detailsIn FloatEnum r = Items (r .count) (r .«first_item»)
+detailsIn String r = MaxLen (r .«max_len»)
+
+-- a definition; its type and unit by 01's tables
+unfoldable pub definitionIn : WingDefinition → Definition
+definitionIn r =
+    record {
+      «parent_id» = r .«parent_id»;
+      id = r .id;
+      index = r .index;
+      name = span (r .«name_start») (r .«name_len»);
+      «long_name» = span (r .«long_name_start») (r .«long_name_len»);
+      «node_type» = typeOf (r .«node_type»);
+      unit = unitOf (r .unit);
+      «read_only» = r .«read_only»;
+      details = detailsIn (typeOf (r .«node_type»)) r;
+    }
+
+-- the definition in a body, or a refusal
+unfoldable pub parsedIn : WingDefinition → Parsed
+parsedIn r = byStatus (r .status) Refused (λ _. Good (definitionIn r))
+
+-- a walk: the place in the body reached, the items left, the type
+unfoldable pub walkIn : WingWalk → Walk
+walkIn r = record { at = r .at; left = r .left; kind = typeOf (r .«node_type») }
+
+-- a walk at the first item, or a refusal
+unfoldable pub begunIn : WingWalk → Begun
+begunIn r = byStatus (r .status) WalkRefused (λ _. WalkBegun (walkIn r))
+
+-- an item by its kind: 0 two strings, 1 float bits and a string
+unfoldable pub itemKindIn : WingItem → Item
+itemKindIn r =
+    if (eqb (r .kind) 0) (Strings (span (r .start) (r .len)) (span (r .«long_start») (r .«long_len»)))
+    (Float (r .bits) (span (r .«long_start») (r .«long_len»)))
+
+-- 1 an item, 0 none
+unfoldable pub itemIn : WingItem → Item
+itemIn r = byStatus (r .status) ItemRefused (λ s. if (eqb s 1) (itemKindIn r) NoItem)
+
+-- a step: the item there, and the walk after it
+unfoldable pub stepIn : WingStep → Step
+stepIn r = record { item = itemIn (r .item); next = walkIn (r .walk) }
+
+-- ---- which answers there are: a refusal's number is 1 or more, an integer has 32 bits, and details are those of the type
+
+-- the details that each type has
+pub data OfType : NodeType → Details → Type 0 where
+  node : OfType Node None
+  linear : {min max : ℕ} {steps : ℤ} → OfType LinearFloat (Floats min max steps)
+  logarithmic : {min max : ℕ} {steps : ℤ} → OfType LogarithmicFloat (Floats min max steps)
+  fader : OfType FaderLevel None
+  integers : {min max : ℤ} → InBits 31 min → InBits 31 max → OfType Integer (Integers min max)
+  strings : {count first : ℕ} → OfType StringEnum (Items count first)
+  floats : {count first : ℕ} → OfType FloatEnum (Items count first)
+  text : {n : ℕ} → OfType String (MaxLen n)
+
+-- of the parser
+abbrev pub OfParsed : Parsed → Type 0
+OfParsed (Good d) = OfType (d .«node_type») (d .details)
+OfParsed (Refused n) = 1 ≤ n
+
+-- of the beginning of a walk
+abbrev pub OfBegun : Begun → Type 0
+OfBegun (WalkBegun w) = Unit {0}
+OfBegun (WalkRefused n) = 1 ≤ n
+
+-- of an item
+abbrev pub OfItem : Item → Type 0
+OfItem NoItem = Unit {0}
+OfItem (Strings a b) = Unit {0}
+OfItem (Float bits b) = Unit {0}
+OfItem (ItemRefused n) = 1 ≤ n
+
+-- ---- what holds of them
+
+-- every definition, item and walk is what its numbers mean
+pub record DefinitionsSay : Type 0 where
+  pub parsed : (p : Parsed) → OfParsed p → parsedIn (definitionNumbers p) ≡ p
+  pub walk : (w : Walk) → walkIn (walkNumbers w) ≡ w
+  pub begun : (b : Begun) → OfBegun b → begunIn (begunNumbers b) ≡ b
+  pub item : (i : Item) → OfItem i → itemIn (itemNumbers i) ≡ i
+  pub step : (s : Step) → OfItem (s .item) → stepIn (stepNumbers s) ≡ s
