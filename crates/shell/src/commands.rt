@@ -23,8 +23,12 @@ const ROOM: usize = 851968;
 
 const READINGS: usize = 4200;
 
+pub fn word(n: u64) -> u32 {
+    (n % 0x1_0000_0000) as u32
+}
+
 pub fn int(n: u64) -> i32 {
-    field::to_i32((n % 0x1_0000_0000) as u32)
+    field::to_i32(word(n))
 }
 
 fn half(n: u64) -> u16 {
@@ -78,9 +82,14 @@ fn meters_of(items: &[u8], other: u16) -> [Meter; 64] {
     meters
 }
 
-fn ask_meters(out: &mut [u8], n: forms::Numbers, items: &[u8], other: u16) -> Said {
-    let meters = meters_of(items, other);
-    of_requested(meter::request_meter(out, meters, n[3] as usize, half(n[1]), half(n[2])))
+// Past the items: rta, unless the order names a meter.
+fn other_meter(letter: u8, named: u64) -> u16 {
+    if letter == b'n' { half(named) } else { 0x0a00 }
+}
+
+fn ask_meters(letter: u8, n: forms::Numbers, items: &[u8], out: &mut [u8]) -> Requested {
+    let meters = meters_of(items, other_meter(letter, n[4]));
+    meter::request_meter(out, meters, n[3] as usize, half(n[1]), half(n[2]))
 }
 
 // One call of the writer that the letter names.
@@ -88,7 +97,7 @@ fn written(letter: u8, n: forms::Numbers, bytes: &[u8], out: &mut [u8]) -> Writt
     let id = int(n[1]);
     match letter {
         b'i' => set::set_int(out, id, int(n[2])),
-        b'f' => set::set_float(out, id, (n[2] % 0x1_0000_0000) as u32),
+        b'f' => set::set_float(out, id, word(n[2])),
         b's' => set::set_string(out, id, bytes),
         b't' => set::format_id(out, id, (n[2] % 256) as u8, suffix(bytes)),
         b'd' => request::request_node_definition(out, id),
@@ -97,17 +106,17 @@ fn written(letter: u8, n: forms::Numbers, bytes: &[u8], out: &mut [u8]) -> Writt
     }
 }
 
-// What a call wrote: the meter id (0 where there is none) and how many bytes or readings, or the refusal's number.
-fn of_written(w: Written) -> Said {
+// What a call wrote: how many bytes and the meter id, 0 where there is none; or the refusal's number.
+pub fn of_written(w: Written) -> Said {
     match w {
-        Written::Bytes(len) => show::two(b'h', 0, len as u64),
+        Written::Bytes(len) => show::one(b's', len as u64),
         Written::Refused(why) => show::one(b'r', why as u64),
     }
 }
 
 fn of_requested(r: Requested) -> Said {
     match r {
-        Requested::Bytes { len, id } => show::two(b'h', id as u64, len as u64),
+        Requested::Bytes { len, id } => show::two(b's', len as u64, id as u64),
         Requested::Refused(why) => show::one(b'r', why as u64),
     }
 }
@@ -119,42 +128,42 @@ fn of_read(r: meter::MetersRead) -> Said {
     }
 }
 
-fn call(a: forms::Asked, bytes: &[u8], out: &mut [u8]) -> Said {
-    let n = a.numbers;
-    let letter = a.letter;
+fn call(letter: u8, n: forms::Numbers, bytes: &[u8], out: &mut [u8]) -> Said {
     match letter {
-        b'm' => ask_meters(out, n, bytes, 0x0a00),
-        b'n' => ask_meters(out, n, bytes, half(n[4])),
+        b'm' | b'n' => of_requested(ask_meters(letter, n, bytes, out)),
         _ => of_written(written(letter, n, bytes, out)),
     }
 }
 
 fn say(log: &mut Log, at: usize, s: Said) -> usize {
-    show::say(log, at, b"hD|pDH:|rrR|fA", s)
+    show::say(log, at, b"sND|pDH:|hD|rrR|fA", s)
 }
 
-// The first of the numbers is the room. A suffix has one byte or none.
-fn into(log: &mut Log, a: forms::Asked, bytes: &[u8], out: &mut [u8]) -> usize {
-    let n = a.numbers;
-    let room = n[0] as usize;
-    if a.letter == b't' && 1 < bytes.len() {
+fn is_kept(log: &mut Log, at: usize, kept: bool) -> usize {
+    say(log, at, show::one(b'f', show::flag(kept)))
+}
+
+fn told(log: &mut Log, s: Said, out: &[u8]) -> usize {
+    let len = show::first(s, b's') as usize;
+    let bytes_at = say(log, 0, s);
+    let kept_at = show::front(log, bytes_at, out, len);
+    is_kept(log, kept_at, show::all_same(out, len, MARK))
+}
+
+// The first of the numbers is the room.
+fn into(log: &mut Log, letter: u8, n: forms::Numbers, bytes: &[u8], out: &mut [u8]) -> usize {
+    let room = read::at_most(n[0] as usize, out.len());
+    let s = call(letter, n, bytes, &mut out[0..room]);
+    told(log, s, read::part(out, 0, room))
+}
+
+// A suffix has one byte or none.
+pub fn order(log: &mut Log, letter: u8, n: forms::Numbers, bytes: &[u8]) -> usize {
+    if letter == b't' && 1 < bytes.len() {
         return 0;
     }
-    if room <= out.len() {
-        let o = call(a, bytes, &mut out[0..room]);
-        let v = o.values;
-        let len = v[1] as usize;
-        let kept = show::all_same(read::part(out, 0, room), len, MARK);
-        let bytes_at = say(log, 0, o);
-        let kept_at = show::front(log, bytes_at, out, len);
-        return say(log, kept_at, show::one(b'f', show::flag(kept)));
-    }
-    0
-}
-
-pub fn order(log: &mut Log, a: forms::Asked, bytes: &[u8]) -> usize {
     let mut out = [MARK; ROOM];
-    into(log, a, bytes, &mut out)
+    into(log, letter, n, bytes, &mut out)
 }
 
 fn all_mark(s: &[i16], from: usize) -> bool {
@@ -179,23 +188,16 @@ fn readings(log: &mut Log, at: usize, out: &[i16], count: usize) -> usize {
 }
 
 fn packet_into(log: &mut Log, room: usize, bytes: &[u8], out: &mut [i16]) -> usize {
-    if room <= out.len() {
-        let o = of_read(meter::read_meters(bytes, &mut out[0..room]));
-        let v = o.values;
-        let count = v[1] as usize;
-        let at = say(log, 0, o);
-        let kept_at = readings(log, at, out, count);
-        return say(
-            log,
-            kept_at,
-            show::one(b'f', show::flag(all_mark(out, count))),
-        );
-    }
-    0
+    let end = read::at_most(room, out.len());
+    let s = of_read(meter::read_meters(bytes, &mut out[0..end]));
+    let v = s.values;
+    let count = v[1] as usize;
+    let at = say(log, 0, s);
+    let kept_at = readings(log, at, out, count);
+    is_kept(log, kept_at, all_mark(out, count))
 }
 
-pub fn packet(log: &mut Log, a: forms::Asked, bytes: &[u8]) -> usize {
+pub fn packet(log: &mut Log, n: forms::Numbers, bytes: &[u8]) -> usize {
     let mut out = [READING_MARK; READINGS];
-    let n = a.numbers;
     packet_into(log, n[0] as usize, bytes, &mut out)
 }

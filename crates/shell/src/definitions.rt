@@ -5,11 +5,7 @@ use crate::show;
 use crate::show::Log;
 use crate::show::Said;
 use wing_node::definition;
-use wing_node::definition::Definition;
 use wing_node::definition::Details;
-use wing_node::definition::Item;
-use wing_node::definition::Parsed;
-use wing_node::definition::Span;
 use wing_node::items;
 use wing_node::items::Step;
 use wing_node::items::Walk;
@@ -58,26 +54,26 @@ fn refused(log: &mut Log, at: usize, why: u8, words: bool) -> usize {
 }
 
 // A string of the body, with a mark before it.
-fn string(log: &mut Log, at: usize, mark: u8, body: &[u8], s: Span) -> usize {
+fn string(log: &mut Log, at: usize, mark: u8, body: &[u8], s: definition::Span) -> usize {
     let start = s.start;
-    let string_at = show::put(log, at, mark);
+    let string_at = read::put(log, at, mark);
     let end = read::onward(start, s.len as usize, body.len());
     show::front(log, string_at, read::part(body, start, end), s.len as usize)
 }
 
 // An item; none and a refusal in words or short.
-fn item(log: &mut Log, at: usize, body: &[u8], i: Item, words: bool) -> usize {
+fn item(log: &mut Log, at: usize, body: &[u8], i: definition::Item, words: bool) -> usize {
     match i {
-        Item::None => say(log, at, show::none(if words { b'n' } else { b'-' })),
-        Item::Strings { item, long_item } => {
+        definition::Item::None => say(log, at, show::none(if words { b'n' } else { b'-' })),
+        definition::Item::Strings { item, long_item } => {
             let long_at = string(log, at, b',', body, item);
             string(log, long_at, b'/', body, long_item)
         }
-        Item::Float { item, long_item } => {
+        definition::Item::Float { item, long_item } => {
             let long_at = say(log, at, show::one(b',', item as u64));
             string(log, long_at, b'/', body, long_item)
         }
-        Item::Refused(why) => refused(log, at, why, words),
+        definition::Item::Refused(why) => refused(log, at, why, words),
     }
 }
 
@@ -165,7 +161,7 @@ fn details(d: Details) -> Said {
     }
 }
 
-fn fields(log: &mut Log, at: usize, body: &[u8], d: Definition) -> usize {
+fn fields(log: &mut Log, at: usize, body: &[u8], d: definition::Definition) -> usize {
     let name = d.name;
     let long_name = d.long_name;
     let more = d.details;
@@ -190,8 +186,8 @@ fn fields(log: &mut Log, at: usize, body: &[u8], d: Definition) -> usize {
 pub fn definition(log: &mut Log, at: usize, body: &[u8]) -> usize {
     let parsed = definition::from_bytes(body);
     match parsed {
-        Parsed::Good(d) => fields(log, at, body, d),
-        Parsed::Refused(why) => refused(log, at, why, false),
+        definition::Parsed::Good(d) => fields(log, at, body, d),
+        definition::Parsed::Refused(why) => refused(log, at, why, false),
     }
 }
 
@@ -199,8 +195,8 @@ pub fn definition(log: &mut Log, at: usize, body: &[u8]) -> usize {
 fn refusal(body: &[u8]) -> u8 {
     let parsed = definition::from_bytes(body);
     match parsed {
-        Parsed::Good(_) => 0,
-        Parsed::Refused(why) => why,
+        definition::Parsed::Good(_) => 0,
+        definition::Parsed::Refused(why) => why,
     }
 }
 
@@ -256,9 +252,7 @@ fn walk_items(log: &mut Log, body: &[u8]) -> usize {
     }
 }
 
-pub fn order(log: &mut Log, a: forms::Asked, bytes: &[u8]) -> usize {
-    let n = a.numbers;
-    let letter = a.letter;
+pub fn order(log: &mut Log, letter: u8, n: forms::Numbers, bytes: &[u8]) -> usize {
     match letter {
         b'd' => definition(log, 0, bytes),
         b'c' => cuts(log, bytes),

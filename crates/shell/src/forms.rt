@@ -14,7 +14,7 @@ pub const BYTES: usize = 135601;
 
 pub type Bytes = [u8; BYTES];
 
-const COUNT: usize = 64;
+pub const COUNT: usize = 64;
 
 pub type Numbers = [u64; COUNT];
 
@@ -211,14 +211,27 @@ askmeters:cmrwwoh askmetersfill:cnrwwozh keepalive:cklww";
     by_table(line, table, bytes, held)
 }
 
-// An order, or one after `sum `, which orders to the mirror have not.
-pub fn order(line: &[u8], bytes: &mut Bytes, held: usize) -> Asked {
-    let summed = read::same(read::part(line, 0, 4), b"sum ");
-    let from = if summed { 4 } else { 0 };
-    let mut a = unsummed(read::part(line, from, line.len()), bytes, held);
+// Where a line's order begins: after `sum ` where that stands first.
+fn order_at(line: &[u8]) -> usize {
+    if read::same(read::part(line, 0, 4), b"sum ") {
+        4
+    } else {
+        0
+    }
+}
+
+// A line has its most bytes, and an order to the mirror no sum.
+fn checked(before: Asked, len: usize, summed: bool) -> Asked {
+    let mut a = before;
     a.summed = summed;
-    if LINE < line.len() || summed && a.part < b'a' {
+    if LINE < len || summed && a.part < b'a' {
         a.part = 0;
     }
     a
+}
+
+pub fn order(line: &[u8], bytes: &mut Bytes, held: usize) -> Asked {
+    let from = order_at(line);
+    let a = unsummed(read::part(line, from, line.len()), bytes, held);
+    checked(a, line.len(), from > 0)
 }

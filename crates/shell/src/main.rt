@@ -26,78 +26,83 @@ const BUFFER: usize = 65536;
 type Buffer = [u8; BUFFER];
 
 // Bytes of the input that are not taken yet, from a place of their buffer up to another, and how many bytes of a line stand
-// in the line's buffer. ended: the line is complete. more: the input may go on. whole: no read of it has failed.
+// in the line's buffer. ended: the line is complete. more: the input may go on.
 struct Input {
     at: usize,
     end: usize,
     len: usize,
     ended: bool,
     more: bool,
-    whole: bool,
 }
 
-// Every order but a feed. Capital letters are orders to the mirror. Bytes held that the order took are held no more.
-fn order(before: Kept, memory: &mut Memory, a: Asked, bytes: &[u8], log: &mut Log) -> Kept {
-    let mut k = before;
+// An order that leaves the mirror alone: its text, or the text's sum.
+fn text(a: Asked, bytes: &[u8], log: &mut Log) -> usize {
     let part = a.part;
-    if part == b'M' {
-        return mirror::change(k, memory, a, bytes, log);
-    }
-    if part == b'S' {
-        return mirror::send(k, memory, a, bytes, log);
-    }
+    let letter = a.letter;
+    let n = a.numbers;
     let len = match part {
-        b'Q' => mirror::query(k, memory, a, log),
-        b's' => streams::order(log, a, bytes),
-        b'd' => definitions::order(log, a, bytes),
-        b'v' => values::order(log, a, bytes),
-        b'c' => commands::order(log, a, bytes),
-        b'p' => commands::packet(log, a, bytes),
+        b's' => streams::order(log, letter, n, a.count, bytes),
+        b'd' => definitions::order(log, letter, n, bytes),
+        b'v' => values::order(log, letter, n, bytes),
+        b'c' => commands::order(log, letter, n, bytes),
+        b'p' => commands::packet(log, n, bytes),
         _ => 0,
     };
-    if len > 0 {
-        k.held = a.from;
-    }
-    k.len = show::summed(log, len, a.summed);
-    k
+    show::summed(log, len, a.summed)
 }
 
-fn turn(t: Session, memory: &mut Memory, line: &[u8], bytes: &mut Bytes, log: &mut Log) -> Session {
-    let mut k = t.kept;
-    k.len = 0;
-    let a = forms::order(line, bytes, k.held);
-    let given = read::part(bytes, a.from, a.to);
-    let state = t.state;
-    if a.part == b'F' {
-        return mirror::feed(state, k, memory, given, log);
+// Every order but a feed. Capital letters are orders to the mirror.
+fn order(k: Kept, memory: &mut Memory, a: Asked, bytes: &[u8], log: &mut Log) -> Kept {
+    let part = a.part;
+    match part {
+        b'M' => mirror::change(k, memory, a, bytes, log),
+        b'S' => mirror::send(k, memory, a, bytes, log),
+        b'Q' => mirror::with_text(k, mirror::query(k, memory, a, log), a.from),
+        _ => mirror::with_text(k, text(a, bytes, log), a.from),
     }
-    let kept = order(k, memory, a, given, log);
+}
+
+fn turn(t: Session, memory: &mut Memory, a: Asked, bytes: &[u8], log: &mut Log) -> Session {
+    let state = t.state;
+    let before = t.kept;
+    if a.part == b'F' {
+        return mirror::feed(state, before, memory, bytes, log);
+    }
+    let kept = order(before, memory, a, bytes, log);
     Session { state, kept }
 }
 
-// A line out of form is printed back; a comment and an empty line too, so that the output reads by itself.
-fn print_back(line: &[u8], log: &mut Log) -> usize {
+// A line out of form, which has no answer, is printed back; a comment and an empty line too, so that the output reads by
+// itself.
+fn or_back(line: &[u8], log: &mut Log, answer: usize) -> usize {
+    if answer > 0 {
+        return answer;
+    }
     if forms::LINE < line.len() {
-        return show::put(log, 0, b'?');
+        return read::put(log, 0, b'?');
     }
     if read::byte_or(line, 0, b'#') == b'#' {
-        return show::text(log, 0, line);
+        return read::lay(log, 0, line);
     }
-    show::put(log, 0, b'?');
-    show::put(log, 1, b' ');
-    show::text(log, 2, line)
+    let at = read::lay(log, 0, b"? ");
+    read::lay(log, at, line)
 }
 
 fn answer(t: Session, m: &mut Memory, line: &[u8], bytes: &mut Bytes, log: &mut Log) -> Session {
-    let after = turn(t, m, line, bytes, log);
-    let k = after.kept;
-    let n = if k.len == 0 {
-        print_back(line, log)
-    } else {
-        k.len
-    };
+    let before = t.kept;
+    let a = forms::order(line, bytes, before.held);
+    let s = turn(t, m, a, read::part(bytes, a.from, a.to), log);
+    let k = s.kept;
+    let n = or_back(line, log, k.len);
     show::print(log, n);
-    after
+    s
+}
+
+fn say_broken(broken: bool) {
+    if broken {
+        let text = b"shell: standard input was not read to its end\n";
+        io::write_all(libc::STDERR_FILENO, text);
+    }
 }
 
 fn refill(before: Input, buffer: &mut Buffer) -> Input {
@@ -106,7 +111,7 @@ fn refill(before: Input, buffer: &mut Buffer) -> Input {
     t.at = 0;
     t.end = io::count(got, buffer);
     t.more = got > 0;
-    t.whole = got >= 0;
+    say_broken(got < 0);
     t
 }
 
@@ -131,28 +136,19 @@ fn read_line(before: Input, buffer: &mut Buffer, line: &mut Line) -> Input {
     t
 }
 
-fn read_so_far(line: &Line, len: usize) -> &[u8] {
-    read::part(line, 0, len)
-}
-
 // The last line needs no newline.
 fn is_line(t: Input) -> bool {
     t.ended || t.len > 0
 }
 
-fn say_broken(whole: bool) {
-    if !whole {
-        let text = b"shell: standard input was not read to its end\n";
-        io::write_all(libc::STDERR_FILENO, text);
-    }
-}
-
-fn main() {
-    let mut buffer = [0u8; BUFFER];
-    let mut memory = [0u8; mirror::MEMORY];
-    let mut line = [0u8; LINE];
-    let mut bytes = [0u8; forms::BYTES];
-    let mut log = [0u8; show::LOG];
+// Every line of the input. The buffers are lent: a loop beside the literals of such arrays is checked far slower.
+fn run(
+    buffer: &mut Buffer,
+    line: &mut Line,
+    memory: &mut Memory,
+    bytes: &mut Bytes,
+    log: &mut Log,
+) {
     let mut s = mirror::start();
     let mut t = Input {
         at: 0,
@@ -160,16 +156,22 @@ fn main() {
         len: 0,
         ended: false,
         more: true,
-        whole: true,
     };
     let mut turns = u64::MAX;
     while turns > 0 && t.more {
-        t = read_line(t, &mut buffer, &mut line);
+        t = read_line(t, buffer, line);
         if is_line(t) {
-            let words = read_so_far(&line, t.len);
-            s = answer(s, &mut memory, words, &mut bytes, &mut log);
+            s = answer(s, memory, read::part(line, 0, t.len), bytes, log);
         }
         turns -= 1;
     }
-    say_broken(t.whole);
+}
+
+fn main() {
+    let mut buffer = [0u8; BUFFER];
+    let mut line = [0u8; LINE];
+    let mut memory = [0u8; mirror::MEMORY];
+    let mut bytes = [0u8; forms::BYTES];
+    let mut log = [0u8; show::LOG];
+    run(&mut buffer, &mut line, &mut memory, &mut bytes, &mut log);
 }

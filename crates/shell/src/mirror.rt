@@ -1,5 +1,7 @@
 // The mirror that the orders go to. Its table buffer is the front of one memory.
 use crate::commands::int;
+use crate::commands::of_written;
+use crate::commands::word;
 use crate::forms;
 use crate::forms::Asked;
 use crate::read;
@@ -7,8 +9,6 @@ use crate::show;
 use crate::show::Log;
 use crate::show::Said;
 use wing_mirror::answer;
-use wing_mirror::answer::RecordRead;
-use wing_mirror::answer::SetReply;
 use wing_mirror::query;
 use wing_mirror::recall;
 use wing_mirror::set;
@@ -48,17 +48,39 @@ pub struct Session {
     pub kept: Kept,
 }
 
+// A fresh mirror. The remainders are the numbers themselves: with them the size is known to be a number.
+fn fresh(n: forms::Numbers, held: usize) -> Kept {
+    Kept {
+        count: 0,
+        size: (n[0] % 1027 * 264 + n[1] % 264) as usize,
+        fill: (n[2] % 256) as u8,
+        fresh: true,
+        held,
+        len: 0,
+    }
+}
+
 pub fn start() -> Session {
     let state = State::fresh();
-    let kept = Kept {
-        count: 0,
-        size: 0,
-        fill: 0,
-        fresh: true,
-        held: 0,
-        len: 0,
-    };
+    let kept = fresh([0u64; forms::COUNT], 0);
     Session { state, kept }
+}
+
+fn with_count(before: Kept, count: usize, len: usize) -> Kept {
+    let mut k = before;
+    k.count = count;
+    k.len = len;
+    k
+}
+
+// After an order with a text of so many bytes, none for one out of form. Bytes held that it took are held no more.
+pub fn with_text(before: Kept, len: usize, held: usize) -> Kept {
+    let mut k = before;
+    k.len = len;
+    if len > 0 {
+        k.held = held;
+    }
+    k
 }
 
 fn say(log: &mut Log, at: usize, s: Said) -> usize {
@@ -83,37 +105,35 @@ fn fed(a: answer::FeedAnswer, c: answer::Counts) -> Said {
     }
 }
 
-pub fn feed(s: State, before: Kept, memory: &mut [u8], bytes: &[u8], log: &mut Log) -> Session {
-    let mut k = before;
-    let size = k.size;
-    if size <= memory.len() {
-        let first = if k.fresh { State::fresh() } else { s };
-        let r = wing_mirror::feed::feed(first, &mut memory[0..size], k.count, bytes);
-        let a = r.answer;
-        let c = r.counts;
-        let state = r.state;
-        k.fresh = false;
-        k.count = r.count;
-        k.len = say(log, 0, fed(a, c));
-        return Session { state, kept: k };
-    }
-    Session { state: s, kept: k }
+fn decoder(s: State, fresh: bool) -> State {
+    if fresh { State::fresh() } else { s }
+}
+
+fn after_feed(r: answer::FeedReply, before: Kept, log: &mut Log) -> Session {
+    let mut kept = before;
+    let a = r.answer;
+    let c = r.counts;
+    let state = r.state;
+    kept.fresh = false;
+    kept.count = r.count;
+    kept.len = say(log, 0, fed(a, c));
+    Session { state, kept }
+}
+
+pub fn feed(s: State, k: Kept, memory: &mut [u8], bytes: &[u8], log: &mut Log) -> Session {
+    let size = read::at_most(k.size, memory.len());
+    let first = decoder(s, k.fresh);
+    let r = wing_mirror::feed::feed(first, &mut memory[0..size], k.count, bytes);
+    after_feed(r, k, log)
 }
 
 fn cleanness(log: &mut Log, at: usize, clean: bool) -> usize {
     say(log, at, show::none(if clean { b'+' } else { b'!' }))
 }
 
-fn outcome(w: Written) -> Said {
-    match w {
-        Written::Bytes(n) => show::one(b's', n as u64),
-        Written::Refused(why) => show::one(b'r', why as u64),
-    }
-}
-
 // What was written into an output, and whether the rest of it is as it was.
 fn sent(log: &mut Log, w: Written, out: &[u8]) -> usize {
-    let o = outcome(w);
+    let o = of_written(w);
     let n = show::first(o, b's') as usize;
     let mut at = say(log, 0, o);
     if o.letter == b's' {
@@ -122,34 +142,32 @@ fn sent(log: &mut Log, w: Written, out: &[u8]) -> usize {
     cleanness(log, at, show::all_same(out, n, MARK))
 }
 
+fn recalled(table: &[u8], count: usize, out: &mut [u8]) -> answer::SetReply {
+    let answer = recall::recall(table, count, out);
+    answer::SetReply { answer, count }
+}
+
 // A set or a recall.
-fn written(a: Asked, table: &mut [u8], count: usize, out: &mut [u8], s: &[u8]) -> SetReply {
+fn written(a: Asked, s: &[u8], table: &mut [u8], count: usize, out: &mut [u8]) -> answer::SetReply {
     let n = a.numbers;
     let id = int(n[0]);
     let letter = a.letter;
     match letter {
         b'I' => set::set_int(table, count, out, id, int(n[1])),
-        b'F' => set::set_float(table, count, out, id, (n[1] % 0x1_0000_0000) as u32),
+        b'F' => set::set_float(table, count, out, id, word(n[1])),
         b'S' => set::set_string(table, count, out, id, s),
-        _ => {
-            let answer = recall::recall(table, count, out);
-            SetReply { answer, count }
-        }
+        _ => recalled(table, count, out),
     }
 }
 
 // The room is the last of the numbers.
-fn into(before: Kept, m: &mut [u8], a: Asked, s: &[u8], out: &mut [u8], log: &mut Log) -> Kept {
-    let mut k = before;
-    let size = k.size;
-    let room = forms::last_number(a) as usize;
-    if size <= m.len() && room <= out.len() {
-        let r = written(a, &mut m[0..size], k.count, &mut out[0..room], s);
-        let w = r.answer;
-        k.count = r.count;
-        k.len = sent(log, w, read::part(out, 0, room));
-    }
-    k
+fn into(k: Kept, m: &mut [u8], a: Asked, s: &[u8], out: &mut [u8], log: &mut Log) -> Kept {
+    let size = read::at_most(k.size, m.len());
+    let room = read::at_most(forms::last_number(a) as usize, out.len());
+    let r = written(a, s, &mut m[0..size], k.count, &mut out[0..room]);
+    let w = r.answer;
+    let len = sent(log, w, read::part(out, 0, room));
+    with_count(k, r.count, len)
 }
 
 pub fn send(k: Kept, memory: &mut [u8], a: Asked, s: &[u8], log: &mut Log) -> Kept {
@@ -176,7 +194,7 @@ fn node(log: &mut Log, at: usize, id: i32, v: Value, string: &[u8]) -> usize {
 }
 
 // A record as mirror lists it.
-fn entry(log: &mut Log, at: usize, r: RecordRead) -> usize {
+fn entry(log: &mut Log, at: usize, r: answer::RecordRead) -> usize {
     let a = r.answer;
     let string = r.string;
     match a {
@@ -186,7 +204,7 @@ fn entry(log: &mut Log, at: usize, r: RecordRead) -> usize {
 }
 
 // The record of a number by itself, as the table of one place that it is: so the places of the whole are no matter.
-fn alone(table: &[u8], number: usize) -> RecordRead {
+fn alone(table: &[u8], number: usize) -> answer::RecordRead {
     let at = number % 1027 * 264;
     query::record(read::part(table, at, at + 264), 1, 0)
 }
@@ -195,7 +213,7 @@ fn entries(log: &mut Log, at: usize, table: &[u8], count: usize) -> usize {
     let mut to = at;
     let mut number = 0;
     while number < count {
-        let entry_at = show::put(log, to, b' ');
+        let entry_at = read::put(log, to, b' ');
         to = entry(log, entry_at, alone(table, number));
         number += 1;
     }
@@ -258,51 +276,35 @@ fn fill(memory: &mut [u8], fill: u8) {
 }
 
 fn new(before: Kept, memory: &mut [u8], n: forms::Numbers, log: &mut Log) -> Kept {
-    let mut k = before;
-    // The remainders are the numbers themselves: with them the size is known to be a number.
-    let size = (n[0] % 1027 * 264 + n[1] % 264) as usize;
-    if size <= MEMORY {
-        k.count = 0;
-        k.size = size;
-        k.fill = (n[2] % 256) as u8;
-        k.fresh = true;
-        fill(memory, k.fill);
-        let places = table::places(read::part(memory, 0, size));
-        k.len = say(log, 0, show::one(b'p', places as u64));
+    let k = fresh(n, before.held);
+    if MEMORY < k.size {
+        return with_text(before, 0, 0);
     }
-    k
+    fill(memory, k.fill);
+    let places = table::places(read::part(memory, 0, k.size));
+    with_text(k, say(log, 0, show::one(b'p', places as u64)), k.held)
 }
 
-fn poke(before: Kept, memory: &mut [u8], at: usize, bytes: &[u8], log: &mut Log) -> Kept {
-    let mut k = before;
-    let mut to = at;
-    let mut i = 0;
+fn poke(k: Kept, memory: &mut [u8], at: usize, bytes: &[u8], log: &mut Log) -> Kept {
     if is_within(k, at, bytes.len()) {
-        k.len = say(log, 0, show::none(b'k'));
-        while i < bytes.len() {
-            to = read::put(memory, to, bytes[i]);
-            i += 1;
-        }
+        read::lay(memory, at, bytes);
+        return with_text(k, say(log, 0, show::none(b'k')), k.held);
     }
-    k
-}
-
-// The count that the caller hands over from now on.
-fn hand_count(before: Kept, n: u64, log: &mut Log) -> Kept {
-    let mut k = before;
-    k.count = n as usize;
-    k.len = say(log, 0, show::one(b'c', n));
-    k
+    with_text(k, 0, 0)
 }
 
 // The order's bytes stand after those held so far.
-fn hold(before: Kept, held: usize, log: &mut Log) -> Kept {
-    let mut k = before;
-    if held <= HELD {
-        k.held = held;
-        k.len = say(log, 0, show::one(b'h', held as u64));
+fn hold(k: Kept, held: usize, log: &mut Log) -> Kept {
+    if HELD < held {
+        return with_text(k, 0, 0);
     }
-    k
+    with_text(k, say(log, 0, show::one(b'h', held as u64)), held)
+}
+
+// The count that the caller hands over from now on.
+fn hand_count(k: Kept, n: u64, log: &mut Log) -> Kept {
+    let len = say(log, 0, show::one(b'c', n));
+    with_count(k, n as usize, len)
 }
 
 pub fn change(k: Kept, memory: &mut [u8], a: Asked, bytes: &[u8], log: &mut Log) -> Kept {

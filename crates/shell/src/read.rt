@@ -1,4 +1,12 @@
 // Lines, their words, and the numbers and bytes that words spell.
+ghost use Prim.Native.Nat.{_≤_};
+
+// A number, or the limit where that is less: a part that ends there is a part of as many bytes as the limit.
+pub fn at_most(n: usize, limit: usize) -> usize
+    ensures { λ r. ⌜ r ≤ limit ⌝ }
+{
+    if n < limit { n } else { limit }
+}
 
 // The bytes from a place up to another; none where they are not all there.
 pub fn part(s: &[u8], from: usize, to: usize) -> &[u8] {
@@ -42,18 +50,30 @@ pub fn put(buffer: &mut [u8], at: usize, b: u8) -> usize {
     buffer.len()
 }
 
-pub fn same(a: &[u8], b: &[u8]) -> bool {
-    if a.len() != b.len() {
-        return false;
-    }
+// Bytes one after the other; a full buffer stays at its end.
+pub fn lay(buffer: &mut [u8], at: usize, s: &[u8]) -> usize {
+    let mut to = at;
     let mut i = 0;
-    while i < a.len() {
-        if a[i] != byte_or(b, i, 0) {
+    while i < s.len() {
+        to = put(buffer, to, s[i]);
+        i += 1;
+    }
+    to
+}
+
+fn is_front(front: &[u8], s: &[u8]) -> bool {
+    let mut i = 0;
+    while i < front.len() {
+        if front[i] != byte_or(s, i, 0) {
             return false;
         }
         i += 1;
     }
     true
+}
+
+pub fn same(a: &[u8], b: &[u8]) -> bool {
+    a.len() == b.len() && is_front(a, b)
 }
 
 // Where the word ends that begins at a place.
@@ -103,16 +123,29 @@ fn digit(c: u8) -> u64 {
     }
 }
 
-// One to ten digits that spell a number from the least to the most. The remainder is the number itself in such a word.
+pub fn is_between(n: u64, least: u64, most: u64) -> bool {
+    least <= n && n <= most
+}
+
+// A number with one digit more. The remainder is the number itself in a word of at most ten digits.
+fn with_digit(n: Number, c: u8) -> Number {
+    let d = digit(c);
+    number_of(n.good && d < 10, n.value % 1_000_000_000 * 10 + d % 10)
+}
+
+fn limited(n: Number, least: u64, most: u64) -> Number {
+    number_of(n.good && is_between(n.value, least, most), n.value)
+}
+
+// One to ten digits that spell a number from the least to the most.
 pub fn unsigned(word: &[u8], least: u64, most: u64) -> Number {
-    let mut n = number_of(word.len() >= 1 && word.len() <= 10, 0);
+    let mut n = number_of(is_between(word.len() as u64, 1, 10), 0);
     let mut i = 0;
     while i < word.len() {
-        let d = digit(word[i]);
-        n = number_of(n.good && d < 10, n.value % 1_000_000_000 * 10 + d % 10);
+        n = with_digit(n, word[i]);
         i += 1;
     }
-    number_of(n.good && least <= n.value && n.value <= most, n.value)
+    limited(n, least, most)
 }
 
 // A number of 32 bits with its sign, by its bits.
@@ -122,6 +155,11 @@ pub fn signed(word: &[u8]) -> Number {
         return number_of(n.good, less(0x1_0000_0000, n.value) % 0x1_0000_0000);
     }
     unsigned(word, 0, 0x7fff_ffff)
+}
+
+// A word of so many digits has a pair for each byte, of which there are some, and room for them.
+fn has_pairs(len: usize, room: u64) -> bool {
+    len % 2 == 0 && is_between(len as u64 / 2, 1, room)
 }
 
 // The byte that two hex digits spell from a place on; over 255 where they are none.
@@ -136,7 +174,7 @@ pub fn pairs(word: &[u8], body: &mut [u8], from: usize) -> Number {
     }
     let count = word.len() / 2;
     let room = less(body.len() as u64, from as u64);
-    let mut good = count > 0 && word.len() % 2 == 0 && count as u64 <= room;
+    let mut good = has_pairs(word.len(), room);
     let mut at = from;
     let mut i = 0;
     while i < count {

@@ -41,34 +41,16 @@ pub fn first(s: Said, letter: u8) -> u64 {
     if s.letter == letter { n[0] } else { 0 }
 }
 
-pub fn put(log: &mut Log, at: usize, b: u8) -> usize {
-    if at < LOG {
-        log[at] = b;
-        return at + 1;
-    }
-    LOG
-}
-
-pub fn text(log: &mut Log, at: usize, s: &[u8]) -> usize {
-    let mut to = at;
-    let mut i = 0;
-    while i < s.len() {
-        to = put(log, to, s[i]);
-        i += 1;
-    }
-    to
-}
-
 fn decimal(log: &mut Log, at: usize, n: u64) -> usize {
     let mut digits = [0u8; 20];
     let k = io::decimal(n, &mut digits);
-    text(log, at, &digits[..k])
+    read::lay(log, at, &digits[..k])
 }
 
 fn hex(log: &mut Log, at: usize, n: u64, width: usize) -> usize {
     let mut digits = [0u8; 16];
     let k = io::hex(n, width, &mut digits);
-    text(log, at, &digits[..k])
+    read::lay(log, at, &digits[..k])
 }
 
 // A number of 32 bits with its sign, by its bits.
@@ -76,7 +58,7 @@ fn signed(log: &mut Log, at: usize, bits: u64) -> usize {
     if bits < 0x8000_0000 {
         return decimal(log, at, bits);
     }
-    let to = put(log, at, b'-');
+    let to = read::put(log, at, b'-');
     decimal(log, to, read::less(0x1_0000_0000, bits))
 }
 
@@ -103,7 +85,7 @@ fn spell(log: &mut Log, at: usize, s: &[u8], values: [u64; 6]) -> usize {
             to = number(log, to, c, read::number_at(&values, k));
             k = read::onward(k, 1, 6);
         } else {
-            to = put(log, to, c);
+            to = read::put(log, to, c);
         }
         i += 1;
     }
@@ -128,7 +110,7 @@ pub fn flag(yes: bool) -> u64 {
 // The first n bytes in pairs; more than there are, which no answer should have, as `!`.
 pub fn front(log: &mut Log, at: usize, s: &[u8], n: usize) -> usize {
     if s.len() < n {
-        return put(log, at, b'!');
+        return read::put(log, at, b'!');
     }
     let mut to = at;
     let mut i = 0;
@@ -142,14 +124,14 @@ pub fn front(log: &mut Log, at: usize, s: &[u8], n: usize) -> usize {
 // Bytes in pairs; none as `-`.
 pub fn bytes(log: &mut Log, at: usize, s: &[u8]) -> usize {
     if s.len() == 0 {
-        return put(log, at, b'-');
+        return read::put(log, at, b'-');
     }
     front(log, at, s, s.len())
 }
 
 // A `!` unless all is as it should be.
 pub fn expect(log: &mut Log, at: usize, good: bool) -> usize {
-    if good { at } else { put(log, at, b'!') }
+    if good { at } else { read::put(log, at, b'!') }
 }
 
 // Whether a text up to n stands after it again, up to an end.
@@ -162,8 +144,8 @@ pub fn same_again(log: &mut Log, n: usize, end: usize) -> usize {
     if is_again(log, n, end) {
         return n;
     }
-    let to = put(log, n, b' ');
-    put(log, to, b'!')
+    let to = read::put(log, n, b' ');
+    read::put(log, to, b'!')
 }
 
 // The bytes from a place on all have one value.
@@ -204,6 +186,6 @@ pub fn summed(log: &mut Log, n: usize, asked: bool) -> usize {
 
 // A whole line with its end.
 pub fn print(log: &mut Log, at: usize) {
-    let n = put(log, at, b'\n');
+    let n = read::put(log, at, b'\n');
     io::write_all(STDOUT_FILENO, read::part(log, 0, n));
 }

@@ -71,16 +71,20 @@ fn used(store: &[u8]) -> usize {
     n
 }
 
+fn control(log: &mut Log, at: usize, c: Control) -> usize {
+    let e = c.escape;
+    let p = e.pending;
+    let t = c.token;
+    let token_at = say(log, at, pending(p));
+    let store_at = say(log, token_at, token(t));
+    say(log, store_at, show::none(b'o'))
+}
+
 // What LAST of a stream leaves out.
 pub fn state(log: &mut Log, at: usize, s: State) -> usize {
     let c = s.control;
-    let e = c.escape;
-    let t = c.token;
     let store = s.store;
-    let p = e.pending;
-    let token_at = say(log, at, pending(p));
-    let store_at = say(log, token_at, token(t));
-    let bytes_at = say(log, store_at, show::none(b'o'));
+    let bytes_at = control(log, at, c);
     show::bytes(log, bytes_at, read::part(&store, 0, used(&store)))
 }
 

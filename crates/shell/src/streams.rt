@@ -1,6 +1,6 @@
 // A stream from a state: every event and refusal with the place that the reading has reached, then the state.
 use crate::definitions;
-use crate::forms::Asked;
+use crate::forms::Numbers;
 use crate::read;
 use crate::show;
 use crate::show::Log;
@@ -107,28 +107,24 @@ fn is_zero_filled(e: Said, string: &[u8], body: &[u8]) -> bool {
     state::zeros_from(string, n) && state::zeros_from(body, show::first(e, b'b') as usize)
 }
 
-// The text of an answer; more has none.
 fn event(log: &mut Log, at: usize, e: Said, node: i32, string: &[u8], bytes: &[u8]) -> usize {
     let value = e.values;
-    let mut to = show::expect(log, at, is_zero_filled(e, string, bytes));
-    if e.letter == b'.' {
-        return to;
-    }
-    to = say(log, to, show::two(e.letter, show::bits(node), value[0]));
+    let to = say(log, at, show::two(e.letter, show::bits(node), value[0]));
     if e.letter == b'b' {
         return body(log, to, bytes, value[0] as usize);
     }
     show::front(log, to, string, show::first(e, b's') as usize)
 }
 
-// With the place reached.
+// The text of an answer with the place reached; more has none.
 fn placed(log: &mut Log, at: usize, r: LentReply, e: Said, node: i32, place: usize) -> usize {
     let string = r.string;
     let bytes = r.body;
-    let end = event(log, at, e, node, &string, &bytes);
+    let to = show::expect(log, at, is_zero_filled(e, &string, &bytes));
     if e.letter == b'.' {
-        return end;
+        return to;
     }
+    let end = event(log, to, e, node, &string, &bytes);
     say(log, end, show::one(b'@', place as u64))
 }
 
@@ -156,8 +152,17 @@ fn next(is_lent: bool, s: State, bytes: &[u8]) -> lent::Parted {
     by_value(s, bytes)
 }
 
-// One call on what is left of the piece. After more, and by a list after every call, the next piece begins. A refusal of the
-// state or of the bytes' number takes nothing: the next call would answer the same.
+// A refusal of the state or of the bytes' number takes nothing: the next call would answer the same.
+fn is_last(e: Said, at_end: bool) -> bool {
+    at_end && e.letter == b'.' || show::first(e, b'r') >= 8
+}
+
+// After more, and by a list after every call, the next piece begins.
+fn begins_piece(c: Pieces, letter: u8) -> bool {
+    letter == b'.' || c.count > 0
+}
+
+// One call on what is left of the piece.
 fn turn(log: &mut Log, before: Progress, c: Pieces, bytes: &[u8], call: u32) -> Progress {
     let mut p = before;
     let s = p.state;
@@ -167,12 +172,11 @@ fn turn(log: &mut Log, before: Progress, c: Pieces, bytes: &[u8], call: u32) -> 
     let after = n.state;
     let control = after.control;
     let e = event_of(a);
-    let more = e.letter == b'.';
     p.state = after;
     p.at = read::onward(p.at, r.taken, bytes.len());
     p.text = placed(log, p.text, r, e, control.node, p.at);
-    p.done = more && p.at == bytes.len() || show::first(e, b'r') >= 8;
-    if more || c.count > 0 {
+    p.done = is_last(e, p.at == bytes.len());
+    if begins_piece(c, e.letter) {
         p.end = piece_end(c, p.at, bytes.len(), call);
     }
     p
@@ -242,11 +246,10 @@ fn whole(log: &mut Log, bytes: &[u8]) -> usize {
     stream(log, 0, bytes, bytes.len())
 }
 
-fn listed(log: &mut Log, a: Asked, bytes: &[u8]) -> usize {
+fn listed(log: &mut Log, list: Numbers, count: usize, bytes: &[u8]) -> usize {
     let mut c = sized(0, false);
-    let list = a.numbers;
     c.list = list;
-    c.count = a.count;
+    c.count = count;
     cut_stream(log, 0, bytes, c)
 }
 
@@ -344,13 +347,11 @@ fn units(log: &mut Log, bytes: &[u8]) -> usize {
     say(log, text, show::two(b';', channel, show::flag(e.escaped)))
 }
 
-pub fn order(log: &mut Log, a: Asked, bytes: &[u8]) -> usize {
-    let n = a.numbers;
-    let letter = a.letter;
+pub fn order(log: &mut Log, letter: u8, n: Numbers, count: usize, bytes: &[u8]) -> usize {
     match letter {
         b's' => whole(log, bytes),
         b'p' => stream(log, 0, bytes, n[0] as usize),
-        b'l' => listed(log, a, bytes),
+        b'l' => listed(log, n, count, bytes),
         b'u' => units(log, bytes),
         b'e' => from_state(log, n[0], bytes),
         b'c' => splits(log, bytes),

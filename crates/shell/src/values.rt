@@ -1,5 +1,5 @@
 // Characters, the getters of values, and what one byte more makes of a front.
-use crate::forms::Asked;
+use crate::forms::Numbers;
 use crate::read;
 use crate::show;
 use crate::show::Log;
@@ -91,9 +91,7 @@ fn getters(log: &mut Log, kind: u64, s: &[u8]) -> usize {
     }
 }
 
-pub fn order(log: &mut Log, a: Asked, bytes: &[u8]) -> usize {
-    let n = a.numbers;
-    let letter = a.letter;
+pub fn order(log: &mut Log, letter: u8, n: Numbers, bytes: &[u8]) -> usize {
     match letter {
         b'u' => characters(log, 0, bytes),
         b'f' => one_more(log, bytes, 255, false),

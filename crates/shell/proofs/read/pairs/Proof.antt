@@ -1,4 +1,4 @@
--- The bytes left fall with every pair. The index is below half the length of the word, so twice it fits.
+-- The pairs left fall with every turn. The index is below half the length of the word, so twice it fits.
 use borrow.Author.Needs.{needs}
 use lib.ListN.{length}
 use mathlib.Core.Path.{_≡_}
@@ -26,6 +26,9 @@ returns c = search needs
 
 less-requires : tie.Need-less-requires Inv-loop μ-loop
 less-requires c κs = search needs
+
+has-pairs-requires : tie.Need-has-pairs-requires Inv-loop μ-loop
+has-pairs-requires c κs = search needs
 
 loop-holds : tie.Need-loop-holds Inv-loop μ-loop
 loop-holds c = search needs
@@ -71,6 +74,7 @@ pairs-spec =
     number-of-requires
     returns
     less-requires
+    has-pairs-requires
     loop-holds
     mul-pair
     pair-requires

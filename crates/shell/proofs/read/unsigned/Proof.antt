@@ -1,4 +1,4 @@
--- The digits left fall with every turn; the remainder keeps the number small enough for one digit more.
+-- The digits left fall with every turn.
 use borrow.Author.Needs.{needs}
 use lib.ListN.{length}
 use Prim.Native.Nat.{_≤_, _-_}
@@ -11,26 +11,20 @@ Inv-loop word least most n₀ i₀ n i = 0 ≤ i
 abbrev μ-loop : tie.MeasureT-loop
 μ-loop word least most n₀ i₀ n i = length word - i
 
+is-between-requires : tie.Need-is-between-requires Inv-loop μ-loop
+is-between-requires c κs = search needs
+
 number-of-requires : tie.Need-number-of-requires Inv-loop μ-loop
 number-of-requires c κs = search needs
 
 loop-holds : tie.Need-loop-holds Inv-loop μ-loop
 loop-holds c = search needs
 
-shared-slice-read-digit : tie.Need-shared-slice-read-digit Inv-loop μ-loop
-shared-slice-read-digit c = search needs
+shared-slice-read-with-digit : tie.Need-shared-slice-read-with-digit Inv-loop μ-loop
+shared-slice-read-with-digit c = search needs
 
-digit-requires : tie.Need-digit-requires Inv-loop μ-loop
-digit-requires c κs = search needs
-
-mul-number-of : tie.Need-mul-number-of Inv-loop μ-loop
-mul-number-of c = search needs
-
-add-number-of : tie.Need-add-number-of Inv-loop μ-loop
-add-number-of c = search needs
-
-number-of-requires-2 : tie.Need-number-of-requires-2 Inv-loop μ-loop
-number-of-requires-2 c κs = search needs
+with-digit-requires : tie.Need-with-digit-requires Inv-loop μ-loop
+with-digit-requires c κs = search needs
 
 add-i : tie.Need-add-i Inv-loop μ-loop
 add-i c = search needs
@@ -41,8 +35,8 @@ loop-less c = search needs
 loop-again : tie.Need-loop-again Inv-loop μ-loop
 loop-again c = search needs
 
-number-of-requires-3 : tie.Need-number-of-requires-3 Inv-loop μ-loop
-number-of-requires-3 c κs = search needs
+limited-requires : tie.Need-limited-requires Inv-loop μ-loop
+limited-requires c κs = search needs
 
 returns : tie.Need-returns Inv-loop μ-loop
 returns c = search needs
@@ -53,15 +47,13 @@ unsigned-spec =
     (tie.spec
     Inv-loop
     μ-loop
+    is-between-requires
     number-of-requires
     loop-holds
-    shared-slice-read-digit
-    digit-requires
-    mul-number-of
-    add-number-of
-    number-of-requires-2
+    shared-slice-read-with-digit
+    with-digit-requires
     add-i
     loop-less
     loop-again
-    number-of-requires-3
+    limited-requires
     returns)

@@ -1,15 +1,16 @@
--- The index is below the length, which every turn comes nearer to.
+-- The bytes left fall with every turn; each place is checked where it is written.
 use borrow.Author.Needs.{needs}
 use lib.ListN.{length}
-use Prim.Native.Nat.{_≤_, _-_}
-use Rattle.shell.proofs.show.text.Statement.{statement}
-use Rattle.shell.proofs.show.text.Tie as tie
+use mathlib.Core.Path.{_≡_}
+use Prim.Native.Nat.{_-_}
+use Rattle.shell.proofs.read.lay.Statement.{statement}
+use Rattle.shell.proofs.read.lay.Tie as tie
 
 abbrev Inv-loop : tie.InvT-loop
-Inv-loop log₀ at s to₀ i₀ log to i = 0 ≤ i
+Inv-loop buffer₀ at s to₀ i₀ buffer to i = length buffer ≡ length buffer₀
 
 abbrev μ-loop : tie.MeasureT-loop
-μ-loop log₀ at s to₀ i₀ log to i = length s - i
+μ-loop buffer₀ at s to₀ i₀ buffer to i = length s - i
 
 loop-holds : tie.Need-loop-holds Inv-loop μ-loop
 loop-holds c = search needs
@@ -29,11 +30,14 @@ loop-less c = search needs
 loop-again : tie.Need-loop-again Inv-loop μ-loop
 loop-again c = search needs
 
+same-length : tie.Need-same-length Inv-loop μ-loop
+same-length c = search needs
+
 returns : tie.Need-returns Inv-loop μ-loop
 returns c = search needs
 
-pub text-spec : {M : Type 1} → statement M
-text-spec =
+pub lay-spec : {M : Type 1} → statement M
+lay-spec =
     tie.close
     (tie.spec
     Inv-loop
@@ -44,4 +48,5 @@ text-spec =
     add-i
     loop-less
     loop-again
+    same-length
     returns)
