@@ -8,7 +8,6 @@ use crate::show::Said;
 use wing_node::field;
 use wing_wire::meter;
 use wing_wire::meter::Meter;
-use wing_wire::meter::Requested;
 use wing_wire::request;
 use wing_wire::set;
 use wing_wire::write::Written;
@@ -87,22 +86,22 @@ fn other_meter(letter: u8, named: u64) -> u16 {
     if letter == b'n' { half(named) } else { 0x0a00 }
 }
 
-fn ask_meters(letter: u8, n: forms::Numbers, items: &[u8], out: &mut [u8]) -> Requested {
+fn ask_meters(letter: u8, n: forms::Numbers, items: &[u8], out: &mut [u8]) -> meter::Requested {
     let meters = meters_of(items, other_meter(letter, n[4]));
     meter::request_meter(out, meters, n[3] as usize, half(n[1]), half(n[2]))
 }
 
-// One call of the writer that the letter names.
-fn written(letter: u8, n: forms::Numbers, bytes: &[u8], out: &mut [u8]) -> Written {
-    let id = int(n[1]);
+// One call of the writer that the letter names, with the two numbers after the room.
+fn written(letter: u8, first: u64, second: u64, bytes: &[u8], out: &mut [u8]) -> Written {
+    let id = int(first);
     match letter {
-        b'i' => set::set_int(out, id, int(n[2])),
-        b'f' => set::set_float(out, id, word(n[2])),
+        b'i' => set::set_int(out, id, int(second)),
+        b'f' => set::set_float(out, id, word(second)),
         b's' => set::set_string(out, id, bytes),
-        b't' => set::format_id(out, id, (n[2] % 256) as u8, suffix(bytes)),
+        b't' => set::format_id(out, id, (second % 256) as u8, suffix(bytes)),
         b'd' => request::request_node_definition(out, id),
         b'a' => request::request_node_data(out, id),
-        _ => meter::keep_alive_meters(out, half(n[1]), half(n[2])),
+        _ => meter::keep_alive_meters(out, half(first), half(second)),
     }
 }
 
@@ -114,10 +113,10 @@ pub fn of_written(w: Written) -> Said {
     }
 }
 
-fn of_requested(r: Requested) -> Said {
+fn of_requested(r: meter::Requested) -> Said {
     match r {
-        Requested::Bytes { len, id } => show::two(b's', len as u64, id as u64),
-        Requested::Refused(why) => show::one(b'r', why as u64),
+        meter::Requested::Bytes { len, id } => show::two(b's', len as u64, id as u64),
+        meter::Requested::Refused(why) => show::one(b'r', why as u64),
     }
 }
 
@@ -131,7 +130,7 @@ fn of_read(r: meter::MetersRead) -> Said {
 fn call(letter: u8, n: forms::Numbers, bytes: &[u8], out: &mut [u8]) -> Said {
     match letter {
         b'm' | b'n' => of_requested(ask_meters(letter, n, bytes, out)),
-        _ => of_written(written(letter, n, bytes, out)),
+        _ => of_written(written(letter, n[1], n[2], bytes, out)),
     }
 }
 
@@ -197,7 +196,7 @@ fn packet_into(log: &mut Log, room: usize, bytes: &[u8], out: &mut [i16]) -> usi
     is_kept(log, kept_at, all_mark(out, count))
 }
 
-pub fn packet(log: &mut Log, n: forms::Numbers, bytes: &[u8]) -> usize {
+pub fn packet(log: &mut Log, room: usize, bytes: &[u8]) -> usize {
     let mut out = [READING_MARK; READINGS];
-    packet_into(log, n[0] as usize, bytes, &mut out)
+    packet_into(log, room, bytes, &mut out)
 }

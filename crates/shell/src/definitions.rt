@@ -7,43 +7,39 @@ use crate::show::Said;
 use wing_node::definition;
 use wing_node::definition::Details;
 use wing_node::items;
-use wing_node::items::Step;
-use wing_node::items::Walk;
 use wing_node::node_type;
-use wing_node::node_type::NodeType;
-use wing_node::node_type::NodeUnit;
 use wing_node::walker;
 
-fn type_number(t: NodeType) -> u64 {
+fn type_number(t: node_type::NodeType) -> u64 {
     match t {
-        NodeType::Node => 0,
-        NodeType::LinearFloat => 1,
-        NodeType::LogarithmicFloat => 2,
-        NodeType::FaderLevel => 3,
-        NodeType::Integer => 4,
-        NodeType::StringEnum => 5,
-        NodeType::FloatEnum => 6,
-        NodeType::String => 7,
+        node_type::NodeType::Node => 0,
+        node_type::NodeType::LinearFloat => 1,
+        node_type::NodeType::LogarithmicFloat => 2,
+        node_type::NodeType::FaderLevel => 3,
+        node_type::NodeType::Integer => 4,
+        node_type::NodeType::StringEnum => 5,
+        node_type::NodeType::FloatEnum => 6,
+        node_type::NodeType::String => 7,
     }
 }
 
-fn unit_number(u: NodeUnit) -> u64 {
+fn unit_number(u: node_type::NodeUnit) -> u64 {
     match u {
-        NodeUnit::None => 0,
-        NodeUnit::Db => 1,
-        NodeUnit::Percent => 2,
-        NodeUnit::Milliseconds => 3,
-        NodeUnit::Hertz => 4,
-        NodeUnit::Meters => 5,
-        NodeUnit::Seconds => 6,
-        NodeUnit::Octaves => 7,
+        node_type::NodeUnit::None => 0,
+        node_type::NodeUnit::Db => 1,
+        node_type::NodeUnit::Percent => 2,
+        node_type::NodeUnit::Milliseconds => 3,
+        node_type::NodeUnit::Hertz => 4,
+        node_type::NodeUnit::Meters => 5,
+        node_type::NodeUnit::Seconds => 6,
+        node_type::NodeUnit::Octaves => 7,
     }
 }
 
 // R and r: a refusal in words and short.
 fn say(log: &mut Log, at: usize, s: Said) -> usize {
     let table =
-        b"dHHD|kkBBA|--|ffHHH|iiHH|ssD|ccD|##|,,H|nnone|Rrefused U|rrR|;; |aat U left U|l at U left U|\
+        b"dHHD|kkBBA|--|ffHHH|iiHH|ssD|ccD|,,H|nnone|Rrefused U|rrR|;; |aat U left U|l at U left U|\
 vU-|gU good|bU refused U|o, U-";
     show::say(log, at, table, s)
 }
@@ -78,7 +74,7 @@ fn item(log: &mut Log, at: usize, body: &[u8], i: definition::Item, words: bool)
 }
 
 // The walker is made anew by the library for each step: a program that holds one would be proved by hand.
-fn one_step(body: &[u8], w: Walk, lent: bool) -> Step {
+fn one_step(body: &[u8], w: items::Walk, lent: bool) -> items::Step {
     if lent {
         return walker::step_over(body, w);
     }
@@ -87,7 +83,7 @@ fn one_step(body: &[u8], w: Walk, lent: bool) -> Step {
 }
 
 // The item of a step, and in words where the walk stands after it.
-fn step_text(log: &mut Log, at: usize, body: &[u8], s: Step, words: bool) -> usize {
+fn step_text(log: &mut Log, at: usize, body: &[u8], s: items::Step, words: bool) -> usize {
     let i = s.item;
     let next = s.next;
     let end = item(log, at, body, i, words);
@@ -99,7 +95,7 @@ fn step_text(log: &mut Log, at: usize, body: &[u8], s: Step, words: bool) -> usi
 
 // Where a walk and the text stand.
 struct Turned {
-    walk: Walk,
+    walk: items::Walk,
     text: usize,
 }
 
@@ -117,7 +113,7 @@ fn turn(log: &mut Log, t: Turned, body: &[u8], lent: bool) -> Turned {
 }
 
 // Every item, and what stands after the last.
-fn walk(log: &mut Log, at: usize, body: &[u8], first: Walk, lent: bool) -> usize {
+fn walk(log: &mut Log, at: usize, body: &[u8], first: items::Walk, lent: bool) -> usize {
     let text = at;
     let mut t = Turned { walk: first, text };
     let mut left = first.left as u32 + 1;
@@ -144,7 +140,7 @@ fn numbered(log: &mut Log, at: usize, body: &[u8], number: u64, words: bool) -> 
 // The items in order, the last one by its number, and the number past it.
 fn all_items(log: &mut Log, at: usize, body: &[u8], count: u64) -> usize {
     let number_at = walked(log, at, body);
-    let last_at = say(log, number_at, show::none(b'#'));
+    let last_at = read::put(log, number_at, b'#');
     let past_at = numbered(log, last_at, body, read::less(count, 1), false);
     numbered(log, past_at, body, count, false)
 }
@@ -228,7 +224,7 @@ fn step(log: &mut Log, n: forms::Numbers, body: &[u8]) -> usize {
     let kind = node_type::type_of((n[2] % 0x1_0000) as u16);
     let at = n[0] as usize;
     let left = (n[1] % 0x1_0000) as u16;
-    let w = Walk { at, left, kind };
+    let w = items::Walk { at, left, kind };
     let end = step_text(log, 0, body, one_step(body, w, false), true);
     let second_end = step_text(log, end, body, one_step(body, w, true), true);
     show::same_again(log, end, second_end)
@@ -238,7 +234,7 @@ fn walk_from(log: &mut Log, body: &[u8], start: walker::Start) -> usize {
     let kind = start.kind;
     let at = start.at;
     let left = start.left;
-    let w = Walk { at, left, kind };
+    let w = items::Walk { at, left, kind };
     let steps_at = say(log, 0, show::two(b'a', at as u64, left as u64));
     walk(log, steps_at, body, w, true)
 }

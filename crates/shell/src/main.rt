@@ -43,9 +43,9 @@ fn text(a: Asked, bytes: &[u8], log: &mut Log) -> usize {
     let len = match part {
         b's' => streams::order(log, letter, n, a.count, bytes),
         b'd' => definitions::order(log, letter, n, bytes),
-        b'v' => values::order(log, letter, n, bytes),
+        b'v' => values::order(log, letter, n[0], bytes),
         b'c' => commands::order(log, letter, n, bytes),
-        b'p' => commands::packet(log, n, bytes),
+        b'p' => commands::packet(log, n[0] as usize, bytes),
         _ => 0,
     };
     show::summed(log, len, a.summed)
@@ -115,12 +115,16 @@ fn refill(before: Input, buffer: &mut Buffer) -> Input {
     t
 }
 
+fn goes_on(t: Input) -> bool {
+    t.more && !t.ended
+}
+
 fn read_line(before: Input, buffer: &mut Buffer, line: &mut Line) -> Input {
     let mut t = before;
     t.len = 0;
     t.ended = false;
     let mut turns = u64::MAX;
-    while turns > 0 && t.more && !t.ended {
+    while turns > 0 && goes_on(t) {
         if t.at < t.end {
             let b = read::byte_or(buffer, t.at, 0);
             t.at = read::onward(t.at, 1, BUFFER);

@@ -15,7 +15,6 @@ use wing_mirror::set;
 use wing_mirror::table;
 use wing_node::value::Value;
 use wing_wire::state::State;
-use wing_wire::write::Written;
 
 // 1,026 places: 01 allows 1,024, and a buffer of one place more is refused.
 pub const MEMORY: usize = 270864;
@@ -132,7 +131,7 @@ fn cleanness(log: &mut Log, at: usize, clean: bool) -> usize {
 }
 
 // What was written into an output, and whether the rest of it is as it was.
-fn sent(log: &mut Log, w: Written, out: &[u8]) -> usize {
+fn sent(log: &mut Log, w: wing_wire::write::Written, out: &[u8]) -> usize {
     let o = of_written(w);
     let n = show::first(o, b's') as usize;
     let mut at = say(log, 0, o);

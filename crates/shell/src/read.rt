@@ -123,7 +123,7 @@ fn digit(c: u8) -> u64 {
     }
 }
 
-pub fn is_between(n: u64, least: u64, most: u64) -> bool {
+fn is_between(n: u64, least: u64, most: u64) -> bool {
     least <= n && n <= most
 }
 
@@ -131,10 +131,6 @@ pub fn is_between(n: u64, least: u64, most: u64) -> bool {
 fn with_digit(n: Number, c: u8) -> Number {
     let d = digit(c);
     number_of(n.good && d < 10, n.value % 1_000_000_000 * 10 + d % 10)
-}
-
-fn limited(n: Number, least: u64, most: u64) -> Number {
-    number_of(n.good && is_between(n.value, least, most), n.value)
 }
 
 // One to ten digits that spell a number from the least to the most.
@@ -145,7 +141,7 @@ pub fn unsigned(word: &[u8], least: u64, most: u64) -> Number {
         n = with_digit(n, word[i]);
         i += 1;
     }
-    limited(n, least, most)
+    number_of(n.good && is_between(n.value, least, most), n.value)
 }
 
 // A number of 32 bits with its sign, by its bits.
@@ -155,11 +151,6 @@ pub fn signed(word: &[u8]) -> Number {
         return number_of(n.good, less(0x1_0000_0000, n.value) % 0x1_0000_0000);
     }
     unsigned(word, 0, 0x7fff_ffff)
-}
-
-// A word of so many digits has a pair for each byte, of which there are some, and room for them.
-fn has_pairs(len: usize, room: u64) -> bool {
-    len % 2 == 0 && is_between(len as u64 / 2, 1, room)
 }
 
 // The byte that two hex digits spell from a place on; over 255 where they are none.
@@ -174,7 +165,7 @@ pub fn pairs(word: &[u8], body: &mut [u8], from: usize) -> Number {
     }
     let count = word.len() / 2;
     let room = less(body.len() as u64, from as u64);
-    let mut good = has_pairs(word.len(), room);
+    let mut good = word.len() % 2 == 0 && is_between(count as u64, 1, room);
     let mut at = from;
     let mut i = 0;
     while i < count {

@@ -1,7 +1,6 @@
 // Text laid into the log. Each function takes the place that the log has reached and answers the next one; a full log
 // stays at its end.
 use crate::read;
-use libc::STDOUT_FILENO;
 use wing_node::field;
 
 // Room for the longest answer: keep-alives of 851,968 bytes, or the integers of a stream of 70,000 bytes.
@@ -187,5 +186,5 @@ pub fn summed(log: &mut Log, n: usize, asked: bool) -> usize {
 // A whole line with its end.
 pub fn print(log: &mut Log, at: usize) {
     let n = read::put(log, at, b'\n');
-    io::write_all(STDOUT_FILENO, read::part(log, 0, n));
+    io::write_all(libc::STDOUT_FILENO, read::part(log, 0, n));
 }

@@ -11,8 +11,6 @@ use wing_wire::lent;
 use wing_wire::lent::LentReply;
 use wing_wire::reader;
 use wing_wire::state;
-use wing_wire::state::Control;
-use wing_wire::state::State;
 use wing_wire::unit::Answer;
 
 // How a stream is cut: at two places, and after these into pieces of a size; or each call gets a piece, through the lent
@@ -30,7 +28,7 @@ struct Pieces {
 // How far a stream is read: the state, the bytes taken, the end of the piece, the place that the text has reached, and
 // whether all the bytes are taken and the last answer was more.
 struct Progress {
-    state: State,
+    state: state::State,
     at: usize,
     end: usize,
     text: usize,
@@ -76,7 +74,7 @@ fn piece_end(p: Pieces, at: usize, len: usize, call: u32) -> usize {
 }
 
 fn say(log: &mut Log, at: usize, s: Said) -> usize {
-    let table = b"iiHH|ffHH|ssH|bb|ee|rrNR|::|@@H|..AHHA|=sound=A |xdiffers at U|zU same|\
+    let table = b"iiHH|ffHH|ssH|bb|ee|rrNR|@@H|..AHHA|=sound=A |xdiffers at U|zU same|\
 Uunits|u B|+ B+|;; channel=S escaped=A";
     show::say(log, at, table, s)
 }
@@ -97,7 +95,7 @@ fn event_of(a: Answer) -> Said {
 // The body, then what the parser says of it, as libwing's reader gives both at once.
 fn body(log: &mut Log, at: usize, bytes: &[u8], n: usize) -> usize {
     let mark_at = show::front(log, at, bytes, n);
-    let said_at = say(log, mark_at, show::none(b':'));
+    let said_at = read::put(log, mark_at, b':');
     definitions::definition(log, said_at, read::part(bytes, 0, n))
 }
 
@@ -129,7 +127,7 @@ fn placed(log: &mut Log, at: usize, r: LentReply, e: Said, node: i32, place: usi
 }
 
 // next by value, with its reply parted from the state as the lent form has it.
-fn by_value(s: State, bytes: &[u8]) -> lent::Parted {
+fn by_value(s: state::State, bytes: &[u8]) -> lent::Parted {
     let r = reader::next(s, bytes);
     let answer = r.answer;
     let string = r.string;
@@ -145,7 +143,7 @@ fn by_value(s: State, bytes: &[u8]) -> lent::Parted {
 }
 
 // The lent next is called through next_over, since a program that lends a struct would be proved by hand.
-fn next(is_lent: bool, s: State, bytes: &[u8]) -> lent::Parted {
+fn next(is_lent: bool, s: state::State, bytes: &[u8]) -> lent::Parted {
     if is_lent {
         return lent::next_over(s, bytes);
     }
@@ -183,7 +181,7 @@ fn turn(log: &mut Log, before: Progress, c: Pieces, bytes: &[u8], call: u32) -> 
 }
 
 // The whole stream, and the text of its events.
-fn read_all(log: &mut Log, text: usize, s: State, bytes: &[u8], c: Pieces) -> Progress {
+fn read_all(log: &mut Log, text: usize, s: state::State, bytes: &[u8], c: Pieces) -> Progress {
     let mut p = Progress {
         state: s,
         at: 0,
@@ -205,7 +203,7 @@ fn wide(x: i8) -> i32 {
 }
 
 // Escaped, channel and node after the last byte, and whether a token waits.
-fn last(log: &mut Log, at: usize, c: Control) -> usize {
+fn last(log: &mut Log, at: usize, c: state::Control) -> usize {
     let e = c.escape;
     let t = c.token;
     let token = states::token(t);
@@ -217,7 +215,7 @@ fn last(log: &mut Log, at: usize, c: Control) -> usize {
 }
 
 // A stream in any cut, then the state, where it is asked with all that LAST leaves out.
-fn read_and_tell(log: &mut Log, text: usize, s: State, bytes: &[u8], c: Pieces) -> usize {
+fn read_and_tell(log: &mut Log, text: usize, s: state::State, bytes: &[u8], c: Pieces) -> usize {
     let p = read_all(log, text, s, bytes, c);
     let after = p.state;
     let control = after.control;
@@ -230,7 +228,7 @@ fn read_and_tell(log: &mut Log, text: usize, s: State, bytes: &[u8], c: Pieces) 
 
 // A stream from a fresh state in any cut.
 fn cut_stream(log: &mut Log, text: usize, bytes: &[u8], c: Pieces) -> usize {
-    read_and_tell(log, text, State::fresh(), bytes, c)
+    read_and_tell(log, text, state::State::fresh(), bytes, c)
 }
 
 // In pieces of one size.
@@ -326,7 +324,7 @@ fn unit(log: &mut Log, at: usize, u: escape::Unit) -> usize {
 // From fresh escapes: each unit as hex, with + if it is appended, then the channel and escaped. At each place the byte there,
 // and then the byte that it made pending: at the end of the bytes a step takes no other.
 fn units(log: &mut Log, bytes: &[u8]) -> usize {
-    let fresh = Control::fresh();
+    let fresh = state::Control::fresh();
     let mut e = fresh.escape;
     let mut text = say(log, 0, show::none(b'U'));
     let mut i = 0;

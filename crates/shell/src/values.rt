@@ -1,5 +1,4 @@
 // Characters, the getters of values, and what one byte more makes of a front.
-use crate::forms::Numbers;
 use crate::read;
 use crate::show;
 use crate::show::Log;
@@ -91,12 +90,12 @@ fn getters(log: &mut Log, kind: u64, s: &[u8]) -> usize {
     }
 }
 
-pub fn order(log: &mut Log, letter: u8, n: Numbers, bytes: &[u8]) -> usize {
+pub fn order(log: &mut Log, letter: u8, number: u64, bytes: &[u8]) -> usize {
     match letter {
         b'u' => characters(log, 0, bytes),
         b'f' => one_more(log, bytes, 255, false),
         b's' => one_more(log, bytes, 63, true),
-        b'g' => getters(log, n[0], bytes),
-        _ => string(log, n[0], bytes),
+        b'g' => getters(log, number, bytes),
+        _ => string(log, number, bytes),
     }
 }

@@ -44,83 +44,60 @@ fn plus(total: u64, n: u32) -> u64 {
     total % 0x1_0000_0000_0000 + n as u64
 }
 
-// How far the core is: the control, the bytes taken, the sum of the answers, and whether the last one was more.
+// The bytes taken, the sum of the answers, and whether the last one was more.
 struct Sum {
-    control: state::Control,
     at: usize,
     total: u64,
     more: bool,
 }
 
-fn turn(before: Sum, store: &mut [u8], bytes: &[u8]) -> Sum {
-    let mut s = before;
-    let c = s.control;
-    let r = stream::advance(c, store, rest(bytes, s.at));
-    let a = r.answer;
-    let control = r.control;
-    stream::release(store, a);
-    s.control = control;
-    s.at = onward(s.at, r.taken, bytes.len());
-    s.total = plus(s.total, value(a));
-    s.more = stream::is_more(a);
-    s
+fn nothing_yet() -> Sum {
+    Sum {
+        at: 0,
+        total: 0,
+        more: false,
+    }
+}
+
+fn with_answer(s: Sum, a: Answer, taken: usize, len: usize) -> Sum {
+    Sum {
+        at: onward(s.at, taken, len),
+        total: plus(s.total, value(a)),
+        more: stream::is_more(a),
+    }
 }
 
 // Every answer of the core, as feed takes them; the store is 4,096 bytes of 0.
 #[no_mangle]
 pub extern "C" fn port_decode(bytes: &[u8], store: &mut [u8]) -> u64 {
-    let control = state::Control::fresh();
-    let mut s = Sum {
-        control,
-        at: 0,
-        total: 0,
-        more: false,
-    };
+    let mut control = state::Control::fresh();
+    let mut s = nothing_yet();
     let mut turns = u64::MAX;
     while turns > 0 && !s.more {
-        s = turn(s, store, bytes);
+        let r = stream::advance(control, store, rest(bytes, s.at));
+        let a = r.answer;
+        control = r.control;
+        stream::release(store, a);
+        s = with_answer(s, a, r.taken, bytes.len());
         turns -= 1;
     }
     s.total
 }
 
-// The same by the next call, whose state, string and body go by value.
-struct Nexts {
-    state: state::State,
-    at: usize,
-    total: u64,
-    more: bool,
-}
-
-fn one_next(before: Nexts, bytes: &[u8]) -> Nexts {
-    let mut n = before;
-    let s = n.state;
-    let r = reader::next(s, rest(bytes, n.at));
-    let a = r.answer;
-    let state = r.state;
-    n.state = state;
-    n.at = onward(n.at, r.taken, bytes.len());
-    n.total = plus(n.total, value(a));
-    n.more = stream::is_more(a);
-    n
-}
-
-// At most 65,536 bytes.
+// The same by the next call, whose state, string and body go by value. At most 65,536 bytes.
 #[no_mangle]
 pub extern "C" fn port_next(bytes: &[u8]) -> u64 {
-    let state = state::State::fresh();
-    let mut n = Nexts {
-        state,
-        at: 0,
-        total: 0,
-        more: false,
-    };
+    let mut state = state::State::fresh();
+    let mut s = nothing_yet();
     let mut turns: u32 = 65538;
-    while turns > 0 && !n.more {
-        n = one_next(n, bytes);
+    while turns > 0 && !s.more {
+        let r = reader::next(state, rest(bytes, s.at));
+        let a = r.answer;
+        state = r.state;
+        s = with_answer(s, a, r.taken, bytes.len());
         turns -= 1;
     }
-    n.total
+    s.total
 }
 
 // The id of a definition, all of whose fields and items are read; 0 for one that is refused.

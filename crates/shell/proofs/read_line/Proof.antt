@@ -13,6 +13,9 @@ abbrev μ-loop : tie.MeasureT-loop
 loop-holds : tie.Need-loop-holds Inv-loop μ-loop
 loop-holds c = search needs
 
+goes-on-requires : tie.Need-goes-on-requires Inv-loop μ-loop
+goes-on-requires c κs = search needs
+
 byte-or-requires : tie.Need-byte-or-requires Inv-loop μ-loop
 byte-or-requires c κs = search needs
 
@@ -40,9 +43,6 @@ returns c = search needs
 returns-2 : tie.Need-returns-2 Inv-loop μ-loop
 returns-2 c = search needs
 
-returns-3 : tie.Need-returns-3 Inv-loop μ-loop
-returns-3 c = search needs
-
 pub read-line-spec : {M : Type 1} → statement M
 read-line-spec =
     tie.close
@@ -50,6 +50,7 @@ read-line-spec =
     Inv-loop
     μ-loop
     loop-holds
+    goes-on-requires
     byte-or-requires
     onward-requires
     put-requires
@@ -58,5 +59,4 @@ read-line-spec =
     loop-less
     loop-again
     returns
-    returns-2
-    returns-3)
+    returns-2)

@@ -27,8 +27,8 @@ returns c = search needs
 less-requires : tie.Need-less-requires Inv-loop μ-loop
 less-requires c κs = search needs
 
-has-pairs-requires : tie.Need-has-pairs-requires Inv-loop μ-loop
-has-pairs-requires c κs = search needs
+is-between-requires : tie.Need-is-between-requires Inv-loop μ-loop
+is-between-requires c κs = search needs
 
 loop-holds : tie.Need-loop-holds Inv-loop μ-loop
 loop-holds c = search needs
@@ -74,7 +74,7 @@ pairs-spec =
     number-of-requires
     returns
     less-requires
-    has-pairs-requires
+    is-between-requires
     loop-holds
     mul-pair
     pair-requires

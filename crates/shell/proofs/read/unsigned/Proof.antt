@@ -35,8 +35,11 @@ loop-less c = search needs
 loop-again : tie.Need-loop-again Inv-loop μ-loop
 loop-again c = search needs
 
-limited-requires : tie.Need-limited-requires Inv-loop μ-loop
-limited-requires c κs = search needs
+is-between-requires-2 : tie.Need-is-between-requires-2 Inv-loop μ-loop
+is-between-requires-2 c κs = search needs
+
+number-of-requires-2 : tie.Need-number-of-requires-2 Inv-loop μ-loop
+number-of-requires-2 c κs = search needs
 
 returns : tie.Need-returns Inv-loop μ-loop
 returns c = search needs
@@ -55,5 +58,6 @@ unsigned-spec =
     add-i
     loop-less
     loop-again
-    limited-requires
+    is-between-requires-2
+    number-of-requires-2
     returns)

@@ -1,3 +1,4 @@
+-- The turns left fall with every answer; the store keeps its length.
 use borrow.Author.Needs.{needs}
 use lib.ListN.{length}
 use mathlib.Core.Path.{_≡_}
@@ -5,19 +6,31 @@ use Rattle.timed.proofs.calls.port_decode.Statement.{statement}
 use Rattle.timed.proofs.calls.port_decode.Tie as tie
 
 abbrev Inv-loop : tie.InvT-loop
-Inv-loop bytes store₀ s₀ turns₀ store s turns = length store ≡ length store₀
+Inv-loop bytes store₀ control₀ s₀ turns₀ store control s turns = length store ≡ length store₀
 
 abbrev μ-loop : tie.MeasureT-loop
-μ-loop bytes store₀ s₀ turns₀ store s turns = turns
+μ-loop bytes store₀ control₀ s₀ turns₀ store control s turns = turns
 
 fresh-requires : tie.Need-fresh-requires Inv-loop μ-loop
 fresh-requires c κs = search needs
 
+nothing-yet-requires : tie.Need-nothing-yet-requires Inv-loop μ-loop
+nothing-yet-requires c κs = search needs
+
 loop-holds : tie.Need-loop-holds Inv-loop μ-loop
 loop-holds c = search needs
 
-turn-requires : tie.Need-turn-requires Inv-loop μ-loop
-turn-requires c κs = search needs
+rest-requires : tie.Need-rest-requires Inv-loop μ-loop
+rest-requires c κs = search needs
+
+advance-requires : tie.Need-advance-requires Inv-loop μ-loop
+advance-requires c κs = search needs
+
+release-requires : tie.Need-release-requires Inv-loop μ-loop
+release-requires c κs = search needs
+
+with-answer-requires : tie.Need-with-answer-requires Inv-loop μ-loop
+with-answer-requires c κs = search needs
 
 sub-turns : tie.Need-sub-turns Inv-loop μ-loop
 sub-turns c = search needs
@@ -47,8 +60,12 @@ port-decode-spec =
     Inv-loop
     μ-loop
     fresh-requires
+    nothing-yet-requires
     loop-holds
-    turn-requires
+    rest-requires
+    advance-requires
+    release-requires
+    with-answer-requires
     sub-turns
     loop-less
     loop-again
