@@ -4,4 +4,5 @@ mod Loads
 mod Keeps
 mod Pairs
 pub mod Said
+mod Answered
 pub mod SaidDefinitions

@@ -3,6 +3,8 @@ use Prim.Native.Nat.{ℕ}
 use mathlib.Core.Path.{_≡_, refl, _∙_, ap}
 use lib.IntN.{ℤ}
 use Rattle.wing_node.specs.Types.{typeOf, unitOf}
+use Rattle.wing_node.specs.Definition.{definitionOf}
+use Rattle.wing_node.specs.Items.{beginOf, stepAt, itemNumbered}
 use Rattle.wing_node.proofs.Numerals.Signs.{signed-unsigned}
 use Rattle.wing_node.specs.declared.node_type.NodeType.{NodeType}
 use Rattle.wing_node.specs.declared.node_type.NodeType.the-variants.{Node, LinearFloat, LogarithmicFloat, FaderLevel, Integer, StringEnum, FloatEnum, String}
@@ -22,6 +24,7 @@ use Rattle.wing_c.specs.Definitions.{typeNumber, unitNumber, takenNumber
 use Rattle.wing_c.specs.DefinitionMeanings.{detailsIn, definitionIn, parsedIn, walkIn, begunIn, itemKindIn, itemIn, stepIn, OfType, OfParsed, OfBegun, OfItem, DefinitionsSay}
 use Rattle.wing_c.specs.DefinitionMeanings.OfType.{node, linear, logarithmic, fader, integers, strings, floats, text}
 use Rattle.wing_c.proofs.Said.{below, again}
+use Rattle.wing_c.proofs.Answered.{parsed-answer, begun-answer, step-answer, numbered-answer}
 
 types : (t : NodeType) → typeOf (typeNumber t) ≡ t
 unfolding typeOf
@@ -84,4 +87,15 @@ step s h = rw (item (s .item) h, walk (s .next))
 
 -- every definition, item and walk is what its numbers mean
 pub definitions-say : DefinitionsSay
-definitions-say = record { parsed = parsed; walk = walk; begun = begun; item = item; step = step }
+definitions-say =
+    record {
+      parsed = parsed;
+      walk = walk;
+      begun = begun;
+      item = item;
+      step = step;
+      definition-call = λ body b. parsed (definitionOf body) (parsed-answer body b);
+      begin-call = λ body b. begun (beginOf body) (begun-answer body b);
+      step-call = λ body at left t. step (stepAt body at left t) (step-answer body at left t);
+      item-call = λ body n b. item (itemNumbered body n) (numbered-answer body n b);
+    }

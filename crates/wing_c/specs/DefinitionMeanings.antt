@@ -1,11 +1,15 @@
 -- What the numbers of definitions and items mean, by the header's words, and that each of them is the meaning of its numbers.
 use Prim.Native.Nat.{ℕ, _≤_}
 use mathlib.Core.Path.{_≡_}
+use mathlib.Core.List.{List}
 use lib.Dec.{eqb}
 use lib.IntN.{ℤ}
 use Rattle.wing_node.specs.Bool.{if}
 use Rattle.wing_node.specs.Signed.{signed, InBits}
 use Rattle.wing_node.specs.Types.{typeOf, unitOf}
+use Rattle.wing_node.specs.Definition.{definitionOf}
+use Rattle.wing_node.specs.Items.{beginOf, stepAt, itemNumbered}
+use Rattle.wing_wire.specs.Range.{AreBytes}
 use Rattle.wing_node.specs.declared.node_type.NodeType.{NodeType}
 use Rattle.wing_node.specs.declared.node_type.NodeType.the-variants.{Node, LinearFloat, LogarithmicFloat, FaderLevel, Integer, StringEnum, FloatEnum, String}
 use Rattle.wing_node.specs.declared.definition.Span.{Span}
@@ -125,3 +129,8 @@ pub record DefinitionsSay : Type 0 where
   pub begun : (b : Begun) → OfBegun b → begunIn (begunNumbers b) ≡ b
   pub item : (i : Item) → OfItem i → itemIn (itemNumbers i) ≡ i
   pub step : (s : Step) → OfItem (s .item) → stepIn (stepNumbers s) ≡ s
+  -- what the calls over a body answer is read back from their numbers, whatever its bytes are
+  pub definition-call : (body : List ℕ) → AreBytes body → parsedIn (definitionNumbers (definitionOf body)) ≡ definitionOf body
+  pub begin-call : (body : List ℕ) → AreBytes body → begunIn (begunNumbers (beginOf body)) ≡ beginOf body
+  pub step-call : (body : List ℕ) (at left : ℕ) (t : NodeType) → stepIn (stepNumbers (stepAt body at left t)) ≡ stepAt body at left t
+  pub item-call : (body : List ℕ) (n : ℕ) → AreBytes body → itemIn (itemNumbers (itemNumbered body n)) ≡ itemNumbered body n

@@ -3,5 +3,6 @@
 pub mod answers;
 pub mod commands;
 pub mod definitions;
+pub mod laws;
 pub mod mirror;
 pub mod state;

@@ -1,0 +1,14 @@
+// What holds of the numbers of all answers. Nothing here crosses the border.
+ghost use Rattle.wing_c.specs.Meanings.{NumbersSay};
+ghost use Rattle.wing_c.specs.DefinitionMeanings.{DefinitionsSay};
+
+// Every answer is what its numbers mean by the header's words: a status below 0 is the refusal of that number, and nothing of an answer
+// is dropped.
+pub fn numbers_say_answers()
+    ensures { λ _. ⌜ NumbersSay ⌝ }
+{}
+
+// The same of definitions, items and walks.
+pub fn numbers_say_definitions()
+    ensures { λ _. ⌜ DefinitionsSay ⌝ }
+{}
