@@ -132,10 +132,16 @@ pub fn request_meter(meters: &[Meter], port: u16, last_id: u16) -> Result<(u16, 
     Ok((requested.id, out))
 }
 
-/// The bytes that keep the requests of the ids `last_id` to 1 alive; a console wants them every few seconds.
-pub fn keep_alive_meters(last_id: u16, port: u16) -> Vec<u8> {
+/// The bytes that keep the requests of the ids `last_id` to 1 alive, whose packets go to a UDP port of the box; a console
+/// wants them every few seconds. The port comes first, as in [`request_meter`].
+///
+/// ```
+/// let order = whistleloam::keep_alive_meters(0x1234, 1);
+/// assert_eq!(order, [0xdf, 0xd3, 0xd4, 0, 1, 0x12, 0x34, 0xdf, 0xd1]);
+/// ```
+pub fn keep_alive_meters(port: u16, last_id: u16) -> Vec<u8> {
     let most = KEEP_ALIVE_MAX * usize::from(last_id);
-    enough(most, |out| raw::keep_alive_meters(out, last_id, port))
+    enough(most, |out| raw::keep_alive_meters(out, port, last_id))
 }
 
 /// The meter id and the readings of a packet. Refused: 13.

@@ -294,7 +294,7 @@ mod library {
             port: u16,
             last_id: u16,
         ) -> WingRequested;
-        pub fn wing_keep_alive_meters(out: *mut u8, out_len: usize, last_id: u16, port: u16) -> WingWritten;
+        pub fn wing_keep_alive_meters(out: *mut u8, out_len: usize, port: u16, last_id: u16) -> WingWritten;
         pub fn wing_read_meters(packet: *const u8, packet_len: usize, out: *mut i16, out_len: usize) -> WingMeters;
         pub fn wing_is_utf8(s: *const u8, s_len: usize) -> bool;
     }
@@ -541,14 +541,14 @@ pub fn request_meter(out: &mut [u8], meters: &[u8], port: u16, last_id: u16) -> 
     unsafe { library::wing_request_meter(out.as_mut_ptr(), out.len(), meters.as_ptr(), meters.len(), port, last_id) }
 }
 
-/// Keeps the requests of the ids last_id to 1 alive (at most 13 bytes for each). Lent to be
-/// written: out.
+/// Keeps the requests of the ids last_id to 1 alive, whose packets go to a UDP port (at most 13
+/// bytes for each). Lent to be written: out.
 ///
 /// Refused: 9.
-pub fn keep_alive_meters(out: &mut [u8], last_id: u16, port: u16) -> WingWritten {
+pub fn keep_alive_meters(out: &mut [u8], port: u16, last_id: u16) -> WingWritten {
     // SAFETY: `out` is borrowed for this call alone. The call stays within the lengths and keeps
     // no address.
-    unsafe { library::wing_keep_alive_meters(out.as_mut_ptr(), out.len(), last_id, port) }
+    unsafe { library::wing_keep_alive_meters(out.as_mut_ptr(), out.len(), port, last_id) }
 }
 
 /// The readings of a meter packet (at most 4,094). Lent to be read: packet; to be written:

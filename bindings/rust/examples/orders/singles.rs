@@ -209,7 +209,7 @@ fn command(room: &str, call: impl FnOnce(&mut [u8]) -> raw::WingWritten) -> Opti
 fn keep_alive(w: &[&str]) -> Option<String> {
     let (last_id, port) = (count(w[1], UINT16)? as u16, count(w[2], UINT16)? as u16);
     let mut out = vec![BEFORE; count(w[0], 851_968)?];
-    let w = raw::keep_alive_meters(&mut out, last_id, port);
+    let w = raw::keep_alive_meters(&mut out, port, last_id);
     Some(written(&out, w.status, 0, w.len))
 }
 
