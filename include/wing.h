@@ -341,7 +341,8 @@ WingWritten wing_request_node_data(uint8_t *out, size_t out_len, int32_t id);
 WingRequested wing_request_meter(uint8_t *out, size_t out_len, const uint8_t *meters, size_t meters_len, uint16_t port,
                                  uint16_t last_id);
 
-/* Keeps the requests of the ids last_id to 1 alive, whose packets go to a UDP port (at most WING_KEEP_ALIVE_MAX(last_id) bytes). Lent to be written: out.
+/* Keeps the requests of the ids last_id to 1 alive, whose packets go to a UDP port (at most WING_KEEP_ALIVE_MAX(last_id) bytes). Lent to
+ * be written: out.
  * Refused: 9. */
 WingWritten wing_keep_alive_meters(uint8_t *out, size_t out_len, uint16_t port, uint16_t last_id);
 

@@ -1,13 +1,6 @@
 use crate::raw;
 use crate::raw::WingWritten;
-use crate::{Refusal, SET_MAX};
-
-/// The most bytes of a meter request: 20, and three for each of 64 meters.
-const METER_REQUEST_MAX: usize = 212;
-/// The most bytes of a keep-alive for one id.
-const KEEP_ALIVE_MAX: usize = 13;
-/// The most readings of a packet.
-const READINGS_MAX: usize = 4094;
+use crate::{Refusal, KEEP_ALIVE_MAX, METER_REQUEST_MAX, READINGS_MAX, REQUEST_MAX, SET_MAX, SET_NUMBER_MAX};
 
 /// What a call wrote into an output of this many bytes.
 fn bytes(most: usize, call: impl FnOnce(&mut [u8]) -> WingWritten) -> Result<Vec<u8>, Refusal> {
@@ -27,12 +20,12 @@ fn enough(most: usize, call: impl FnOnce(&mut [u8]) -> WingWritten) -> Vec<u8> {
 
 /// The bytes that set a node to an integer, without a mirror.
 pub fn set_int(id: i32, value: i32) -> Vec<u8> {
-    enough(SET_MAX, |out| raw::order_int(out, id, value))
+    enough(SET_NUMBER_MAX, |out| raw::order_int(out, id, value))
 }
 
 /// The bytes that set a node to a float, without a mirror.
 pub fn set_float(id: i32, value: f32) -> Vec<u8> {
-    enough(SET_MAX, |out| raw::order_float(out, id, value.to_bits()))
+    enough(SET_NUMBER_MAX, |out| raw::order_float(out, id, value.to_bits()))
 }
 
 /// The bytes that set a node to a string, without a mirror. Refused: 10.
@@ -42,12 +35,12 @@ pub fn set_string(id: i32, value: &str) -> Result<Vec<u8>, Refusal> {
 
 /// The bytes that ask for a node's definition; id 0 is the root.
 pub fn request_node_definition(id: i32) -> Vec<u8> {
-    enough(SET_MAX, |out| raw::request_node_definition(out, id))
+    enough(REQUEST_MAX, |out| raw::request_node_definition(out, id))
 }
 
 /// The bytes that ask for a node's data; id 0 is the root.
 pub fn request_node_data(id: i32) -> Vec<u8> {
-    enough(SET_MAX, |out| raw::request_node_data(out, id))
+    enough(REQUEST_MAX, |out| raw::request_node_data(out, id))
 }
 
 /// A meter, by its kind and index, with libwing's names.

@@ -69,5 +69,19 @@ pub const FEED_MAX: usize = 65536;
 pub const STRING_MAX: usize = 256;
 /// The most bytes of a set order: of one for a string, 256 times df.
 pub const SET_MAX: usize = 395;
+/// The most bytes of a set order for a number.
+pub const SET_NUMBER_MAX: usize = 18;
+/// The most bytes of a definition or data request.
+pub const REQUEST_MAX: usize = 10;
 /// The most meters of one request.
 pub const METERS_MAX: usize = 64;
+/// The most bytes of a meter request: 20, and three for each of 64 meters.
+pub const METER_REQUEST_MAX: usize = 212;
+/// The most bytes of a keep-alive for one id.
+pub const KEEP_ALIVE_MAX: usize = 13;
+/// The least bytes of a meter packet.
+pub const PACKET_MIN: usize = 4;
+/// The most bytes of a meter packet.
+pub const PACKET_MAX: usize = 8192;
+/// The most readings of a meter packet.
+pub const READINGS_MAX: usize = 4094;
