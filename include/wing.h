@@ -195,7 +195,7 @@ typedef struct WingDefinition {
     uint16_t index;         /* its number below the parent */
     uint8_t node_type;      /* WING_TYPE_NODE to WING_TYPE_STRING */
     uint8_t unit;           /* WING_UNIT_NONE to WING_UNIT_OCTAVES */
-    bool read_only;         /* whether a set order has no effect */
+    bool read_only;         /* bit 9 of the flags */
     uint16_t count;         /* how many items, of the two enum types */
     uint16_t max_len;       /* the longest string, of type string */
     uint32_t min;           /* the least value: 32 bits of a float (types 1, 2) or of an integer (4) */
@@ -239,7 +239,7 @@ typedef struct WingStep {
  * Refused: 9. */
 WingWritten wing_state_fresh(uint8_t *state, size_t state_len);
 
-/* Whether the bytes are those of a sound state, as a call left them: 0. Lent to be read: state.
+/* Whether the bytes are those of a sound state: 0. Every state that a call left is one; others may be. Lent to be read: state.
  * Refused: 8 (also for any other length than WING_STATE_SIZE). */
 int32_t wing_state_check(const uint8_t *state, size_t state_len);
 

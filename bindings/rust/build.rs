@@ -32,7 +32,9 @@ fn fail(what: &str) -> ! {
 fn demand(name: &str, want: &str) {
     let got = env::var(name).unwrap_or_default();
     if got != want {
-        fail(&format!("libwing_c.a is made for Linux on x86-64 with 64-bit pointers only; {name} is '{got}', not '{want}'"));
+        fail(&format!(
+            "libwing_c.a is made for Linux on x86-64 with 64-bit pointers only; {name} is '{got}', not '{want}'"
+        ));
     }
 }
 

@@ -11,11 +11,11 @@ fn bytes(most: usize, call: impl FnOnce(&mut [u8]) -> WingWritten) -> Result<Vec
     Ok(out)
 }
 
-/// The same of a call that is refused for a short output alone, with an output that is long enough.
+/// The same of a call that is refused for a short output alone (9), with an output as long as its longest order: it cannot be
+/// refused. An archive that does refuse is another library, and empty bytes would hide it.
 fn enough(most: usize, call: impl FnOnce(&mut [u8]) -> WingWritten) -> Vec<u8> {
     let written = bytes(most, call);
-    debug_assert!(written.is_ok(), "the output is too short");
-    written.unwrap_or_default()
+    written.unwrap_or_else(|why| panic!("libwing_c.a has longer orders than the {most} bytes of this crate: {why}"))
 }
 
 /// The bytes that set a node to an integer, without a mirror.

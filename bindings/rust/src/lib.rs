@@ -32,7 +32,8 @@
 //! To see each event rather than the last values, there is [`Decoder`]; for what a node is, [`Definition`]. Requests,
 //! set orders without a mirror and meters are functions of this module. [`raw`] has the calls over your own buffers.
 //!
-//! No call panics, whatever the bytes. A call that cannot be done answers a [`Refusal`] and has changed nothing.
+//! No call panics, whatever the bytes. A call that cannot be done answers a [`Refusal`] and has changed nothing. A
+//! [`Decoder`]'s refusals 1 to 5 are of another sort: they say what the console sent, which is taken like an event.
 #![deny(unsafe_code)]
 #![deny(missing_docs)]
 
@@ -67,7 +68,7 @@ pub const BODY_LIMIT: usize = 4096;
 pub const FEED_MAX: usize = 65536;
 /// The most bytes of a string.
 pub const STRING_MAX: usize = 256;
-/// The most bytes of a set order: of one for a string, 256 times df.
+/// The most bytes of a set order: of one for a string of 256 bytes, every second of them df.
 pub const SET_MAX: usize = 395;
 /// The most bytes of a set order for a number.
 pub const SET_NUMBER_MAX: usize = 18;
