@@ -4,13 +4,15 @@
  *
  * A child process on 127.0.0.1 plays the console and sends the capture in pieces of random length. The box (show) keeps what it reads,
  * sets some strips and recalls everything into a second box, a child too, over TCP. The second box sends its table back, and the first
- * compares. Status 1 if they are not equal, or if the console did not get the strips. It ends within 20 seconds, whatever happens.
+ * compares. Status 1 if they are not equal, if the console did not get the strips as they were set, or if anything else fails. It ends
+ * within 20 seconds, whatever happens.
  */
 #define _POSIX_C_SOURCE 200809L
 #include "wing.h"
 
 #include <arpa/inet.h>
 #include <netinet/in.h>
+#include <signal.h>
 #include <stdio.h>
 #include <stdlib.h>
 #include <string.h>
@@ -22,6 +24,11 @@
 #define PLACES 128
 #define SECONDS 20
 
+/* What the engineer sets. */
+static const char NAME[] = "Sprecherin";
+static const float LEVEL = -6.5f;
+static const int32_t ON = 1;
+
 /* A mirror is three things that the box keeps. */
 typedef struct Mirror {
     uint8_t state[WING_STATE_SIZE];
@@ -29,9 +36,17 @@ typedef struct Mirror {
     size_t count;
 } Mirror;
 
+/* A call of the system failed; errno says why. */
 static void fail(const char *what)
 {
     perror(what);
+    exit(1);
+}
+
+/* Anything else. */
+static void stop(const char *what, const char *why)
+{
+    fprintf(stderr, "%s: %s\n", what, why);
     exit(1);
 }
 
@@ -54,11 +69,30 @@ static void send_all(int to, const uint8_t *bytes, size_t len)
 {
     while (len > 0) {
         ssize_t n = write(to, bytes, len);
-        if (n <= 0)
+        if (n < 0)
             fail("write");
         bytes += n;
         len -= (size_t)n;
     }
+}
+
+static void close_it(int s)
+{
+    if (close(s) != 0)
+        fail("close");
+}
+
+static void end_writing(int s)
+{
+    if (shutdown(s, SHUT_WR) != 0)
+        fail("shutdown");
+}
+
+static uint32_t bits_of(float x)
+{
+    uint32_t bits;
+    memcpy(&bits, &x, sizeof bits);
+    return bits;
 }
 
 /* Feeds what comes until the other side hangs up. */
@@ -109,24 +143,28 @@ static int show(Mirror *m, struct sockaddr_in console_at, struct sockaddr_in sec
     listen_to(console, m); /* this console hangs up; a real one goes on, and so does the box */
 
     /* The engineer sets some strips: each is stored here and sent to the console. */
-    const char *name = "Sprecherin";
-    float level = -6.5f;
-    uint32_t bits;
-    memcpy(&bits, &level, sizeof bits);
     send_set(console, m,
-             wing_set_string(m->table, sizeof m->table, m->count, order, sizeof order, 1000, (const uint8_t *)name, strlen(name)),
+             wing_set_string(m->table, sizeof m->table, m->count, order, sizeof order, 1000, (const uint8_t *)NAME, strlen(NAME)),
              order);
-    send_set(console, m, wing_set_float(m->table, sizeof m->table, m->count, order, sizeof order, 2000, bits), order);
-    send_set(console, m, wing_set_int(m->table, sizeof m->table, m->count, order, sizeof order, 3000, 1), order);
-    close(console);
+    send_set(console, m, wing_set_float(m->table, sizeof m->table, m->count, order, sizeof order, 2000, bits_of(LEVEL)), order);
+    send_set(console, m, wing_set_int(m->table, sizeof m->table, m->count, order, sizeof order, 3000, ON), order);
+    close_it(console);
 
     /* Between two shows: everything goes to another console, or as here to a second box. */
     int second = connect_to(second_at);
     WingWritten sent = wing_recall(m->table, sizeof m->table, m->count, recall, sizeof recall);
     check(sent.status, "wing_recall");
     send_all(second, recall, sent.len);
-    shutdown(second, SHUT_WR);
+    end_writing(second);
     return second;
+}
+
+/* Whether a record is this one; a number's string is empty, and a string's number 0. */
+static int is_record(const Mirror *m, size_t number, int32_t id, uint8_t kind, uint32_t value, const char *string)
+{
+    WingRecord r = wing_record(m->table, sizeof m->table, m->count, number);
+    check(r.status, "wing_record");
+    return r.id == id && r.kind == kind && r.value == value && r.len == strlen(string) && memcmp(r.string, string, r.len) == 0;
 }
 
 /* The console: it waits for the request, sends the capture in pieces, and then hears what is set. */
@@ -136,8 +174,10 @@ static int play(int box, const uint8_t *capture, size_t len, unsigned seed)
     uint8_t asked[4];
     for (size_t got = 0; got < sizeof asked;) {
         ssize_t n = read(box, asked + got, sizeof asked - got);
-        if (n <= 0)
+        if (n < 0)
             fail("read");
+        if (n == 0)
+            stop("the console", "the box hung up before it had asked");
         got += (size_t)n;
     }
     for (size_t at = 0; at < len;) {
@@ -149,11 +189,14 @@ static int play(int box, const uint8_t *capture, size_t len, unsigned seed)
         at += piece;
         nanosleep(&wait, NULL);
     }
-    shutdown(box, SHUT_WR);
+    end_writing(box);
     start(&heard);
     listen_to(box, &heard);
-    WingRecord name = wing_record(heard.table, sizeof heard.table, heard.count, 0);
-    return heard.count == 3 && name.id == 1000 && name.len == 10 && memcmp(name.string, "Sprecherin", 10) == 0 ? 0 : 1;
+    return heard.count == 3 && is_record(&heard, 0, 1000, WING_KIND_STRING, 0, NAME) &&
+                   is_record(&heard, 1, 2000, WING_KIND_FLOAT, bits_of(LEVEL), "") &&
+                   is_record(&heard, 2, 3000, WING_KIND_INTEGER, (uint32_t)ON, "")
+               ? 0
+               : 1;
 }
 
 /* The second box: it takes the recall, and sends back the records that it holds. */
@@ -185,9 +228,12 @@ static pid_t serve(struct sockaddr_in *at, const uint8_t *capture, size_t len, u
         int box = accept(listener, NULL, NULL);
         if (box < 0)
             fail("accept");
-        exit(capture != NULL ? play(box, capture, len, seed) : hold(box));
+        close_it(listener);
+        int status = capture != NULL ? play(box, capture, len, seed) : hold(box);
+        close_it(box);
+        exit(status);
     }
-    close(listener);
+    close_it(listener);
     return child;
 }
 
@@ -202,12 +248,35 @@ static int is_equal(int second, const Mirror *m)
 {
     static uint8_t table[PLACES * WING_PLACE_WIDTH];
     size_t len = 0;
-    ssize_t n;
+    ssize_t n = 1;
     while (len < sizeof table && (n = read(second, table + len, sizeof table - len)) > 0)
         len += (size_t)n;
+    if (n < 0)
+        fail("read");
+    if (len % WING_PLACE_WIDTH != 0)
+        stop("the second box", "it sent a part of a record");
     int32_t same = wing_same(m->table, sizeof m->table, m->count, table, sizeof table, len / WING_PLACE_WIDTH);
     check(same, "wing_same");
     return same == 1;
+}
+
+/* The bytes of a file, 1 to so many. */
+static size_t read_file(const char *name, uint8_t *bytes, size_t most)
+{
+    FILE *file = fopen(name, "rb");
+    if (file == NULL)
+        fail(name);
+    size_t len = fread(bytes, 1, most, file);
+    int more = len == most && fgetc(file) != EOF;
+    if (ferror(file))
+        fail(name);
+    if (len == 0)
+        stop(name, "the file is empty");
+    if (more)
+        stop(name, "the file is too long");
+    if (fclose(file) != 0)
+        fail(name);
+    return len;
 }
 
 int main(int argc, char **argv)
@@ -215,20 +284,21 @@ int main(int argc, char **argv)
     static Mirror mirror;
     static uint8_t capture[WING_FEED_MAX];
     struct sockaddr_in console_at, second_at;
-    FILE *file = argc > 1 ? fopen(argv[1], "rb") : NULL;
-    if (file == NULL)
-        fail(argc > 1 ? argv[1] : "box CAPTURE [SEED]");
-    size_t len = fread(capture, 1, sizeof capture, file);
-    fclose(file);
+    if (argc < 2)
+        stop("usage", "box CAPTURE [SEED]");
+    size_t len = read_file(argv[1], capture, sizeof capture);
+    signal(SIGPIPE, SIG_IGN); /* a write to one who has hung up is an error, not the end */
     alarm(SECONDS);
     pid_t console = serve(&console_at, capture, len, argc > 2 ? (unsigned)atoi(argv[2]) : 1);
     pid_t second = serve(&second_at, NULL, 0, 0);
     int answers = show(&mirror, console_at, second_at);
     int equal = is_equal(answers, &mirror);
+    close_it(answers);
     int heard = ended_well(console);
     int held = ended_well(second);
     if (!equal || !heard || !held) {
-        fprintf(stderr, "the boxes are %s, the console %s\n", equal && held ? "equal" : "not equal", heard ? "heard the strips" : "did not");
+        fprintf(stderr, "the boxes are %s, the console %s the strips\n", equal && held ? "equal" : "not equal",
+                heard ? "heard" : "did not hear");
         return 1;
     }
     printf("%zu records, and the second box is equal to the first\n", mirror.count);

@@ -1,6 +1,6 @@
 /* A WING console's bytes, the mirror of its nodes, set orders and recall: the calls of libwing_c.a.
  *
- * C99, and C++. `rt staticlib wing_c` writes target/staticlib/libwing_c.a, for x86-64. docs/BOX.md shows a whole box.
+ * C99, and C++. `rt staticlib wing_c` writes target/staticlib/libwing_c.a, for Linux on x86-64. docs/BOX.md shows a whole box.
  *
  * Lent: every buffer is the caller's, before and after. A call reads or writes it while it runs and keeps no address. A buffer crosses
  * as a pointer and a number of elements (`x`, `x_len`); the pointer is never NULL, not even where the number is 0 (any address will do
@@ -195,7 +195,7 @@ typedef struct WingDefinition {
     uint16_t index;         /* its number below the parent */
     uint8_t node_type;      /* WING_TYPE_NODE to WING_TYPE_STRING */
     uint8_t unit;           /* WING_UNIT_NONE to WING_UNIT_OCTAVES */
-    bool read_only;         /* whether a set order has no effect */
+    bool read_only;         /* bit 9 of the flags */
     uint16_t count;         /* how many items, of the two enum types */
     uint16_t max_len;       /* the longest string, of type string */
     uint32_t min;           /* the least value: 32 bits of a float (types 1, 2) or of an integer (4) */
@@ -239,7 +239,7 @@ typedef struct WingStep {
  * Refused: 9. */
 WingWritten wing_state_fresh(uint8_t *state, size_t state_len);
 
-/* Whether the bytes are those of a sound state, as a call left them: 0. Lent to be read: state.
+/* Whether the bytes are those of a sound state: 0. Every state that a call left is one; others may be. Lent to be read: state.
  * Refused: 8 (also for any other length than WING_STATE_SIZE). */
 int32_t wing_state_check(const uint8_t *state, size_t state_len);
 
@@ -341,9 +341,10 @@ WingWritten wing_request_node_data(uint8_t *out, size_t out_len, int32_t id);
 WingRequested wing_request_meter(uint8_t *out, size_t out_len, const uint8_t *meters, size_t meters_len, uint16_t port,
                                  uint16_t last_id);
 
-/* Keeps the requests of the ids last_id to 1 alive (at most WING_KEEP_ALIVE_MAX(last_id) bytes). Lent to be written: out.
+/* Keeps the requests of the ids last_id to 1 alive, whose packets go to a UDP port (at most WING_KEEP_ALIVE_MAX(last_id) bytes). Lent to
+ * be written: out.
  * Refused: 9. */
-WingWritten wing_keep_alive_meters(uint8_t *out, size_t out_len, uint16_t last_id, uint16_t port);
+WingWritten wing_keep_alive_meters(uint8_t *out, size_t out_len, uint16_t port, uint16_t last_id);
 
 /* The readings of a meter packet (at most WING_READINGS_MAX). Lent to be read: packet; to be written: out, whose length counts readings.
  * Refused: 13, 9. */

@@ -10,9 +10,9 @@ const CRATES: [&str; 5] = ["wing_c", "wing_saved", "wing_mirror", "wing_wire", "
 
 fn main() {
     println!("cargo:rerun-if-env-changed=WING_C_ARCHIVE");
-    if env::var("CARGO_CFG_TARGET_ARCH").as_deref() != Ok("x86_64") {
-        fail("libwing_c.a is made for x86-64 only, and this build is for another processor");
-    }
+    demand("CARGO_CFG_TARGET_ARCH", "x86_64");
+    demand("CARGO_CFG_TARGET_OS", "linux");
+    demand("CARGO_CFG_TARGET_POINTER_WIDTH", "64");
     let archive = match env::var_os("WING_C_ARCHIVE") {
         Some(path) => given(PathBuf::from(path)),
         None => from_repository(),
@@ -26,6 +26,16 @@ fn main() {
 fn fail(what: &str) -> ! {
     eprintln!("whistleloam: {what}");
     std::process::exit(1);
+}
+
+/// What libwing_c.a is made for; cargo says what this build is for.
+fn demand(name: &str, want: &str) {
+    let got = env::var(name).unwrap_or_default();
+    if got != want {
+        fail(&format!(
+            "libwing_c.a is made for Linux on x86-64 with 64-bit pointers only; {name} is '{got}', not '{want}'"
+        ));
+    }
 }
 
 fn given(path: PathBuf) -> PathBuf {
@@ -63,9 +73,17 @@ fn newest_source(top: &Path) -> Option<SystemTime> {
     for name in CRATES {
         let folder = top.join("crates").join(name).join("src");
         println!("cargo:rerun-if-changed={}", folder.display());
-        for entry in fs::read_dir(folder).ok()?.flatten() {
-            newest = newest.max(changed(&entry.path()));
-        }
+        newest = newest.max(Some(newest_below(&folder)?));
+    }
+    newest
+}
+
+/// When a file of a folder or of one below it was last changed; none if something there cannot be read.
+fn newest_below(folder: &Path) -> Option<SystemTime> {
+    let mut newest = None;
+    for entry in fs::read_dir(folder).ok()? {
+        let path = entry.ok()?.path();
+        newest = newest.max(if path.is_dir() { newest_below(&path) } else { Some(changed(&path)?) });
     }
     newest
 }

@@ -303,7 +303,7 @@ impl Pool {
             (raw::request_node_definition(&mut out, id).status, &[9]),
             (raw::request_node_data(&mut out, -id).status, &[9]),
             (raw::request_meter(&mut out, &pairs, last, last).status, &[11, 12, 9]),
-            (raw::keep_alive_meters(&mut out, last % 40, last).status, &[9]),
+            (raw::keep_alive_meters(&mut out, last, last % 40).status, &[9]),
         ];
         for (status, may) in statuses {
             self.totals.note("orders", status, may);

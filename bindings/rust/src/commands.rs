@@ -1,13 +1,6 @@
 use crate::raw;
 use crate::raw::WingWritten;
-use crate::{Refusal, SET_MAX};
-
-/// The most bytes of a meter request: 20, and three for each of 64 meters.
-const METER_REQUEST_MAX: usize = 212;
-/// The most bytes of a keep-alive for one id.
-const KEEP_ALIVE_MAX: usize = 13;
-/// The most readings of a packet.
-const READINGS_MAX: usize = 4094;
+use crate::{Refusal, KEEP_ALIVE_MAX, METER_REQUEST_MAX, READINGS_MAX, REQUEST_MAX, SET_MAX, SET_NUMBER_MAX};
 
 /// What a call wrote into an output of this many bytes.
 fn bytes(most: usize, call: impl FnOnce(&mut [u8]) -> WingWritten) -> Result<Vec<u8>, Refusal> {
@@ -18,21 +11,21 @@ fn bytes(most: usize, call: impl FnOnce(&mut [u8]) -> WingWritten) -> Result<Vec
     Ok(out)
 }
 
-/// The same of a call that is refused for a short output alone, with an output that is long enough.
+/// The same of a call that is refused for a short output alone (9), with an output as long as its longest order: it cannot be
+/// refused. An archive that does refuse is another library, and empty bytes would hide it.
 fn enough(most: usize, call: impl FnOnce(&mut [u8]) -> WingWritten) -> Vec<u8> {
     let written = bytes(most, call);
-    debug_assert!(written.is_ok(), "the output is too short");
-    written.unwrap_or_default()
+    written.unwrap_or_else(|why| panic!("libwing_c.a has longer orders than the {most} bytes of this crate: {why}"))
 }
 
 /// The bytes that set a node to an integer, without a mirror.
 pub fn set_int(id: i32, value: i32) -> Vec<u8> {
-    enough(SET_MAX, |out| raw::order_int(out, id, value))
+    enough(SET_NUMBER_MAX, |out| raw::order_int(out, id, value))
 }
 
 /// The bytes that set a node to a float, without a mirror.
 pub fn set_float(id: i32, value: f32) -> Vec<u8> {
-    enough(SET_MAX, |out| raw::order_float(out, id, value.to_bits()))
+    enough(SET_NUMBER_MAX, |out| raw::order_float(out, id, value.to_bits()))
 }
 
 /// The bytes that set a node to a string, without a mirror. Refused: 10.
@@ -42,12 +35,12 @@ pub fn set_string(id: i32, value: &str) -> Result<Vec<u8>, Refusal> {
 
 /// The bytes that ask for a node's definition; id 0 is the root.
 pub fn request_node_definition(id: i32) -> Vec<u8> {
-    enough(SET_MAX, |out| raw::request_node_definition(out, id))
+    enough(REQUEST_MAX, |out| raw::request_node_definition(out, id))
 }
 
 /// The bytes that ask for a node's data; id 0 is the root.
 pub fn request_node_data(id: i32) -> Vec<u8> {
-    enough(SET_MAX, |out| raw::request_node_data(out, id))
+    enough(REQUEST_MAX, |out| raw::request_node_data(out, id))
 }
 
 /// A meter, by its kind and index, with libwing's names.
@@ -132,10 +125,16 @@ pub fn request_meter(meters: &[Meter], port: u16, last_id: u16) -> Result<(u16, 
     Ok((requested.id, out))
 }
 
-/// The bytes that keep the requests of the ids `last_id` to 1 alive; a console wants them every few seconds.
-pub fn keep_alive_meters(last_id: u16, port: u16) -> Vec<u8> {
+/// The bytes that keep the requests of the ids `last_id` to 1 alive, whose packets go to a UDP port of the box; a console
+/// wants them every few seconds. The port comes first, as in [`request_meter`].
+///
+/// ```
+/// let order = whistleloam::keep_alive_meters(0x1234, 1);
+/// assert_eq!(order, [0xdf, 0xd3, 0xd4, 0, 1, 0x12, 0x34, 0xdf, 0xd1]);
+/// ```
+pub fn keep_alive_meters(port: u16, last_id: u16) -> Vec<u8> {
     let most = KEEP_ALIVE_MAX * usize::from(last_id);
-    enough(most, |out| raw::keep_alive_meters(out, last_id, port))
+    enough(most, |out| raw::keep_alive_meters(out, port, last_id))
 }
 
 /// The meter id and the readings of a packet. Refused: 13.

@@ -3,13 +3,17 @@ use crate::raw;
 use crate::{Definition, Refusal, Value, BODY_LIMIT, FEED_MAX};
 
 /// What a console says: libwing's `WingResponse`.
+#[doc(alias = "WingResponse")]
 #[derive(Clone, Debug, PartialEq, Eq)]
 pub enum Event {
     /// A node and its value: libwing's `NodeData`.
+    #[doc(alias = "NodeData")]
     Value(i32, Value),
     /// What a node is: libwing's `NodeDef`.
+    #[doc(alias = "NodeDef")]
     Definition(Definition),
     /// The end of an answer: libwing's `RequestEnd`.
+    #[doc(alias = "RequestEnd")]
     End,
 }
 
@@ -31,24 +35,44 @@ pub enum Event {
 pub struct Decoder {
     state: Box<[u8]>,
     out: Box<[u8]>,
+    /// How many bytes of `out` the last call handed out.
+    handed: usize,
     node: i32,
 }
 
 impl Decoder {
     /// A decoder at the start of a connection.
     pub fn new() -> Decoder {
-        Decoder { state: fresh_state(), out: store(), node: 0 }
+        Decoder { state: fresh_state(), out: store(), handed: 0, node: 0 }
     }
 
     /// The next event of these bytes, and how many of them it took; none when more bytes are wanted, and then all are
     /// taken. Go on with the bytes that were not taken.
     ///
     /// Refusals 1 to 5 say what the bytes held: a string or definition that cannot be read. It is taken like an event,
-    /// and the reading goes on after it. Refused: 14, over 65,536 bytes, which takes nothing.
+    /// and the reading goes on after it; with 4 and 5, which say that a body is no definition, [`handed`](Decoder::handed)
+    /// has the body. Refused: 14, over 65,536 bytes, which takes nothing.
     pub fn next(&mut self, bytes: &[u8]) -> (Result<Option<Event>, Refusal>, usize) {
         let got = raw::next(&mut self.state, bytes, &mut self.out);
+        self.handed = BODY_LIMIT.min(got.len.into());
         self.node = got.node;
         (self.event(got), got.taken)
+    }
+
+    /// The bytes that the last call of [`next`](Decoder::next) handed out: a string's, or a body's, also of one that is no
+    /// definition (refusals 4 and 5). None after any other answer: a string that is not UTF-8 or a body of a count that is
+    /// refused (1 to 3) is not kept.
+    ///
+    /// ```
+    /// use whistleloam::{Decoder, Refusal};
+    ///
+    /// let mut decoder = Decoder::new();
+    /// let (event, _) = decoder.next(&[0xdf, 0xde, 0, 2, 7, 8]);
+    /// assert_eq!(event, Err(Refusal::DEFINITION_SHORT));
+    /// assert_eq!(decoder.handed(), [7, 8]);
+    /// ```
+    pub fn handed(&self) -> &[u8] {
+        &self.out[..self.handed]
     }
 
     fn event(&self, got: raw::WingEvent) -> Result<Option<Event>, Refusal> {
@@ -57,7 +81,7 @@ impl Decoder {
         }
         Ok(Some(match got.kind {
             0..=2 => Event::Value(got.node, value_of(got.kind, got.value, got.len, &self.out)?),
-            3 => Event::Definition(Definition::from_bytes(&self.out[..BODY_LIMIT.min(got.len.into())])?),
+            3 => Event::Definition(Definition::from_bytes(self.handed())?),
             _ => Event::End,
         }))
     }
@@ -81,7 +105,7 @@ impl Decoder {
     /// The decoder whose state was saved. Refused: 8.
     pub fn restore(saved: &[u8]) -> Result<Decoder, Refusal> {
         Refusal::check(raw::state_check(saved))?;
-        let mut decoder = Decoder { state: saved.into(), out: store(), node: 0 };
+        let mut decoder = Decoder { state: saved.into(), out: store(), handed: 0, node: 0 };
         // A call without an output is refused (9), so that it alters nothing; it tells the node nevertheless.
         decoder.node = raw::next(&mut decoder.state, &[], &mut []).node;
         Ok(decoder)
@@ -103,6 +127,13 @@ pub struct Events<'a> {
     decoder: &'a mut Decoder,
     bytes: &'a [u8],
     ended: bool,
+}
+
+impl Events<'_> {
+    /// The bytes of the last of these events, as [`Decoder::handed`] gives them.
+    pub fn handed(&self) -> &[u8] {
+        self.decoder.handed()
+    }
 }
 
 impl Iterator for Events<'_> {

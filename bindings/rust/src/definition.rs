@@ -100,6 +100,7 @@ pub enum Details {
 #[derive(Clone, Debug, PartialEq, Eq, Hash)]
 pub enum Item {
     /// libwing's `StringEnumItem`.
+    #[doc(alias = "StringEnumItem")]
     String {
         /// The short string.
         item: String,
@@ -107,6 +108,7 @@ pub enum Item {
         long_item: String,
     },
     /// libwing's `FloatEnumItem`.
+    #[doc(alias = "FloatEnumItem")]
     Float {
         /// The float's bits.
         item: u32,
@@ -127,6 +129,7 @@ pub enum Item {
 /// assert_eq!(definition.details(), Details::None);
 /// # Ok::<(), whistleloam::Refusal>(())
 /// ```
+#[doc(alias = "WingNodeDef")]
 #[derive(Clone, Debug, PartialEq, Eq)]
 pub struct Definition {
     body: Vec<u8>,
@@ -192,16 +195,19 @@ impl Definition {
     }
 
     /// The type.
+    #[doc(alias = "get_type")]
     pub fn node_type(&self) -> NodeType {
         type_of(self.fields.node_type)
     }
 
     /// The unit.
+    #[doc(alias = "get_unit")]
     pub fn unit(&self) -> NodeUnit {
         unit_of(self.fields.unit)
     }
 
-    /// Whether it can only be read.
+    /// Bit 9 of the flags, which libwing calls read-only.
+    #[doc(alias = "is_read_only")]
     pub fn read_only(&self) -> bool {
         self.fields.read_only
     }
@@ -269,6 +275,8 @@ impl Definition {
     }
 
     /// The items in order; none for a type that has none.
+    #[doc(alias = "string_enum")]
+    #[doc(alias = "float_enum")]
     pub fn items(&self) -> Items<'_> {
         Items { body: &self.body, walk: raw::items_begin(&self.body) }
     }

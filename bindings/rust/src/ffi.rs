@@ -2,7 +2,7 @@
 //!
 //! [`Mirror`](crate::Mirror), [`Decoder`](crate::Decoder) and the rest of this crate are made of these. They are for a
 //! box that keeps its memory itself: whatever the slices hold, a call answers or refuses, and a refused one has changed
-//! nothing. A status is 0 (1 where that is said) or a refusal's number with a minus sign
+//! nothing, but for [`next`]'s 1 to 3. A status is 0 (1 where that is said) or a refusal's number with a minus sign
 //! ([`Refusal::check`](crate::Refusal::check) tells them apart). `include/wing.h` says the same for C.
 //!
 //! This is the crate's only file with `unsafe` in it. Each function hands over slices as a pointer and a length; Rust's
@@ -139,7 +139,7 @@ pub struct WingDefinition {
     pub node_type: u8,
     /// 0 to 7, as in [`NodeUnit`](crate::NodeUnit).
     pub unit: u8,
-    /// Whether a set order has no effect.
+    /// Bit 9 of the flags.
     pub read_only: bool,
     /// How many items, of the two enum types.
     pub count: u16,
@@ -294,7 +294,7 @@ mod library {
             port: u16,
             last_id: u16,
         ) -> WingRequested;
-        pub fn wing_keep_alive_meters(out: *mut u8, out_len: usize, last_id: u16, port: u16) -> WingWritten;
+        pub fn wing_keep_alive_meters(out: *mut u8, out_len: usize, port: u16, last_id: u16) -> WingWritten;
         pub fn wing_read_meters(packet: *const u8, packet_len: usize, out: *mut i16, out_len: usize) -> WingMeters;
         pub fn wing_is_utf8(s: *const u8, s_len: usize) -> bool;
     }
@@ -309,7 +309,8 @@ pub fn state_fresh(state: &mut [u8]) -> WingWritten {
     unsafe { library::wing_state_fresh(state.as_mut_ptr(), state.len()) }
 }
 
-/// Whether the bytes are those of a sound state, as a call left them: 0. Lent to be read: state.
+/// Whether the bytes are those of a sound state: 0. Every state that a call left is one; others may be. Lent to be
+/// read: state.
 ///
 /// Refused: 8 (also for any other length than 4,123).
 pub fn state_check(state: &[u8]) -> i32 {
@@ -448,7 +449,7 @@ pub fn same(a: &[u8], count_a: usize, b: &[u8], count_b: usize) -> i32 {
 /// Refused: 4, 5, by the first field that fails.
 pub fn definition(body: &[u8]) -> WingDefinition {
     // SAFETY: `body` is borrowed and only read. The call stays within the lengths and keeps no
-    // address.
+    // address. `read_only` is a bool of proved code, which sets its byte to 0 or 1.
     unsafe { library::wing_definition(body.as_ptr(), body.len()) }
 }
 
@@ -541,14 +542,14 @@ pub fn request_meter(out: &mut [u8], meters: &[u8], port: u16, last_id: u16) -> 
     unsafe { library::wing_request_meter(out.as_mut_ptr(), out.len(), meters.as_ptr(), meters.len(), port, last_id) }
 }
 
-/// Keeps the requests of the ids last_id to 1 alive (at most 13 bytes for each). Lent to be
-/// written: out.
+/// Keeps the requests of the ids last_id to 1 alive, whose packets go to a UDP port (at most 13
+/// bytes for each). Lent to be written: out.
 ///
 /// Refused: 9.
-pub fn keep_alive_meters(out: &mut [u8], last_id: u16, port: u16) -> WingWritten {
+pub fn keep_alive_meters(out: &mut [u8], port: u16, last_id: u16) -> WingWritten {
     // SAFETY: `out` is borrowed for this call alone. The call stays within the lengths and keeps
     // no address.
-    unsafe { library::wing_keep_alive_meters(out.as_mut_ptr(), out.len(), last_id, port) }
+    unsafe { library::wing_keep_alive_meters(out.as_mut_ptr(), out.len(), port, last_id) }
 }
 
 /// The readings of a meter packet (at most 4,094). Lent to be read: packet; to be written:
@@ -564,6 +565,6 @@ pub fn read_meters(packet: &[u8], out: &mut [i16]) -> WingMeters {
 /// Whether the bytes are UTF-8 (RFC 3629). Lent to be read: s. Never refused.
 pub fn is_utf8(s: &[u8]) -> bool {
     // SAFETY: `s` is borrowed and only read. The call stays within the lengths and keeps no
-    // address.
+    // address. What comes back is a bool of proved code, a byte 0 or 1.
     unsafe { library::wing_is_utf8(s.as_ptr(), s.len()) }
 }

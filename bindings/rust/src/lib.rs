@@ -32,7 +32,8 @@
 //! To see each event rather than the last values, there is [`Decoder`]; for what a node is, [`Definition`]. Requests,
 //! set orders without a mirror and meters are functions of this module. [`raw`] has the calls over your own buffers.
 //!
-//! No call panics, whatever the bytes. A call that cannot be done answers a [`Refusal`] and has changed nothing.
+//! No call panics, whatever the bytes. A call that cannot be done answers a [`Refusal`] and has changed nothing. A
+//! [`Decoder`]'s refusals 1 to 5 are of another sort: they say what the console sent, which is taken like an event.
 #![deny(unsafe_code)]
 #![deny(missing_docs)]
 
@@ -67,7 +68,21 @@ pub const BODY_LIMIT: usize = 4096;
 pub const FEED_MAX: usize = 65536;
 /// The most bytes of a string.
 pub const STRING_MAX: usize = 256;
-/// The most bytes of a set order: of one for a string, 256 times df.
+/// The most bytes of a set order: of one for a string of 256 bytes, every second of them df.
 pub const SET_MAX: usize = 395;
+/// The most bytes of a set order for a number.
+pub const SET_NUMBER_MAX: usize = 18;
+/// The most bytes of a definition or data request.
+pub const REQUEST_MAX: usize = 10;
 /// The most meters of one request.
 pub const METERS_MAX: usize = 64;
+/// The most bytes of a meter request: 20, and three for each of 64 meters.
+pub const METER_REQUEST_MAX: usize = 212;
+/// The most bytes of a keep-alive for one id.
+pub const KEEP_ALIVE_MAX: usize = 13;
+/// The least bytes of a meter packet.
+pub const PACKET_MIN: usize = 4;
+/// The most bytes of a meter packet.
+pub const PACKET_MAX: usize = 8192;
+/// The most readings of a meter packet.
+pub const READINGS_MAX: usize = 4094;

@@ -2,8 +2,8 @@ use std::fmt;
 
 /// Why a call was refused: a number of the rules' table 'What is sent back'.
 ///
-/// A refused call has changed nothing. The exception are 1 to 5 where a [`Decoder`](crate::Decoder) gives them: they
-/// say what the bytes held, and the reading goes on after it.
+/// A refused call has changed nothing. The exception are 1 to 5 where a [`Decoder`](crate::Decoder) gives them (1 to 3 of
+/// [`raw::next`](crate::raw::next)): they say what the bytes held, which is taken, and the reading goes on after it.
 #[derive(Clone, Copy, PartialEq, Eq, Hash, PartialOrd, Ord)]
 pub struct Refusal(u8);
 

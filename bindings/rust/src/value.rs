@@ -3,6 +3,7 @@ use std::fmt;
 /// A node's value: what libwing calls `WingNodeData`.
 ///
 /// A float is kept by its 32 bits, so that none of the 2^32 patterns is lost; two floats are equal if their bits are.
+#[doc(alias = "WingNodeData")]
 #[derive(Clone, PartialEq, Eq, Hash)]
 pub enum Value {
     /// An integer.

@@ -2,7 +2,6 @@
 use crate::words::{bits, count, hex, int32, plain};
 use whistleloam::{
     is_utf8, raw, read_meters, request_meter, Decoder, Definition, Details, Event, Item, Meter, Refusal, Value,
-    BODY_LIMIT,
 };
 
 const ROOM: u64 = 16384;
@@ -60,25 +59,28 @@ fn event(event: &Result<Event, Refusal>) -> String {
     }
 }
 
-/// An event of the decoder. A body that the parser refuses is told with its bytes, which the decoder does not hand on: they come
-/// from the library's own call on the same bytes and state.
+/// An event of the decoder, with the body of one that the parser refuses. The bytes handed out are those of the event.
 fn next(decoder: &mut Decoder, bytes: &[u8]) -> (Option<String>, usize) {
-    let (mut state, mut out) = (decoder.save(), vec![BEFORE; BODY_LIMIT]);
-    let got = raw::next(&mut state, bytes, &mut out);
     let (answer, taken) = decoder.next(bytes);
-    let mut text = answer.transpose().map(|e| event(&e));
-    if got.kind == 3 {
-        let body = &out[..got.len.into()];
-        if let (Some(said), Err(why)) = (&mut text, Definition::from_bytes(body)) {
-            let agrees = *said == refused(why);
-            *said = format!("b{}:{}{}", plain(body), refused(why), if agrees { "" } else { "!" });
+    let body = decoder.handed();
+    let (text, want) = match answer.transpose() {
+        None => return (None, taken),
+        Some(Err(why)) if why == Refusal::DEFINITION_SHORT || why == Refusal::DEFINITION_STRING => {
+            let fault = if definition(body) == refused(why) { "" } else { "!" };
+            (format!("b{}:{}{fault}", plain(body), refused(why)), body.to_vec())
         }
+        Some(said) => (event(&said), own_bytes(&said)),
+    };
+    (Some(if want == body { text } else { text + "!" }), taken)
+}
+
+/// A string's bytes or a body.
+fn own_bytes(event: &Result<Event, Refusal>) -> Vec<u8> {
+    match event {
+        Ok(Event::Value(_, Value::String(s))) => s.as_bytes().to_vec(),
+        Ok(Event::Definition(d)) => d.body().to_vec(),
+        _ => Vec::new(),
     }
-    let dirt = out[got.len.into()..].iter().any(|b| *b != BEFORE);
-    if dirt || state != decoder.save() || taken != got.taken || decoder.node() != got.node {
-        text = text.map(|t| t + "!");
-    }
-    (text, taken)
 }
 
 /// Escaped, channel, node and whether a token waits. The first two are bytes of the saved state, and so is the token's kind.
@@ -209,7 +211,7 @@ fn command(room: &str, call: impl FnOnce(&mut [u8]) -> raw::WingWritten) -> Opti
 fn keep_alive(w: &[&str]) -> Option<String> {
     let (last_id, port) = (count(w[1], UINT16)? as u16, count(w[2], UINT16)? as u16);
     let mut out = vec![BEFORE; count(w[0], 851_968)?];
-    let w = raw::keep_alive_meters(&mut out, last_id, port);
+    let w = raw::keep_alive_meters(&mut out, port, last_id);
     Some(written(&out, w.status, 0, w.len))
 }
 

@@ -62,9 +62,9 @@ fn a_meter_request_has_every_kind() {
 /// 01: "for ids from last to 1, df d3 d4 id port df d1".
 #[test]
 fn keep_alives_go_from_the_last_id_to_1() {
-    assert_eq!(keep_alive_meters(2, 0xdf00), hex("df d3 d4 00 02 df de 00 df d1 df d3 d4 00 01 df de 00 df d1"));
-    assert_eq!(keep_alive_meters(0, 7), []);
-    assert!(keep_alive_meters(65535, 0xdfdf).len() > 65535 * 11);
+    assert_eq!(keep_alive_meters(0xdf00, 2), hex("df d3 d4 00 02 df de 00 df d1 df d3 d4 00 01 df de 00 df d1"));
+    assert_eq!(keep_alive_meters(7, 0), []);
+    assert!(keep_alive_meters(0xdfdf, 65535).len() > 65535 * 11);
 }
 
 /// 01: "packet 00 01 00 00 ff ff 7f ff 05 → id 1: −1, 32767".

@@ -1,5 +1,5 @@
 use crate::{hex, sample};
-use whistleloam::{Decoder, Event, Refusal, Value};
+use whistleloam::{raw, Decoder, Event, Refusal, Value};
 
 fn events(bytes: &str) -> Vec<Result<Event, Refusal>> {
     Decoder::new().events(&hex(bytes)).collect()
@@ -94,6 +94,106 @@ fn a_body_is_parsed_and_its_refusal_told() {
     // A body with df in it, escaped: id 0xdf.
     let escaped = events("df de 00 0f 00 00 00 00 00 00 00 df de 00 00 01 61 00 00 00");
     assert!(matches!(&escaped[..], [Ok(Event::Definition(d))] if d.id() == 0xdf), "{escaped:?}");
+}
+
+/// What the parser refuses is not lost.
+#[test]
+fn what_was_handed_out_can_be_read() {
+    let mut decoder = Decoder::new();
+    assert_eq!(decoder.handed(), []);
+    // Bodies that are no definitions: of 2 bytes, one of them an escaped df; of 15, with a name that is not UTF-8.
+    assert_eq!(decoder.next(&hex("df de 00 02 df de 07")), (Err(Refusal::DEFINITION_SHORT), 7));
+    assert_eq!(decoder.handed(), hex("df 07"));
+    assert_eq!(decoder.clone().handed(), hex("df 07"));
+    let body = hex("00 00 00 00 00 00 00 02 00 00 01 80 00 00 00");
+    let sent = [&hex("df de 00 0f")[..], &body].concat();
+    assert_eq!(decoder.next(&sent), (Err(Refusal::DEFINITION_STRING), 19));
+    assert_eq!(decoder.handed(), body);
+    // In pieces too: nothing while more is wanted.
+    assert_eq!(decoder.next(&sent[..9]), (Ok(None), 9));
+    assert_eq!(decoder.handed(), []);
+    assert_eq!(decoder.next(&sent[9..]), (Err(Refusal::DEFINITION_STRING), 10));
+    assert_eq!(decoder.handed(), body);
+    // A string, and what has no bytes: an integer, an end, a refused string or count, a refused call.
+    assert_eq!(decoder.next(&hex("81 41 42")).0, Ok(Some(Event::Value(0, "AB".into()))));
+    assert_eq!(decoder.handed(), b"AB");
+    for (bytes, what) in [("05", Ok(5)), ("80 80", Err(1)), ("df de 00 00 01 02 03 04", Err(3)), ("de", Ok(-1))] {
+        assert!(decoder.next(&hex("80 41")).0.is_ok());
+        assert_eq!(decoder.handed(), b"A");
+        let got = decoder.next(&hex(bytes)).0;
+        let seen = got.map(|e| matches!(e, Some(Event::Value(..)))).map_err(Refusal::number);
+        assert_eq!((seen, decoder.handed()), (what.map(|n| n > 0), &[][..]), "{bytes}");
+    }
+    assert!(decoder.next(&hex("80 41")).0.is_ok());
+    assert_eq!((decoder.next(&[0; 65537]).0, decoder.handed()), (Err(Refusal::NUMBER), &[][..]));
+    // The longest body, and through the events of a piece.
+    let long = [&hex("df de 10 00")[..], &[0xff; 4096]].concat();
+    let mut events = decoder.events(&long);
+    assert_eq!(events.next(), Some(Err(Refusal::DEFINITION_STRING)));
+    assert_eq!(events.handed(), [0xff; 4096]);
+    assert_eq!(events.next(), None);
+    assert_eq!(events.handed(), []);
+}
+
+/// 01: of the output only the bytes handed out are written.
+#[test]
+fn bytes_after_those_handed_out_are_as_they_were() {
+    for (bytes, want) in
+        [("82 41 42 43", "41 42 43"), ("df de 00 02 df de 07", "df 07"), ("05", ""), ("82 41 42 80", "")]
+    {
+        let (mut state, mut out) = (Decoder::new().save(), [0xaa; 5000]);
+        let got = raw::next(&mut state, &hex(bytes), &mut out);
+        assert_eq!((&out[..got.len.into()], usize::from(got.len)), (&hex(want)[..], hex(want).len()));
+        assert!(out[got.len.into()..].iter().all(|b| *b == 0xaa), "{bytes}");
+    }
+}
+
+/// The fields of a state in their order: version, escaped, channel, whether a byte is pending, that byte, node (4), the kind of the
+/// token, its class, want (4), left (4), stored (4), value (4); then the store.
+#[test]
+fn a_state_has_its_bytes() {
+    let fresh = Decoder::new().save();
+    assert_eq!(fresh[..27], hex("01 00 ff 00 00 00 00 00 00 00 00 00 00 00 00 00 00 00 00 00 00 00 00 00 00 00 00"));
+    assert!(fresh[27..].iter().all(|b| *b == 0));
+    assert_eq!(fresh.len(), 27 + 4096);
+
+    // What is fed, the fields after it, and the front of the store.
+    let states = [
+        // In channel 1, node -2, in the middle of a body: of 16 bytes 1 and 3 have come, of 272 two.
+        (
+            "df d1 d7 ff ff ff fe df 00 10 41",
+            "01 00 01 00 00 ff ff ff fe 03 00 00 00 00 10 00 00 00 0f 00 00 00 01 00 00 00 00",
+            "41",
+        ),
+        (
+            "df d1 d7 ff ff ff fe df de 00 10 41 df de 43",
+            "01 00 01 00 00 ff ff ff fe 03 00 00 00 00 10 00 00 00 0d 00 00 00 03 00 00 00 00",
+            "41 df 43",
+        ),
+        (
+            "d7 00 00 01 02 df de 01 10 41 42",
+            "01 00 ff 00 00 00 00 01 02 03 00 00 00 01 10 00 00 01 0e 00 00 00 02 00 00 00 00",
+            "41 42",
+        ),
+        // A string of 3 bytes, of which 2 have come; a number of 4, of which 2; a body's count, of which 1.
+        ("82 41 42", "01 00 ff 00 00 00 00 00 00 02 00 00 00 00 03 00 00 00 01 00 00 00 00 00 00 00 00", "41 42"),
+        ("d4 12 34", "01 00 ff 00 00 00 00 00 00 01 05 00 00 00 00 00 00 00 02 00 00 00 00 00 00 12 34", ""),
+        ("df de 01", "01 00 ff 00 00 00 00 00 00 01 09 00 00 00 00 00 00 00 01 00 00 00 00 00 00 00 01", ""),
+        // A byte df, after which the next one tells.
+        ("df d3 df", "01 01 03 00 00 00 00 00 00 00 00 00 00 00 00 00 00 00 00 00 00 00 00 00 00 00 00", ""),
+    ];
+    for (bytes, fields, store) in states {
+        let mut decoder = Decoder::new();
+        assert_eq!(decoder.events(&hex(bytes)).count(), 0, "{bytes}");
+        let (state, store) = (decoder.save(), hex(store));
+        assert_eq!(state[..27], hex(fields), "{bytes}");
+        assert_eq!(state[27..27 + store.len()], store, "{bytes}");
+        assert!(state[27 + store.len()..].iter().all(|b| *b == 0), "{bytes}");
+    }
+    // A byte is pending after the call that gave an event before it.
+    let mut decoder = Decoder::new();
+    assert_eq!(decoder.next(&hex("df d1 80 df 05")), (Err(Refusal::STRING), 5));
+    assert_eq!(decoder.save()[..11], hex("01 00 01 01 05 00 00 00 00 00 00"));
 }
 
 #[test]

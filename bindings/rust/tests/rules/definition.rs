@@ -1,5 +1,5 @@
 use crate::{hex, sample};
-use whistleloam::{Definition, Details, Item, NodeType, NodeUnit, Refusal};
+use whistleloam::{raw, Definition, Details, Item, NodeType, NodeUnit, Refusal};
 
 /// A body of these flags and details, named "n", long name "Name", parent 1, id -2, index 3.
 fn body(flags: u16, details: &str) -> Vec<u8> {
@@ -53,6 +53,25 @@ fn each_type_adds_its_details() {
     assert_eq!((all[7].details(), all[7].max_string_len()), (Details::String(16), Some(16)));
     assert_eq!(all.iter().filter(|d| d.max_int().is_some()).count(), 1);
     assert_eq!(all.iter().filter(|d| d.max_string_len().is_some()).count(), 1);
+}
+
+/// Where the items begin is told by the definition and by the walk; 0 for a type that has none.
+#[test]
+fn the_first_item_stands_where_the_walk_begins() {
+    for (number, (node_type, details)) in (0u16..).zip(TYPES) {
+        let body = body(number * 16, details);
+        let (fields, walk) = (raw::definition(&body), raw::items_begin(&body));
+        assert_eq!((fields.status, walk.status, u16::from(walk.node_type)), (0, 0, number));
+        if matches!(node_type, NodeType::StringEnum | NodeType::FloatEnum) {
+            // 19 bytes before the details, and the count's two.
+            assert_eq!((fields.first_item, walk.at), (21, 21), "{node_type:?}");
+            assert_eq!((fields.count, walk.left), (2, 2), "{node_type:?}");
+        } else {
+            assert_eq!((fields.first_item, fields.count, walk.left), (0, 0, 0), "{node_type:?}");
+        }
+    }
+    let refused = raw::definition(&body(80, "00"));
+    assert_eq!((refused.status, refused.first_item), (-4, 0));
 }
 
 fn strings(item: &str, long_item: &str) -> Item {

@@ -146,7 +146,7 @@ fn the_orders_of_the_numbers_hold() {
     assert_eq!(raw::request_meter(&mut [], &[0xa0; 129], 1, 65534).status, -9);
     assert_eq!(raw::read_meters(&[0; 8193], &mut []).status, -13);
     assert_eq!(raw::read_meters(&[0; 8192], &mut []).status, -9);
-    assert!(keep_alive_meters(0, 1).is_empty());
+    assert!(keep_alive_meters(1, 0).is_empty());
 }
 
 /// 01: "A 15-byte node definition with a one-letter name passes; 14 bytes gives 4".

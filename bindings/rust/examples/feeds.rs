@@ -1,0 +1,33 @@
+//! `feeds N`: a mirror is fed samples/capture.bin N times, and as often set and recalled into buffers made before.
+//!
+//! These calls allocate nothing, so that under valgrind the number of allocations is the same for every N: `bindings/test`
+//! compares two.
+use std::error::Error;
+use std::path::Path;
+use whistleloam::{Mirror, Value, SET_MAX};
+
+const PLACES: usize = 128;
+
+fn main() -> Result<(), Box<dyn Error>> {
+    let rounds: u32 = std::env::args().nth(1).ok_or("feeds N")?.parse()?;
+    let capture = std::fs::read(Path::new(env!("CARGO_MANIFEST_DIR")).join("../../samples/capture.bin"))?;
+    let values = [(1000, Value::from("Sprecherin")), (2000, Value::float(-6.5)), (3000, Value::Int(1))];
+    let (mut order, mut recall) = ([0; SET_MAX], vec![0; 2 + SET_MAX * PLACES]);
+    let mut mirror = Mirror::new(PLACES)?;
+    let (mut stored, mut sent) = (0, 0);
+    for _ in 0..rounds {
+        // In pieces too: what is not whole is kept in the state.
+        for piece in capture.chunks(100) {
+            stored += mirror.feed(piece)?.stored;
+        }
+        for (id, value) in &values {
+            sent += mirror.set_into(*id, value, &mut order)?;
+        }
+        sent += mirror.recall_into(&mut recall)?;
+    }
+    println!("{rounds} rounds: {stored} values stored, {sent} bytes to send, {} records", mirror.len());
+    if stored == 0 || sent == 0 {
+        return Err("nothing was fed or sent".into());
+    }
+    Ok(())
+}
