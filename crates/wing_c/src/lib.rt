@@ -3,6 +3,7 @@
 pub mod answers;
 pub mod commands;
 pub mod definitions;
+mod kept;
 pub mod laws;
 pub mod mirror;
 pub mod state;

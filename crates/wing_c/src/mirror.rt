@@ -22,7 +22,7 @@ use crate::answers::WingLookup;
 use crate::answers::WingRecord;
 use crate::answers::WingSet;
 use crate::answers::WingWritten;
-use crate::state::keep;
+use crate::kept::keep;
 use wing_mirror::answer::FeedAnswer;
 use wing_mirror::feed::feed_lent;
 use wing_mirror::query;

@@ -6,7 +6,7 @@ ghost use lib.ListN.{length, take};
 ghost use Rattle.wing_node.specs.Result.{ok};
 ghost use Rattle.wing_wire.specs.State.{stateOf, freshState, soundState};
 ghost use Rattle.wing_wire.specs.Reader.{over, nextOf, nextEvent};
-ghost use Rattle.wing_saved.specs.Saved.{Saves, savedSize, stateFrom, saveOf, HeadOf};
+ghost use Rattle.wing_saved.specs.Saved.{savedSize, stateFrom, saveOf, HeadOf};
 ghost use Rattle.wing_c.specs.Written.{command, commandOf};
 ghost use Rattle.wing_c.specs.Kept.{stateStatus, stateIn, answerBytes, lentNext, nextLeft, keptNext, nextFrom, nextSound, nextKept, nextState, stateNext};
 use crate::answers::WingEvent;
@@ -14,6 +14,7 @@ use crate::answers::WingWritten;
 use crate::answers::event;
 use crate::answers::minus;
 use crate::answers::written;
+use crate::kept::keep;
 use wing_node::field::least;
 use wing_saved::HEAD;
 use wing_saved::LoadAnswer;
@@ -45,14 +46,6 @@ pub extern "C" fn wing_state_check(state: &[u8]) -> i32
         LoadAnswer::Good => 0,
         LoadAnswer::Refused(why) => minus(why),
     }
-}
-
-// The fields of a control before its store, where those of another stood: the bytes are then a sound state's.
-pub(crate) fn keep(state: &mut [u8], after: Control)
-    requires { ⌜ (soundState (stateIn after (now state)) ≡ true) × (length (now state) ≡ savedSize) ⌝ }
-    ensures { λ _. ⌜ Saves (now (state .exit)) (stateIn after (now (state .entry))) ⌝ }
-{
-    wing_saved::lay_head(state, after);
 }
 
 // The first n bytes of s to the front of out, as far as both reach.

@@ -3,8 +3,8 @@ use denote.Ref.{now}
 use Rattle.wing_saved.proofs.Saving.Types.{are-bytes}
 use Rattle.wing_c.proofs.Keeps.{kept-typed, head-laid}
 use borrow.Author.Needs.{needs}
-use Rattle.wing_c.proofs.state.keep.Statement.{statement}
-use Rattle.wing_c.proofs.state.keep.Tie as tie
+use Rattle.wing_c.proofs.kept.keep.Statement.{statement}
+use Rattle.wing_c.proofs.kept.keep.Tie as tie
 
 lay-head-requires : tie.Need-lay-head-requires
 lay-head-requires c κs = search needs
