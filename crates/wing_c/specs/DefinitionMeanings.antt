@@ -1,9 +1,10 @@
 -- What the numbers of definitions and items mean, by the header's words, and that each of them is the meaning of its numbers.
 use Prim.Native.Nat.{ℕ, _≤_}
+use mathlib.Core.Bool.{false}
 use mathlib.Core.Path.{_≡_}
 use mathlib.Core.List.{List}
 use lib.Dec.{eqb}
-use lib.IntN.{ℤ}
+use lib.IntN.{ℤ, pos}
 use Rattle.wing_node.specs.Bool.{if}
 use Rattle.wing_node.specs.Signed.{signed, InBits}
 use Rattle.wing_node.specs.Types.{typeOf, unitOf}
@@ -122,6 +123,34 @@ OfItem (ItemRefused n) = 1 ≤ n
 
 -- ---- what holds of them
 
+-- where the status is a refusal, all other fields are 0
+pub record RefusedZero (n : ℕ) : Type 0 where
+  pub definition : let r = definitionNumbers (Refused n) in
+      (r .«parent_id» ≡ pos 0) × (r .id ≡ pos 0) × (r .index ≡ 0) × (r .«node_type» ≡ 0) × (r .unit ≡ 0) × (r .«read_only» ≡ false) ×
+      (r .«name_len» ≡ 0) × (r .«long_name_len» ≡ 0) × (r .«name_start» ≡ 0) × (r .«long_name_start» ≡ 0)
+  pub details : let r = definitionNumbers (Refused n) in
+      (r .count ≡ 0) × (r .«max_len» ≡ 0) × (r .min ≡ 0) × (r .max ≡ 0) × (r .steps ≡ pos 0) × (r .«first_item» ≡ 0)
+  pub walk : let r = begunNumbers (WalkRefused n) in (r .at ≡ 0) × (r .left ≡ 0) × (r .«node_type» ≡ 0)
+  pub item : let r = itemNumbers (ItemRefused n) in
+      (r .kind ≡ 0) × (r .bits ≡ 0) × (r .len ≡ 0) × (r .«long_len» ≡ 0) × (r .start ≡ 0) × (r .«long_start» ≡ 0)
+
+-- what a type has not is 0, by the details of a definition that was read; two strings have no bits, a float no short string
+pub record OtherZero : Type 0 where
+  pub none : (d : Definition) → d .details ≡ None → let r = definitionNumbers (Good d) in
+      (r .count ≡ 0) × (r .«max_len» ≡ 0) × (r .min ≡ 0) × (r .max ≡ 0) × (r .steps ≡ pos 0) × (r .«first_item» ≡ 0)
+  pub floats : (d : Definition) (min max : ℕ) (steps : ℤ) → d .details ≡ Floats min max steps → let r = definitionNumbers (Good d) in
+      (r .count ≡ 0) × (r .«max_len» ≡ 0) × (r .«first_item» ≡ 0)
+  pub integers : (d : Definition) (min max : ℤ) → d .details ≡ Integers min max → let r = definitionNumbers (Good d) in
+      (r .count ≡ 0) × (r .«max_len» ≡ 0) × (r .steps ≡ pos 0) × (r .«first_item» ≡ 0)
+  pub items : (d : Definition) (count first : ℕ) → d .details ≡ Items count first → let r = definitionNumbers (Good d) in
+      (r .«max_len» ≡ 0) × (r .min ≡ 0) × (r .max ≡ 0) × (r .steps ≡ pos 0)
+  pub text : (d : Definition) (n : ℕ) → d .details ≡ MaxLen n → let r = definitionNumbers (Good d) in
+      (r .count ≡ 0) × (r .min ≡ 0) × (r .max ≡ 0) × (r .steps ≡ pos 0) × (r .«first_item» ≡ 0)
+  pub strings-item : (a b : Span) → itemNumbers (Strings a b) .bits ≡ 0
+  pub float-item : (bits : ℕ) (b : Span) → let r = itemNumbers (Float bits b) in (r .len ≡ 0) × (r .start ≡ 0)
+  pub no-item : let r = itemNumbers NoItem in
+      (r .kind ≡ 0) × (r .bits ≡ 0) × (r .len ≡ 0) × (r .«long_len» ≡ 0) × (r .start ≡ 0) × (r .«long_start» ≡ 0)
+
 -- every definition, item and walk is what its numbers mean
 pub record DefinitionsSay : Type 0 where
   pub parsed : (p : Parsed) → OfParsed p → parsedIn (definitionNumbers p) ≡ p
@@ -134,3 +163,5 @@ pub record DefinitionsSay : Type 0 where
   pub begin-call : (body : List ℕ) → AreBytes body → begunIn (begunNumbers (beginOf body)) ≡ beginOf body
   pub step-call : (body : List ℕ) (at left : ℕ) (t : NodeType) → stepIn (stepNumbers (stepAt body at left t)) ≡ stepAt body at left t
   pub item-call : (body : List ℕ) (n : ℕ) → AreBytes body → itemIn (itemNumbers (itemNumbered body n)) ≡ itemNumbered body n
+  pub refused-zero : (n : ℕ) → RefusedZero n
+  pub other-zero : OtherZero

@@ -168,6 +168,29 @@ pub record NextBeside (a : Answer) (current : ℤ) (used : ℕ) : Type 0 where
   pub node : eventNumbers a current used .node ≡ current
   pub taken : eventNumbers a current used .taken ≡ used
 
+-- where the status is a refusal, all other fields are 0, but for a count, a record's bytes, an event's node and taken
+pub record RefusedZero (n : ℕ) : Type 0 where
+  pub written : writtenNumbers (Refused n) .len ≡ 0
+  pub set : (count : ℕ) → setNumbers (Refused n) count .len ≡ 0
+  pub lookup : lookupNumbers (LookupRefused n) .number ≡ 0
+  pub read : (s : List ℕ) → let r = recordNumbers (RecordRefused n) s in (r .id ≡ pos 0) × (r .value ≡ 0) × (r .len ≡ 0) × (r .kind ≡ 0)
+  pub next : (node : ℤ) (taken : ℕ) → let r = eventNumbers (NextRefused n) node taken in (r .value ≡ 0) × (r .len ≡ 0) × (r .kind ≡ 0)
+  pub requested : (requestedNumbers (RequestRefused n) .id ≡ 0) × (requestedNumbers (RequestRefused n) .len ≡ 0)
+  pub meters : (metersNumbers (ReadRefused n) .id ≡ 0) × (metersNumbers (ReadRefused n) .count ≡ 0)
+
+-- what a case has not is 0: a lookup of none its number, a number its length, a string or a body its value, an end both
+pub record OtherZero : Type 0 where
+  pub none : lookupNumbers None .number ≡ 0
+  pub integer : (id x : ℤ) (s : List ℕ) → recordNumbers (Record id (Integer x)) s .len ≡ 0
+  pub float : (id : ℤ) (bits : ℕ) (s : List ℕ) → recordNumbers (Record id (Float bits)) s .len ≡ 0
+  pub string : (id : ℤ) (n : ℕ) (s : List ℕ) → recordNumbers (Record id (String n)) s .value ≡ 0
+  pub next-more : (node : ℤ) (taken : ℕ) → let r = eventNumbers More node taken in (r .value ≡ 0) × (r .len ≡ 0) × (r .kind ≡ 0)
+  pub next-integer : (x node : ℤ) (taken : ℕ) → eventNumbers (IntegerAt x) node taken .len ≡ 0
+  pub next-float : (bits : ℕ) (node : ℤ) (taken : ℕ) → eventNumbers (FloatAt bits) node taken .len ≡ 0
+  pub next-string : (n : ℕ) (node : ℤ) (taken : ℕ) → eventNumbers (StringAt n) node taken .value ≡ 0
+  pub next-body : (n : ℕ) (node : ℤ) (taken : ℕ) → eventNumbers (Body n) node taken .value ≡ 0
+  pub next-end : (node : ℤ) (taken : ℕ) → let r = eventNumbers End node taken in (r .value ≡ 0) × (r .len ≡ 0)
+
 -- every answer is what its numbers mean
 pub record NumbersSay : Type 0 where
   pub written : (w : Written) → OfWritten w → writtenIn (writtenNumbers w) ≡ w
@@ -185,3 +208,5 @@ pub record NumbersSay : Type 0 where
   pub next-beside : (a : Answer) (node : ℤ) (taken : ℕ) → NextBeside a node taken
   pub requested : (r : Requested) → OfRequested r → requestedIn (requestedNumbers r) ≡ r
   pub meters : (m : MetersRead) → OfMeters m → metersIn (metersNumbers m) ≡ m
+  pub refused-zero : (n : ℕ) → RefusedZero n
+  pub other-zero : OtherZero

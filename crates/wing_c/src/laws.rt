@@ -3,12 +3,12 @@ ghost use Rattle.wing_c.specs.Meanings.{NumbersSay};
 ghost use Rattle.wing_c.specs.DefinitionMeanings.{DefinitionsSay};
 
 // Every answer is what its numbers mean by the header's words: a status below 0 is the refusal of that number, and nothing of an answer
-// is dropped.
+// is dropped; what a case has not is 0.
 pub fn numbers_say_answers()
     ensures { λ _. ⌜ NumbersSay ⌝ }
 {}
 
-// The same of definitions, items and walks.
+// The same of definitions, items and walks, and of what the calls over a body answer, whatever its bytes are.
 pub fn numbers_say_definitions()
     ensures { λ _. ⌜ DefinitionsSay ⌝ }
 {}
