@@ -13,7 +13,7 @@ use Rattle.wing_mirror.specs.Mirror.{SetEffect, setEffect, FeedEffect, lentEffe
 use Rattle.wing_mirror.specs.declared.answer.SetReply.{SetReply}
 use Rattle.wing_mirror.specs.declared.answer.LentFeedReply.{LentFeedReply}
 use Rattle.wing_c.specs.Numbers.{writtenNumbers, setNumbers, requestedNumbers, metersNumbers, feedStatus, fedNumbers}
-use Rattle.wing_c.specs.Written.{command, commandOf, setOrder, setOrderOf, request, requestOf, packet, packetFrom}
+use Rattle.wing_c.specs.Written.{command, commandOf, mirrorCommand, mirrorCommandOf, request, requestOf, packet, packetFrom}
 use Rattle.wing_c.specs.Kept.{keptFeed, stateAfter, feedFrom}
 use Rattle.wing_c.specs.declared.answers.WingWritten.{WingWritten}
 use Rattle.wing_c.specs.declared.answers.WingSet.{WingSet}
@@ -27,8 +27,8 @@ command-as w {out} p q = ap (λ (x : WingWritten). command x out) p ∙ ap comma
 
 -- a set through the mirror
 pub set-as : {r : WingSet} (s : SetReply) {out buffer : List ℕ} {e : SetEffect} → r ≡ setNumbers (s .answer) (s .count) → setEffect s out buffer ≡ e →
-    setOrder r out buffer ≡ setOrderOf e
-set-as s {out} {buffer} p q = ap (λ (x : WingSet). setOrder x out buffer) p ∙ ap setOrderOf q
+    mirrorCommand r out buffer ≡ mirrorCommandOf e
+set-as s {out} {buffer} p q = ap (λ (x : WingSet). mirrorCommand x out buffer) p ∙ ap mirrorCommandOf q
 
 -- a meter request
 pub request-as : {r : WingRequested} (w : Requested) {out : List ℕ} {e : RequestEffect} → r ≡ requestedNumbers w → requestEffect w out ≡ e →

@@ -39,7 +39,7 @@ use Rattle.wing_mirror.specs.Mirror.{FeedEffect, lentEffect, tableTally, keep, 
 use Rattle.wing_mirror.specs.declared.answer.FeedAnswer.the-variants.{Taken}
 use Rattle.wing_mirror.specs.declared.answer.LentFeedReply.{LentFeedReply}
 use Rattle.wing_c.specs.Numbers.{feedStatus, fedNumbers, eventNumbers}
-use Rattle.wing_c.specs.Kept.{stateIn, keptFeed, stateAfter, readAfter, feedFrom, feedWith, feedKept, stateFed, LentNext, lentNext, nextLeft, keptNext, nextFrom}
+use Rattle.wing_c.specs.Kept.{stateIn, keptFeed, stateAfter, readAfter, feedFrom, feedWith, feedKept, stateFed, LentNext, lentNext, nextLeft, keptNext, nextReplied}
 use Rattle.wing_c.specs.declared.answers.WingFed.{WingFed}
 use Rattle.wing_c.specs.declared.answers.WingEvent.{WingEvent}
 use Rattle.wing_c.proofs.Effects.{feed-as}
@@ -223,7 +223,7 @@ module _ (before : List ℕ) (c : Control) (bytes out : List ℕ) (size : length
   -- its control laid before the store: what is left, and what it reads as
   pub next-in : {r : WingEvent} {kept : List ℕ} → r ≡ eventNumbers (x .answer) (x .control .node) (x .taken) →
       Saves kept (stateIn (x .control) (withStore before store)) →
-      (keptNext r kept handed ≡ nextFrom (nextOf (stateIn c before) bytes) (nextEvent (stateIn c before) bytes) out) ×
+      (keptNext r kept handed ≡ nextReplied (nextOf (stateIn c before) bytes) (nextEvent (stateIn c before) bytes) out) ×
       (stateFrom kept ≡ ok (nextOf (stateIn c before) bytes .state))
   next-in {r} {kept} p k = (
     ap (λ (w : WingEvent). keptNext w kept handed) p ∙

@@ -18,7 +18,7 @@ use Rattle.wing_saved.specs.declared.Loaded.{Loaded}
 use Rattle.wing_saved.specs.declared.LoadAnswer.{LoadAnswer}
 use Rattle.wing_saved.specs.declared.LoadAnswer.the-variants.{Good, Refused as NotLoaded}
 use Rattle.wing_saved.proofs.Saving.Trips.{loaded-result}
-use Rattle.wing_c.specs.Kept.{stringBytes, eventBytes, answerBytes, lentNext, nextLeft}
+use Rattle.wing_c.specs.Kept.{valueBytes, eventBytes, answerBytes, lentNext, nextLeft}
 
 -- the bytes read as what the answer and the state beside it say
 read-as : (bytes : List ℕ) (l : Loaded) → l ≡ loadOf bytes → stateFrom bytes ≡ loadedResult (l .answer) (l .state)
@@ -48,7 +48,7 @@ next-event s bytes g h = rw (g, le-leb (length bytes) 65536 h) refl
 
 -- the bytes of an event stand at the front of the store
 event-bytes : (a : Answer) (s : List ℕ) → eventBytes (eventOf a s s) ≡ take (answerBytes a) s
-unfolding eventBytes stringBytes eventOf
+unfolding eventBytes valueBytes eventOf
 event-bytes More s = refl
 event-bytes (Integer x) s = refl
 event-bytes (Float bits) s = refl

@@ -1,7 +1,6 @@
 -- Definitions and items by numbers. A string is told by its place in the body.
 use Prim.Native.Nat.{ℕ}
 use mathlib.Core.Bool.{false}
-use mathlib.Core.List.{List}
 use lib.IntN.{ℤ, pos}
 use Rattle.wing_node.specs.Signed.{unsigned}
 use Rattle.wing_node.specs.declared.node_type.NodeType.{NodeType}
@@ -24,7 +23,7 @@ use Rattle.wing_c.specs.declared.definitions.WingDefinition.{WingDefinit
 use Rattle.wing_c.specs.declared.definitions.WingWalk.{WingWalk}
 use Rattle.wing_c.specs.declared.definitions.WingItem.{WingItem}
 use Rattle.wing_c.specs.declared.definitions.WingStep.{WingStep}
-use Rattle.wing_c.specs.declared.definitions.Numbers.{Numbers}
+use Rattle.wing_c.specs.declared.definitions.DetailFields.{DetailFields}
 
 -- 01: types in order 0 to 7
 abbrev pub typeNumber : NodeType → ℕ
@@ -49,15 +48,15 @@ unitNumber Seconds = 6
 unitNumber Octaves = 7
 
 -- what types 1, 2 and 4 add
-abbrev pub limitsAs : ℕ → ℕ → ℤ → Numbers
+abbrev pub limitsAs : ℕ → ℕ → ℤ → DetailFields
 limitsAs min max steps = record { min = min; max = max; steps = steps; count = 0; first = 0; «max_len» = 0 }
 
 -- what types 5, 6 and 7 add
-abbrev pub listedAs : ℕ → ℕ → ℕ → Numbers
+abbrev pub listedAs : ℕ → ℕ → ℕ → DetailFields
 listedAs count first maxLen = record { min = 0; max = 0; steps = pos 0; count = count; first = first; «max_len» = maxLen }
 
 -- 01: types 1, 2: min, max, steps; 4: min, max; 5, 6: item count, and the place of the first; 7: length. What a type has not is 0; integers are 32 bits
-abbrev pub detailNumbers : Details → Numbers
+abbrev pub detailNumbers : Details → DetailFields
 detailNumbers None = limitsAs 0 0 (pos 0)
 detailNumbers (Floats min max steps) = limitsAs min max steps
 detailNumbers (Integers min max) = limitsAs (unsigned 31 min) (unsigned 31 max) (pos 0)

@@ -89,15 +89,15 @@ abbrev pub keptNext : WingEvent → List ℕ → List ℕ → KeptNext
 keptNext r state out = record { numbers = r; state = state; out = out }
 
 -- the bytes of a value: those of a string
-unfoldable pub stringBytes : NodeValue → List ℕ
-stringBytes (integer x) = []
-stringBytes (float bits) = []
-stringBytes (string s) = s
+unfoldable pub valueBytes : NodeValue → List ℕ
+valueBytes (integer x) = []
+valueBytes (float bits) = []
+valueBytes (string s) = s
 
 -- the bytes that an event hands out: those of a string or a body
 unfoldable pub eventBytes : Event → List ℕ
 eventBytes more = []
-eventBytes (value v) = stringBytes v
+eventBytes (value v) = valueBytes v
 eventBytes (body b) = b
 eventBytes end = []
 eventBytes (refusal n) = []
@@ -130,8 +130,8 @@ nextLeft s bytes out =
     record { answer = r .answer; taken = r .taken; state = r .state; out = over (eventBytes (nextEvent s bytes)) out }
 
 -- the library's reply and event: numbers, the state's bytes, and the bytes of a string or a body at the front of the output
-abbrev pub nextFrom : Reply → Event → List ℕ → KeptNext
-nextFrom r e out =
+abbrev pub nextReplied : Reply → Event → List ℕ → KeptNext
+nextReplied r e out =
     keptNext (eventNumbers (r .answer) (r .state .control .node) (r .taken)) (stateBytes (r .state)) (over (eventBytes e) out)
 
 -- a refused call, with all as it was
@@ -142,7 +142,7 @@ nextRefused n node state out = keptNext (noEvent (minus n) node 0) state out
 unfoldable pub nextSound : State → List ℕ → List ℕ → List ℕ → KeptNext
 nextSound s state bytes out =
     if (leb (length bytes) 65536)
-    (if (leb bodyLimit (length out)) (nextFrom (nextOf s bytes) (nextEvent s bytes) out) (nextRefused 9 (s .control .node) state out))
+    (if (leb bodyLimit (length out)) (nextReplied (nextOf s bytes) (nextEvent s bytes) out) (nextRefused 9 (s .control .node) state out))
     (nextRefused 14 (s .control .node) state out)
 
 -- 8 for bytes that are no sound state's

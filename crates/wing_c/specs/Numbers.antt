@@ -3,7 +3,6 @@ use Prim.Native.Nat.{ℕ, _-_}
 use mathlib.Core.List.{List}
 use lib.Dec.{eqb}
 use lib.IntN.{ℤ, pos, negsuc}
-use lib.ListN.{replicate}
 use Rattle.wing_node.specs.Bool.{if}
 use Rattle.wing_node.specs.Signed.{unsigned}
 use Rattle.wing_node.specs.declared.value.Value.{Value}

@@ -25,18 +25,18 @@ abbrev pub commandOf : WriteEffect → Command
 commandOf e = command (writtenNumbers (e .answer)) (e .out)
 
 -- a set through the mirror: its numbers, the output and the table buffer
-pub record SetOrder : Type 0 where
+pub record MirrorCommand : Type 0 where
   pub numbers : WingSet
   pub out : List ℕ
   pub table : List ℕ
 
 -- numbers, an output and a table buffer
-abbrev pub setOrder : WingSet → List ℕ → List ℕ → SetOrder
-setOrder r out buffer = record { numbers = r; out = out; table = buffer }
+abbrev pub mirrorCommand : WingSet → List ℕ → List ℕ → MirrorCommand
+mirrorCommand r out buffer = record { numbers = r; out = out; table = buffer }
 
 -- of what the library's call leaves
-abbrev pub setOrderOf : SetEffect → SetOrder
-setOrderOf e = setOrder (setNumbers (e .answer) (e .table .count)) (e .out) (e .table .buffer)
+abbrev pub mirrorCommandOf : SetEffect → MirrorCommand
+mirrorCommandOf e = mirrorCommand (setNumbers (e .answer) (e .table .count)) (e .out) (e .table .buffer)
 
 -- a meter request: its numbers and the output
 pub record Request : Type 0 where

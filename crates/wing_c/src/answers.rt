@@ -248,7 +248,7 @@ pub(crate) fn record(r: RecordRead) -> WingRecord
     }
 }
 
-// One that the call has taken, whole.
+// An event, at the current node.
 fn event_of(kind: u8, value: u32, len: u16, node: i32, taken: usize) -> WingEvent
     ensures { λ r. ⌜ r ≡ eventAs kind value len node taken ⌝ }
 {

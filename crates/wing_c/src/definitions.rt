@@ -69,7 +69,7 @@ pub struct WingStep {
 }
 
 // What a type adds, by numbers.
-struct Numbers {
+struct DetailFields {
     min: u32,
     max: u32,
     steps: i32,
@@ -109,10 +109,10 @@ fn unit_number(u: NodeUnit) -> u8
     }
 }
 
-fn limits(min: u32, max: u32, steps: i32) -> Numbers
+fn limits(min: u32, max: u32, steps: i32) -> DetailFields
     ensures { λ r. ⌜ r ≡ limitsAs min max steps ⌝ }
 {
-    Numbers {
+    DetailFields {
         min: min,
         max: max,
         steps: steps,
@@ -122,10 +122,10 @@ fn limits(min: u32, max: u32, steps: i32) -> Numbers
     }
 }
 
-fn listed(count: u16, first: usize, max_len: u16) -> Numbers
+fn listed(count: u16, first: usize, max_len: u16) -> DetailFields
     ensures { λ r. ⌜ r ≡ listedAs count first «max_len» ⌝ }
 {
-    Numbers {
+    DetailFields {
         min: 0,
         max: 0,
         steps: 0,
@@ -135,7 +135,7 @@ fn listed(count: u16, first: usize, max_len: u16) -> Numbers
     }
 }
 
-fn numbers_of(d: Details) -> Numbers
+fn numbers_of(d: Details) -> DetailFields
     ensures { λ r. ⌜ r ≡ detailNumbers d ⌝ }
 {
     match d {

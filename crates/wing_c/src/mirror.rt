@@ -14,7 +14,7 @@ ghost use Rattle.wing_mirror.specs.declared.answer.FeedAnswer.the-variants.{Tak
 ghost use Rattle.wing_mirror.specs.Recall.{recallOf};
 ghost use Rattle.wing_mirror.specs.Query.{lookupAnswer, recordAnswer, sameAnswer};
 ghost use Rattle.wing_c.specs.Numbers.{minus, lookupNumbers, recordNumbers, sameNumber};
-ghost use Rattle.wing_c.specs.Written.{command, commandOf, setOrder, setOrderOf};
+ghost use Rattle.wing_c.specs.Written.{command, commandOf, mirrorCommand, mirrorCommandOf};
 ghost use Rattle.wing_c.specs.Kept.{stateIn, keptFeed, stateAfter, readAfter, feedKept, stateFed};
 use crate::answers;
 use crate::answers::WingFed;
@@ -102,7 +102,7 @@ pub extern "C" fn wing_set_int(
     id: i32,
     value: i32,
 ) -> WingSet
-    ensures { λ r. ⌜ setOrder r (now (out .exit)) (now (table .exit)) ≡ setOrderOf (mirrorSet full id (integer value) (tableOf (now (table .entry)) count) (now (out .entry))) ⌝ }
+    ensures { λ r. ⌜ mirrorCommand r (now (out .exit)) (now (table .exit)) ≡ mirrorCommandOf (mirrorSet full id (integer value) (tableOf (now (table .entry)) count) (now (out .entry))) ⌝ }
 {
     let r = set::set_int(table, count, out, id, value);
     let a = r.answer;
@@ -118,7 +118,7 @@ pub extern "C" fn wing_set_float(
     id: i32,
     bits: u32,
 ) -> WingSet
-    ensures { λ r. ⌜ setOrder r (now (out .exit)) (now (table .exit)) ≡ setOrderOf (mirrorSet full id (float bits) (tableOf (now (table .entry)) count) (now (out .entry))) ⌝ }
+    ensures { λ r. ⌜ mirrorCommand r (now (out .exit)) (now (table .exit)) ≡ mirrorCommandOf (mirrorSet full id (float bits) (tableOf (now (table .entry)) count) (now (out .entry))) ⌝ }
 {
     let r = set::set_float(table, count, out, id, bits);
     let a = r.answer;
@@ -134,7 +134,7 @@ pub extern "C" fn wing_set_string(
     id: i32,
     value: &[u8],
 ) -> WingSet
-    ensures { λ r. ⌜ setOrder r (now (out .exit)) (now (table .exit)) ≡ setOrderOf (mirrorSet full id (stringOf (now (value .entry))) (tableOf (now (table .entry)) count) (now (out .entry))) ⌝ }
+    ensures { λ r. ⌜ mirrorCommand r (now (out .exit)) (now (table .exit)) ≡ mirrorCommandOf (mirrorSet full id (stringOf (now (value .entry))) (tableOf (now (table .entry)) count) (now (out .entry))) ⌝ }
 {
     let r = set::set_string(table, count, out, id, value);
     let a = r.answer;

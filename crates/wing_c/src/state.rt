@@ -8,7 +8,7 @@ ghost use Rattle.wing_wire.specs.State.{stateOf, freshState, soundState};
 ghost use Rattle.wing_wire.specs.Reader.{over, nextOf, nextEvent};
 ghost use Rattle.wing_saved.specs.Saved.{savedSize, stateFrom, saveOf, HeadOf};
 ghost use Rattle.wing_c.specs.Written.{command, commandOf};
-ghost use Rattle.wing_c.specs.Kept.{stateStatus, stateIn, answerBytes, lentNext, nextLeft, keptNext, nextFrom, nextSound, nextKept, nextState, stateNext};
+ghost use Rattle.wing_c.specs.Kept.{stateStatus, stateIn, answerBytes, lentNext, nextLeft, keptNext, nextReplied, nextSound, nextKept, nextState, stateNext};
 use crate::answers::WingEvent;
 use crate::answers::WingWritten;
 use crate::answers::event;
@@ -89,7 +89,7 @@ fn next_lent(c: Control, store: &mut [u8], bytes: &[u8], out: &mut [u8]) -> Adva
 
 fn next_on(state: &mut [u8], c: Control, bytes: &[u8], out: &mut [u8]) -> WingEvent
     requires { ⌜ (soundState (stateIn c (now state)) ≡ true) × (length (now state) ≡ savedSize) × (length (now bytes) ≤ 65536) ⌝ }
-    ensures { λ r. ⌜ keptNext r (now (state .exit)) (now (out .exit)) ≡ nextFrom (nextOf (stateIn c (now (state .entry))) (now (bytes .entry))) (nextEvent (stateIn c (now (state .entry))) (now (bytes .entry))) (now (out .entry)) ⌝ }
+    ensures { λ r. ⌜ keptNext r (now (state .exit)) (now (out .exit)) ≡ nextReplied (nextOf (stateIn c (now (state .entry))) (now (bytes .entry))) (nextEvent (stateIn c (now (state .entry))) (now (bytes .entry))) (now (out .entry)) ⌝ }
     ensures { λ _. ⌜ stateFrom (now (state .exit)) ≡ ok (nextOf (stateIn c (now (state .entry))) (now (bytes .entry)) .state) ⌝ }
 {
     let r = next_lent(c, &mut state[HEAD..], bytes, out);
