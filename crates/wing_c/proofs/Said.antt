@@ -130,6 +130,25 @@ numbers-say =
       next-beside = next-beside;
       requested = requested;
       meters = meters;
-      refused-zero = λ n. record { written = refl; set = λ count. refl; lookup = refl; read = λ s. (refl, refl, refl, refl); next = λ node taken. (refl, refl, refl); requested = (refl, refl); meters = (refl, refl) };
-      other-zero = record { none = refl; integer = λ id x s. refl; float = λ id bits s. refl; string = λ id n s. refl; next-more = λ node taken. (refl, refl, refl); next-integer = λ x node taken. refl; next-float = λ bits node taken. refl; next-string = λ n node taken. refl; next-body = λ n node taken. refl; next-end = λ node taken. (refl, refl) };
+      refused-zero = λ n. record {
+        written = refl;
+        set = λ count. refl;
+        lookup = refl;
+        read = λ s. (refl, refl, refl, refl);
+        next = λ node taken. (refl, refl, refl);
+        requested = (refl, refl);
+        meters = (refl, refl);
+      };
+      other-zero = record {
+        none = refl;
+        integer = λ id x s. refl;
+        float = λ id bits s. refl;
+        string = λ id n s. refl;
+        next-more = λ node taken. (refl, refl, refl);
+        next-integer = λ x node taken. refl;
+        next-float = λ bits node taken. refl;
+        next-string = λ n node taken. refl;
+        next-body = λ n node taken. refl;
+        next-end = λ node taken. (refl, refl);
+      };
     }

@@ -98,6 +98,20 @@ definitions-say =
       begin-call = λ body b. begun (beginOf body) (begun-answer body b);
       step-call = λ body at left t. step (stepAt body at left t) (step-answer body at left t);
       item-call = λ body n b. item (itemNumbered body n) (numbered-answer body n b);
-      refused-zero = λ n. record { definition = (refl, refl, refl, refl, refl, refl, refl, refl, refl, refl); details = (refl, refl, refl, refl, refl, refl); walk = (refl, refl, refl); item = (refl, refl, refl, refl, refl, refl) };
-      other-zero = record { none = λ d e. rw e (refl, refl, refl, refl, refl, refl); floats = λ d min max steps e. rw e (refl, refl, refl); integers = λ d min max e. rw e (refl, refl, refl, refl); items = λ d count first e. rw e (refl, refl, refl, refl); text = λ d n e. rw e (refl, refl, refl, refl, refl); strings-item = λ a b. refl; float-item = λ bits b. (refl, refl); no-item = (refl, refl, refl, refl, refl, refl) };
+      refused-zero = λ n. record {
+        definition = (refl, refl, refl, refl, refl, refl, refl, refl, refl, refl);
+        details = (refl, refl, refl, refl, refl, refl);
+        walk = (refl, refl, refl);
+        item = (refl, refl, refl, refl, refl, refl);
+      };
+      other-zero = record {
+        none = λ d e. rw e (refl, refl, refl, refl, refl, refl);
+        floats = λ d min max steps e. rw e (refl, refl, refl);
+        integers = λ d min max e. rw e (refl, refl, refl, refl);
+        items = λ d count first e. rw e (refl, refl, refl, refl);
+        text = λ d n e. rw e (refl, refl, refl, refl, refl);
+        strings-item = λ a b. refl;
+        float-item = λ bits b. (refl, refl);
+        no-item = (refl, refl, refl, refl, refl, refl);
+      };
     }
