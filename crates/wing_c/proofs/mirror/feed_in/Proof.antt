@@ -21,11 +21,12 @@ feed-lent-requires c κs = search needs
 
 keep-state-requires : tie.Need-keep-state-requires
 keep-state-requires c κs =
-    let k = c .before .before .before .before .before .before .before .before .before .before .before .before in
-    let call = c .before .before .before .before .before .before .feed-lent in
+    let at-call = c .before .before .before .before .before .before in
+    let k = at-call .before .before .before .before .before .before in
+    let call = at-call .feed-lent in
     let state = now (k .args .state) in
-    let typed = kept-typed (k .args .c) _ (k .good .1 .0) state (are-bytes state (λ i. c .before .before .before .before .before .before .before .before .before .before .before .slice-known .given i .fits)) (k .pre .size) in
-    let are = are-bytes (now (k .args .bytes)) (λ i. c .before .before .before .before .before .before .before .before .before .shared-slice-known .given i .fits) in (
+    let typed = kept-typed (k .args .c) _ (k .good .1 .0) state (are-bytes state (λ i. at-call .before .before .before .before .before .slice-known .given i .fits)) (k .pre .size) in
+    let are = are-bytes (now (k .args .bytes)) (λ i. at-call .before .before .before .shared-slice-known .given i .fits) in (
       fed-sound state (k .args .c) (table (now (k .args .table)) (k .args .count)) (now (k .args .bytes)) (k .pre) (call .result) (call .last .1 .0) (call .last .1 .1 .0) (call .ensures) typed are,
       search needs,
     )
@@ -41,9 +42,11 @@ same-length-2 c = search needs
 
 returns : tie.Need-returns
 returns c =
-    let k = c .before .before .before .before .before .before .before .before .before .before .before .before .before .before .before .before in
-    let call = c .before .before .before .before .before .before .before .before .before .before .feed-lent in
-    let kept = c .before .before .before .keep-state .ensures in
+    let at-keep = c .before .before .before in
+    let at-call = at-keep .before .before .before .before .before .before .before in
+    let k = at-call .before .before .before .before .before .before in
+    let call = at-call .feed-lent in
+    let kept = at-keep .keep-state .ensures in
     fed-in (now (k .args .state)) (k .args .c) (table (now (k .args .table)) (k .args .count)) (now (k .args .bytes)) (k .pre) (call .result) (call .last .1 .0) (call .last .1 .1 .0)
     (call .ensures) (c .fed .ensures) (kept .0) (kept .1)
 

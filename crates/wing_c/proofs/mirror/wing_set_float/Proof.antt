@@ -19,8 +19,9 @@ same-length-2 c = search needs
 
 returns : tie.Need-returns
 returns c =
-    let entry = c .before .before .before .before .before .before .before .before .before .before in
-    let call = c .before .before .before .before .before .set-float in
+    let at-call = c .before .before .before .before .before in
+    let entry = at-call .before .before .before .before .before in
+    let call = at-call .set-float in
     set-as (call .result) (c .set .ensures) (rw (toZ-ofZ (entry .fits .id)) at (call .ensures))
 
 pub wing-set-float-spec : {M : Type 1} → statement M

@@ -37,8 +37,9 @@ same-length-2 c = search needs
 returns : tie.Need-returns
 unfolding nextWith stateNext
 returns c =
-    let k = c .before .before .before .before .before .before .before .before .before .before .before .before .before .before in
-    rw (head-sound (now (k .args .state)) (k .args .c) (k .pre) (ap (λ (l : List ℕ). soundState (stateOf (k .args .c) l)) (sym (lent-part (now (k .args .state)))) ∙ sym (c .before .before .before .before .before .before .before .before .is-sound-lent .ensures) ∙ c .before .before .before .before .before .before .before .if1 .taken))
+    let at-sound = c .before .before .before .before .before .before .before .before in
+    let k = at-sound .before .before .before .before .before .before in
+    rw (head-sound (now (k .args .state)) (k .args .c) (k .pre) (ap (λ (l : List ℕ). soundState (stateOf (k .args .c) l)) (sym (lent-part (now (k .args .state)))) ∙ sym (at-sound .is-sound-lent .ensures) ∙ c .before .before .before .before .before .before .before .if1 .taken))
     (c .before .before .before .before .next-sound .ensures)
 
 event-requires : tie.Need-event-requires

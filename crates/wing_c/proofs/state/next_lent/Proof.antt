@@ -30,11 +30,13 @@ same-length-2 c = search needs
 
 returns : tie.Need-returns
 returns c =
-    let k = c .before .before .before .before .before .before .before .before .before .before .before .before .before .before .before .before .before in
-    let ran = c .before .before .before .before .before .before .before .before .before .before .before .before .advance in
+    let at-copy = c .before .before .before .before .before .before in
+    let at-run = at-copy .before .before .before .before .before .before in
+    let k = at-run .before .before .before .before .before in
+    let ran = at-run .advance in
     next-left (stateOf (k .args .c) (now (k .args .store))) (now (k .args .bytes)) (now (k .args .out)) (ran .result) (ran .last .1 .0) (k .pre .0) (k .pre .1) (ran .ensures)
     (c .before .before .release .ensures)
-    (c .before .before .before .before .before .before .copy-front .ensures ∙ ap (λ (n : ℕ). over (take n (ran .last .1 .0)) (now (k .args .out))) (c .before .before .before .before .before .before .before .bytes-of .ensures))
+    (at-copy .copy-front .ensures ∙ ap (λ (n : ℕ). over (take n (ran .last .1 .0)) (now (k .args .out))) (at-copy .before .bytes-of .ensures))
 
 pub next-lent-spec : {M : Type 1} → statement M
 next-lent-spec =

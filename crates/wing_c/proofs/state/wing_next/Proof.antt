@@ -15,7 +15,9 @@ enum-told : tie.Need-enum-told
 enum-told c = search needs
 
 next-in-requires : tie.Need-next-in-requires
-next-in-requires c κs = head-good (now (c .before .before .before .before .before .before .before .before .before .before .args .state)) (c .before .before .before .before .before .head .result) (c .before .before .before .before .before .head .ensures) (c .before .before .before .enum-told .given .1)
+next-in-requires c κs =
+    let at-head = c .before .before .before .before .before in
+    head-good (now (at-head .before .before .before .before .before .args .state)) (at-head .head .result) (at-head .head .ensures) (c .before .before .before .enum-told .given .1)
 
 enum-known-a : tie.Need-enum-known-a
 enum-known-a c = search needs

@@ -19,8 +19,9 @@ same-length c = search needs
 returns : tie.Need-returns
 unfolding lentFeed
 returns c =
-    let call = c .before .before .before .before .before .feed-lent in
-    let entry = c .before .before .before .before .before .before .before .before .before .before .before .before in
+    let at-call = c .before .before .before .before .before in
+    let call = at-call .feed-lent in
+    let entry = at-call .before .before .before .before .before .before .before in
     let whole : length (entry .args .state .store) ≡ 4096 = search needs in
     rw (eq-eqb _ _ whole) at (call .ensures)
 

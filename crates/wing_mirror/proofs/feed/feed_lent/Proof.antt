@@ -30,7 +30,10 @@ same-length-2 c = search needs
 
 returns-2 : tie.Need-returns-2
 unfolding lentFeed mirrorFeed
-returns-2 c = simp (eq-eqb _ _ (c .before .before .before .before .before .before .before .before .before .before .before .before .before .before .if1 .left), ← c .before .before .before .before .before .before .before .before .before .before .before .before .is-sound-lent .ensures, c .before .before .before .before .before .before .before .before .before .before .before .if2 .taken, ← c .before .before .before .before .before .before .before .before .before .is-usable .ensures, c .before .before .before .before .before .before .before .before .if3 .taken, le-leb _ _ (c .before .before .before .before .before .before .before .if4 .taken), c .before .before .before .before .fed .ensures)
+returns-2 c =
+    let at-fed = c .before .before .before .before in
+    let at-usable = at-fed .before .before .before .before .before in
+    simp (eq-eqb _ _ (at-usable .before .before .before .before .before .if1 .left), ← at-usable .before .before .before .is-sound-lent .ensures, at-usable .before .before .if2 .taken, ← at-usable .is-usable .ensures, at-fed .before .before .before .before .if3 .taken, le-leb _ _ (at-fed .before .before .before .if4 .taken), at-fed .fed .ensures)
 
 refused-requires-2 : tie.Need-refused-requires-2
 refused-requires-2 c κs = search needs
