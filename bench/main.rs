@@ -227,10 +227,6 @@ fn calls_for(work: &mut Work) -> u32 {
 fn measure(p: &mut Part) {
     let (a, b) = (calls_for(&mut p.libwing), calls_for(&mut p.port));
     let mut each: Vec<(f64, f64)> = (0..21).map(|_| (seconds(&mut p.libwing, a), seconds(&mut p.port, b))).collect();
-    let median = |mut v: Vec<f64>| {
-        v.sort_by(f64::total_cmp);
-        (v[v.len() / 10], v[v.len() / 2], v[v.len() - 1 - v.len() / 10])
-    };
     let rust = median(each.iter().map(|e| e.0).collect()).1;
     let port = median(each.iter().map(|e| e.1).collect()).1;
     let (low, middle, high) = median(each.drain(..).map(|e| e.0 / e.1).collect());
@@ -262,11 +258,17 @@ fn alone() {
     print_alone("recall", |n| n > 6 * 1024, Box::new(move || unsafe { port_recall(black_box(&recalled).as_ptr(), m, count, out.as_mut_ptr(), out.len()) as u64 }));
 }
 
-// A call on a mirror of 1,024 records, made directly and through the crate; both leave the mirror as it was.
+// A call on a mirror of 1,024 records, made directly and through the crate; both leave the mirror as it was. Both sides are
+// calls into one archive, so that they run the same code but for the border.
 struct Pair {
-    name: &'static str,
     direct: Work,
     by_crate: Work,
+}
+
+// Makes both sides anew, each with memory of its own.
+struct Pairing {
+    name: &'static str,
+    make: Box<dyn Fn() -> Pair>,
 }
 
 // The mirror of the capture, and its table.
@@ -277,11 +279,10 @@ fn loaded() -> (Mirror, Vec<u8>) {
     (mirror, table)
 }
 
-fn feeding(name: &'static str, bytes: Vec<u8>) -> Pair {
+fn feeding(bytes: Vec<u8>) -> Pair {
     let (mut mirror, mut table) = loaded();
     let (same, m) = (bytes.clone(), table.len());
     Pair {
-        name,
         direct: Box::new(move || unsafe { port_feed(black_box(&mut table).as_mut_ptr(), m, 1024, black_box(&same).as_ptr(), same.len()) as u64 }),
         by_crate: Box::new(move || {
             black_box(mirror.feed(black_box(&bytes)).unwrap());
@@ -295,42 +296,64 @@ fn recalling() -> Pair {
     let mut out = vec![0u8; 2 + 395 * 1024];
     let mut same = out.clone();
     Pair {
-        name: "recall",
         direct: Box::new(move || unsafe { port_recall(black_box(&table).as_ptr(), table.len(), 1024, same.as_mut_ptr(), same.len()) as u64 }),
         by_crate: Box::new(move || mirror.recall_into(black_box(&mut out)).unwrap() as u64),
     }
 }
 
-fn pairs() -> Vec<Pair> {
+fn pairings() -> Vec<Pairing> {
     let most = capture().repeat(65536 / capture().len());
-    vec![feeding("feed up to 65,536 bytes", most), feeding("feed 1,024 values", capture()), feeding("feed 6 bytes", vec![0xd7, 0, 0, 3, 0xe8, 5]), recalling()]
+    let fed = |name, bytes: Vec<u8>| Pairing { name, make: Box::new(move || feeding(bytes.clone())) };
+    vec![
+        fed("feed up to 65,536 bytes", most),
+        fed("feed 1,024 values", capture()),
+        fed("feed 6 bytes", vec![0xd7, 0, 0, 3, 0xe8, 5]),
+        Pairing { name: "recall", make: Box::new(recalling) },
+    ]
 }
 
-fn measure_pair(p: &mut Pair) {
-    let calls = calls_for(&mut p.direct);
-    let mut each: Vec<(f64, f64)> = (0..41).map(|_| (seconds(&mut p.direct, calls), seconds(&mut p.by_crate, calls))).collect();
-    let mut ratios: Vec<f64> = each.iter().map(|e| e.1 / e.0).collect();
-    ratios.sort_by(f64::total_cmp);
-    each.sort_by(|a, b| a.0.total_cmp(&b.0));
-    let direct = each[20].0;
-    each.sort_by(|a, b| a.1.total_cmp(&b.1));
-    println!("{:<32} {:>10.1} {:>10.1} {:>7.3} {:>6.3}-{:<6.3}", p.name, direct * 1e6, each[20].1 * 1e6, ratios[20], ratios[4], ratios[36]);
+fn median(mut v: Vec<f64>) -> (f64, f64, f64) {
+    v.sort_by(f64::total_cmp);
+    (v[v.len() / 10], v[v.len() / 2], v[v.len() - 1 - v.len() / 10])
+}
+
+// Seconds of a direct call and of one through the crate: the medians of nine turns each, side by side.
+fn round(p: &mut Pair) -> (f64, f64) {
+    let calls = calls_for(&mut p.direct) / 4 + 1;
+    let each: Vec<(f64, f64)> = (0..9).map(|_| (seconds(&mut p.direct, calls), seconds(&mut p.by_crate, calls))).collect();
+    (median(each.iter().map(|e| e.0).collect()).1, median(each.iter().map(|e| e.1).collect()).1)
+}
+
+// Where the memory of a side happens to lie can make a tenth of a call's time, so 21 rounds have memory of their own each, at
+// other places: the blocks before it differ in length.
+fn measure_pairing(p: &Pairing) {
+    let mut each = Vec::new();
+    for turn in 0..21 {
+        let between = vec![1u8; 4096 * turn + 192 * turn];
+        let mut pair = (p.make)();
+        assert_eq!((pair.direct)(), (pair.by_crate)(), "{}: the two sides answer differently", p.name);
+        each.push(round(&mut pair));
+        black_box(&between);
+    }
+    let (direct, by_crate) = (median(each.iter().map(|e| e.0).collect()).1, median(each.iter().map(|e| e.1).collect()).1);
+    let (low, middle, high) = median(each.iter().map(|e| e.1 / e.0).collect());
+    println!("{:<32} {:>10.1} {:>10.1} {:>7.3} {:>6.3}-{:<6.3}", p.name, direct * 1e6, by_crate * 1e6, middle, low, high);
 }
 
 fn through_the_crate() {
     println!("{:<32} {:>10} {:>10} {:>7} {:>13}", "through the crate", "direct us", "crate us", "ratio", "10%-90%");
-    for p in &mut pairs() {
-        assert_eq!((p.direct)(), (p.by_crate)(), "{}: the two sides answer differently", p.name);
-        measure_pair(p);
+    for p in &pairings() {
+        measure_pairing(p);
     }
 }
 
 // One round of one call, and its name.
 fn crate_once(part: &str, side: &str) {
-    let p = &mut pairs()[part.parse::<usize>().unwrap()];
+    let p = &pairings()[part.parse::<usize>().unwrap()];
+    let mut pair = (p.make)();
     let done = match side {
-        "crate" => (p.by_crate)(),
-        "direct" => (p.direct)(),
+        "crate" => (pair.by_crate)(),
+        "direct" => (pair.direct)(),
         _ => 0,
     };
     println!("{} {done}", p.name);
