@@ -20,17 +20,16 @@ feed-lent-requires : tie.Need-feed-lent-requires
 feed-lent-requires c κs = search needs
 
 keep-state-requires : tie.Need-keep-state-requires
-keep-state-requires c κs =
-    (
-      let at-feed-lent = c .before .before .before .before .before .before in
+keep-state-requires c κs = (
+  let at-feed-lent = c .before .before .before .before .before .before in
       let k = at-feed-lent .before .before .before .before .before .before in
       let call = at-feed-lent .feed-lent in
       let state = now (k .args .state) in
       let typed = kept-typed (k .args .c) _ (k .good .1 .0) state (are-bytes state (λ i. at-feed-lent .before .before .before .before .before .slice-known .given i .fits)) (k .pre .size) in
       let are = are-bytes (now (k .args .bytes)) (λ i. at-feed-lent .before .before .before .shared-slice-known .given i .fits) in
       fed-sound state (k .args .c) (table (now (k .args .table)) (k .args .count)) (now (k .args .bytes)) (k .pre) (call .result) (call .last .1 .0) (call .last .1 .1 .0) (call .ensures) typed are,
-      search needs,
-    )
+  search needs,
+)
 
 fed-requires : tie.Need-fed-requires
 fed-requires c κs = search needs

@@ -27,17 +27,16 @@ next-lent-requires c κs =
     (ap (λ (l : List ℕ). soundState (stateOf (k .args .c) l)) (lent-part (now (k .args .state))) ∙ k .pre .0, k .pre .2)
 
 keep-requires : tie.Need-keep-requires
-keep-requires c κs =
-    (
-      let at-next-lent = c .before .before .before .before .before .before in
+keep-requires c κs = (
+  let at-next-lent = c .before .before .before .before .before .before in
       let k = at-next-lent .before .before .before .before .before .before in
       let call = at-next-lent .next-lent in
       let state = now (k .args .state) in
       let typed = kept-typed (k .args .c) _ (k .good .1 .0) state (are-bytes state (λ i. at-next-lent .before .before .before .before .before .slice-known .given i .fits)) (k .pre .1) in
       let are = are-bytes (now (k .args .bytes)) (λ i. at-next-lent .before .before .before .before .shared-slice-known .given i .fits) in
       next-sound state (k .args .c) (now (k .args .bytes)) (now (k .args .out)) (k .pre .1) (call .result) (call .last .1 .0) _ (call .ensures) typed are (k .pre .0),
-      search needs,
-    )
+  search needs,
+)
 
 event-requires : tie.Need-event-requires
 event-requires c κs = search needs
