@@ -2,6 +2,7 @@ pub mod Below
 pub mod Branches
 pub mod Arrays
 pub mod Eight
+pub mod Arms
 pub mod Numerals
 pub mod Characters
 pub mod Bodies

@@ -132,14 +132,6 @@ itemFrom StringEnum rs = Strings (spanOf (nth rs 0)) (spanOf (nth rs 1))
 itemFrom FloatEnum rs = Float (nth rs 0 .value) (spanOf (nth rs 1))
 itemFrom String rs = noItem
 
--- a type without items has none
-abbrev pub withoutItem : Cursor → ItemRead
-withoutItem c = record { item = noItem; next = c }
-
--- a type that adds no fields has no details
-abbrev pub withoutDetails : Cursor → DetailsRead
-withoutDetails c = record { details = None; next = c }
-
 -- the item at a cursor, and the cursor after it
 unfoldable pub itemAt : NodeType → List ℕ → Cursor → ItemRead
 itemAt t body c = record { item = itemFrom t (reads (itemOf t) body c); next = after (itemOf t) body c }
@@ -162,12 +154,6 @@ detailsAt t body c =
     let f = named (added t) body c in
     let first = past (added t) body c in
     record { details = detailsFrom t f (first .at); next = after (itemsOf t (f Count .value)) body first }
-
--- the same for a type with a count
-unfoldable pub listedAt : NodeType → List ℕ → Cursor → DetailsRead
-listedAt t body c =
-    let count = readAt (number 2) body c in
-    record { details = Items (count .value) (count .next .at); next = after (itemsOf t (count .value)) body (count .next) }
 
 -- 01: type = flags div 16 mod 16
 abbrev pub kindFrom : (FieldName → FieldRead) → NodeType

@@ -2,7 +2,7 @@
 // a refusal it stays as it is, so the first failing field counts.
 ghost use mathlib.Core.Path.{_≡_};
 ghost use Rattle.wing_node.specs.Bool.{if};
-ghost use Rattle.wing_node.specs.Cursor.{number, string, start, stopped, nothing, readAt, shortOf};
+ghost use Rattle.wing_node.specs.Cursor.{number, string, stopped, nothing, readAt, shortOf};
 use crate::field::least;
 use crate::field::left;
 use crate::field::u16_at;
@@ -25,12 +25,6 @@ pub struct FieldRead {
 pub struct ShortRead {
     pub value: u16,
     pub next: Cursor,
-}
-
-pub(crate) fn begin() -> Cursor
-    ensures { λ r. ⌜ r ≡ start ⌝ }
-{
-    Cursor { at: 0, refused: 0 }
 }
 
 fn refuse(c: Cursor, why: u8) -> FieldRead
@@ -124,8 +118,9 @@ pub(crate) fn read_string(body: &[u8], c: Cursor) -> FieldRead
     }
     let len = body[at] as usize;
     let first = at + 1;
-    let end = first + least(len, there - 1);
-    let why = string_fault(there - 1 < len, is_utf8(&body[first..end]));
+    let rest = there - 1;
+    let end = first + least(len, rest);
+    let why = string_fault(rest < len, is_utf8(&body[first..end]));
     if why != 0 {
         return refuse(c, why);
     }

@@ -2,10 +2,8 @@
 // field by field in the order of the wire, nothing copied out of the body.
 ghost use mathlib.Core.Path.{_≡_};
 ghost use Rattle.wing_node.specs.Cursor.{after};
-ghost use Rattle.wing_node.specs.Definition.{spanOf, withoutItem, withoutDetails, itemAt, itemsOf, listedAt, detailsAt, parsedFrom, definitionOf};
+ghost use Rattle.wing_node.specs.Definition.{itemAt, itemsOf, detailsAt, parsedFrom, definitionOf};
 use crate::cursor::Cursor;
-use crate::cursor::FieldRead;
-use crate::cursor::begin;
 use crate::cursor::read_16;
 use crate::cursor::read_32;
 use crate::cursor::read_string;
@@ -19,15 +17,6 @@ use crate::node_type::unit_of;
 pub struct Span {
     pub start: usize,
     pub len: u32,
-}
-
-fn span_of(r: FieldRead) -> Span
-    ensures { λ s. ⌜ s ≡ spanOf r ⌝ }
-{
-    Span {
-        start: r.start,
-        len: r.value,
-    }
 }
 
 // An item of a string or float enum; none, or the number of the refusal.
@@ -79,15 +68,18 @@ fn string_item(body: &[u8], c: Cursor) -> ItemRead
     ensures { λ r. ⌜ r ≡ itemAt NodeType.StringEnum (now (body .entry)) c ⌝ }
 {
     let item = read_string(body, c);
-    let between = item.next;
-    let long_item = read_string(body, between);
+    let long_item = read_string(body, item.next);
     let next = long_item.next;
-    let a = span_of(item);
-    let b = span_of(long_item);
     ItemRead {
         item: Item::Strings {
-            item: a,
-            long_item: b,
+            item: Span {
+                start: item.start,
+                len: item.value,
+            },
+            long_item: Span {
+                start: long_item.start,
+                len: long_item.value,
+            },
         },
         next: next,
     }
@@ -97,25 +89,17 @@ fn float_item(body: &[u8], c: Cursor) -> ItemRead
     ensures { λ r. ⌜ r ≡ itemAt NodeType.FloatEnum (now (body .entry)) c ⌝ }
 {
     let item = read_32(body, c);
-    let between = item.next;
-    let long_item = read_string(body, between);
+    let long_item = read_string(body, item.next);
     let next = long_item.next;
-    let b = span_of(long_item);
     ItemRead {
         item: Item::Float {
             item: item.value,
-            long_item: b,
+            long_item: Span {
+                start: long_item.start,
+                len: long_item.value,
+            },
         },
         next: next,
-    }
-}
-
-fn no_item(c: Cursor) -> ItemRead
-    ensures { λ r. ⌜ r ≡ withoutItem c ⌝ }
-{
-    ItemRead {
-        item: Item::None,
-        next: c,
     }
 }
 
@@ -123,14 +107,12 @@ pub(crate) fn read_item(body: &[u8], kind: NodeType, c: Cursor) -> ItemRead
     ensures { λ r. ⌜ r ≡ itemAt kind (now (body .entry)) c ⌝ }
 {
     match kind {
-        NodeType::Node => no_item(c),
-        NodeType::LinearFloat => no_item(c),
-        NodeType::LogarithmicFloat => no_item(c),
-        NodeType::FaderLevel => no_item(c),
-        NodeType::Integer => no_item(c),
         NodeType::StringEnum => string_item(body, c),
         NodeType::FloatEnum => float_item(body, c),
-        NodeType::String => no_item(c),
+        _ => ItemRead {
+            item: Item::None,
+            next: c,
+        },
     }
 }
 
@@ -141,13 +123,11 @@ pub(crate) fn past_items(body: &[u8], kind: NodeType, count: u16, first: Cursor)
     let mut c = first;
     let mut left = count;
     while 0 < left {
-        let refused = c.refused;
-        if refused != 0 {
+        if c.refused != 0 {
             return c;
         }
         let read = read_item(body, kind, c);
-        let next = read.next;
-        c = next;
+        c = read.next;
         left -= 1;
     }
     c
@@ -157,10 +137,8 @@ fn floats(body: &[u8], c: Cursor) -> DetailsRead
     ensures { λ r. ⌜ r ≡ detailsAt NodeType.LinearFloat (now (body .entry)) c ⌝ }
 {
     let min = read_32(body, c);
-    let past_min = min.next;
-    let max = read_32(body, past_min);
-    let past_max = max.next;
-    let steps = read_32(body, past_max);
+    let max = read_32(body, min.next);
+    let steps = read_32(body, max.next);
     let next = steps.next;
     DetailsRead {
         details: Details::Floats {
@@ -176,8 +154,7 @@ fn integers(body: &[u8], c: Cursor) -> DetailsRead
     ensures { λ r. ⌜ r ≡ detailsAt NodeType.Integer (now (body .entry)) c ⌝ }
 {
     let min = read_32(body, c);
-    let past_min = min.next;
-    let max = read_32(body, past_min);
+    let max = read_32(body, min.next);
     let next = max.next;
     DetailsRead {
         details: Details::Integers {
@@ -188,53 +165,34 @@ fn integers(body: &[u8], c: Cursor) -> DetailsRead
     }
 }
 
-fn listed(body: &[u8], kind: NodeType, c: Cursor) -> DetailsRead
-    ensures { λ r. ⌜ r ≡ listedAt kind (now (body .entry)) c ⌝ }
-{
-    let count = read_16(body, c);
-    let first = count.next;
-    let next = past_items(body, kind, count.value, first);
-    DetailsRead {
-        details: Details::Items {
-            count: count.value,
-            first: first.at,
-        },
-        next: next,
-    }
-}
-
-fn max_len(body: &[u8], c: Cursor) -> DetailsRead
-    ensures { λ r. ⌜ r ≡ detailsAt NodeType.String (now (body .entry)) c ⌝ }
-{
-    let max = read_16(body, c);
-    let next = max.next;
-    DetailsRead {
-        details: Details::String { max_len: max.value },
-        next: next,
-    }
-}
-
-fn no_details(c: Cursor) -> DetailsRead
-    ensures { λ r. ⌜ r ≡ withoutDetails c ⌝ }
-{
-    DetailsRead {
-        details: Details::None,
-        next: c,
-    }
-}
-
 fn read_details(body: &[u8], kind: NodeType, c: Cursor) -> DetailsRead
     ensures { λ r. ⌜ r ≡ detailsAt kind (now (body .entry)) c ⌝ }
 {
     match kind {
-        NodeType::Node => no_details(c),
-        NodeType::LinearFloat => floats(body, c),
-        NodeType::LogarithmicFloat => floats(body, c),
-        NodeType::FaderLevel => no_details(c),
+        NodeType::LinearFloat | NodeType::LogarithmicFloat => floats(body, c),
         NodeType::Integer => integers(body, c),
-        NodeType::StringEnum => listed(body, kind, c),
-        NodeType::FloatEnum => listed(body, kind, c),
-        NodeType::String => max_len(body, c),
+        NodeType::StringEnum | NodeType::FloatEnum => {
+            let count = read_16(body, c);
+            DetailsRead {
+                details: Details::Items {
+                    count: count.value,
+                    first: count.next.at,
+                },
+                next: past_items(body, kind, count.value, count.next),
+            }
+        }
+        NodeType::String => {
+            let max = read_16(body, c);
+            let next = max.next;
+            DetailsRead {
+                details: Details::String { max_len: max.value },
+                next: next,
+            }
+        }
+        NodeType::Node | NodeType::FaderLevel => DetailsRead {
+            details: Details::None,
+            next: c,
+        },
     }
 }
 
@@ -252,35 +210,32 @@ fn finish(refused: u8, d: Definition) -> Parsed
 pub fn from_bytes(body: &[u8]) -> Parsed
     ensures { λ r. ⌜ r ≡ definitionOf (now (body .entry)) ⌝ }
 {
-    let parent_id = read_32(body, begin());
-    let past_parent_id = parent_id.next;
-    let id = read_32(body, past_parent_id);
-    let past_id = id.next;
-    let index = read_16(body, past_id);
-    let past_index = index.next;
-    let name = read_string(body, past_index);
-    let past_name = name.next;
-    let long_name = read_string(body, past_name);
-    let past_long_name = long_name.next;
-    let flags = read_16(body, past_long_name);
-    let past_flags = flags.next;
+    let parent_id = read_32(body, Cursor { at: 0, refused: 0 });
+    let id = read_32(body, parent_id.next);
+    let index = read_16(body, id.next);
+    let name = read_string(body, index.next);
+    let long_name = read_string(body, name.next);
+    let flags = read_16(body, long_name.next);
     let bits = flags.value;
     let kind = type_of(bits / 16 % 16);
-    let found = read_details(body, kind, past_flags);
-    let end = found.next;
-    let name_span = span_of(name);
-    let long_span = span_of(long_name);
-    let more = found.details;
+    let found = read_details(body, kind, flags.next);
+    let details = found.details;
     let d = Definition {
         parent_id: to_i32(parent_id.value),
         id: to_i32(id.value),
         index: index.value,
-        name: name_span,
-        long_name: long_span,
+        name: Span {
+            start: name.start,
+            len: name.value,
+        },
+        long_name: Span {
+            start: long_name.start,
+            len: long_name.value,
+        },
         node_type: kind,
         unit: unit_of(bits % 16),
         read_only: bits / 512 % 2 == 1,
-        details: more,
+        details: details,
     };
-    finish(end.refused, d)
+    finish(found.next.refused, d)
 }

@@ -111,8 +111,9 @@ pub fn put_u16(out: &mut [u8], at: usize, n: u16) -> bool
     if left(out, at) < 2 {
         return false;
     }
-    out[at] = (n / 256 % 256) as u8;
-    out[at + 1] = (n % 256) as u8;
+    let bytes = bytes_16(n);
+    out[at] = bytes[0];
+    out[at + 1] = bytes[1];
     true
 }
 
@@ -123,10 +124,11 @@ pub fn put_u32(out: &mut [u8], at: usize, n: u32) -> bool
     if left(out, at) < 4 {
         return false;
     }
-    out[at] = (n / 256 / 256 / 256 % 256) as u8;
-    out[at + 1] = (n / 256 / 256 % 256) as u8;
-    out[at + 2] = (n / 256 % 256) as u8;
-    out[at + 3] = (n % 256) as u8;
+    let bytes = bytes_32(n);
+    out[at] = bytes[0];
+    out[at + 1] = bytes[1];
+    out[at + 2] = bytes[2];
+    out[at + 3] = bytes[3];
     true
 }
 

@@ -1,6 +1,6 @@
 // The items of a definition, one after the other or by number, on a plain slice with numbers.
 ghost use mathlib.Core.Path.{_≡_};
-ghost use Rattle.wing_node.specs.Items.{walk, walkFrom, beginOf, stayed, stepAt, numberedFrom, itemNumbered};
+ghost use Rattle.wing_node.specs.Items.{walkFrom, beginOf, stayed, stepAt, numberedFrom, itemNumbered};
 use crate::cursor::Cursor;
 use crate::definition::Details;
 use crate::definition::Item;
@@ -29,29 +29,20 @@ pub struct Step {
     pub next: Walk,
 }
 
-fn walk_of(at: usize, left: u16, kind: NodeType) -> Walk
-    ensures { λ r. ⌜ r ≡ walk at left kind ⌝ }
-{
-    Walk {
-        at: at,
-        left: left,
-        kind: kind,
-    }
-}
-
 fn first_of(kind: NodeType, details: Details) -> Walk
     ensures { λ r. ⌜ r ≡ walkFrom kind details ⌝ }
 {
     match details {
-        Details::Items { count, first } => walk_of(first, count, kind),
-        Details::None => walk_of(0, 0, kind),
-        Details::Floats {
-            min: _,
-            max: _,
-            steps: _,
-        } => walk_of(0, 0, kind),
-        Details::Integers { min: _, max: _ } => walk_of(0, 0, kind),
-        Details::String { max_len: _ } => walk_of(0, 0, kind),
+        Details::Items { count, first } => Walk {
+            at: first,
+            left: count,
+            kind: kind,
+        },
+        _ => Walk {
+            at: 0,
+            left: 0,
+            kind: kind,
+        },
     }
 }
 
@@ -64,8 +55,7 @@ pub fn items_begin(body: &[u8]) -> Begun
         Parsed::Good(d) => {
             let kind = d.node_type;
             let details = d.details;
-            let first = first_of(kind, details);
-            Begun::Good(first)
+            Begun::Good(first_of(kind, details))
         }
         Parsed::Refused(why) => Begun::Refused(why),
     }
@@ -93,13 +83,11 @@ pub fn item_step(body: &[u8], at: usize, left: u16, kind: NodeType) -> Step
     }
     if has_items(kind) {
         let read = read_item(body, kind, Cursor { at: at, refused: 0 });
-        let next = read.next;
-        let refused = next.refused;
-        if refused != 0 {
-            return stay(Item::Refused(refused), at, left, kind);
+        if read.next.refused != 0 {
+            return stay(Item::Refused(read.next.refused), at, left, kind);
         }
         let item = read.item;
-        return stay(item, next.at, left - 1, kind);
+        return stay(item, read.next.at, left - 1, kind);
     }
     stay(Item::None, at, left, kind)
 }
@@ -107,15 +95,21 @@ pub fn item_step(body: &[u8], at: usize, left: u16, kind: NodeType) -> Step
 fn numbered(body: &[u8], number: usize, first: Walk) -> Item
     ensures { λ r. ⌜ r ≡ numberedFrom (now (body .entry)) number first ⌝ }
 {
-    let at = first.at;
-    let left = first.left;
-    let kind = first.kind;
-    if left as usize <= number {
+    if first.left as usize <= number {
         return Item::Refused(14);
     }
     let before = number as u16;
-    let c = past_items(body, kind, before, Cursor { at: at, refused: 0 });
-    let there = item_step(body, c.at, left - before, kind);
+    let kind = first.kind;
+    let c = past_items(
+        body,
+        kind,
+        before,
+        Cursor {
+            at: first.at,
+            refused: 0,
+        },
+    );
+    let there = item_step(body, c.at, first.left - before, kind);
     there.item
 }
 

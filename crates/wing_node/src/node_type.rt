@@ -63,13 +63,7 @@ pub fn has_items(kind: NodeType) -> bool
     ensures { λ r. ⌜ r ≡ hasItems kind ⌝ }
 {
     match kind {
-        NodeType::Node => false,
-        NodeType::LinearFloat => false,
-        NodeType::LogarithmicFloat => false,
-        NodeType::FaderLevel => false,
-        NodeType::Integer => false,
-        NodeType::StringEnum => true,
-        NodeType::FloatEnum => true,
-        NodeType::String => false,
+        NodeType::StringEnum | NodeType::FloatEnum => true,
+        _ => false,
     }
 }

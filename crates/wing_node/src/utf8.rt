@@ -60,8 +60,9 @@ fn is_in_range(s: &[u8], i: usize, low: u8, high: u8) -> bool
     ensures { λ r. ⌜ r ≡ begins ((low to high) ∷ []) (drop i (now (s .entry))) ⌝ }
 {
     if i < s.len() {
-        if low <= s[i] {
-            return s[i] <= high;
+        let byte = s[i];
+        if low <= byte {
+            return byte <= high;
         }
     }
     false

@@ -44,9 +44,10 @@ pub struct Stepped<'a> {
     pub next: Walker<'a>,
 }
 
-fn start_of(begun: Begun) -> Start
-    ensures { λ r. ⌜ r ≡ startOf begun ⌝ }
+fn begin_at(body: &[u8]) -> Start
+    ensures { λ r. ⌜ r ≡ startOf (beginOf (now (body .entry))) ⌝ }
 {
+    let begun = items_begin(body);
     match begun {
         Begun::Good(first) => {
             let kind = first.kind;
@@ -64,13 +65,6 @@ fn start_of(begun: Begun) -> Start
             kind: NodeType::Node,
         },
     }
-}
-
-fn begin_at(body: &[u8]) -> Start
-    ensures { λ r. ⌜ r ≡ startOf (beginOf (now (body .entry))) ⌝ }
-{
-    let begun = items_begin(body);
-    start_of(begun)
 }
 
 // A walker at the first item, or the parser's 4 or 5.

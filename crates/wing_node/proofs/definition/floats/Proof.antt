@@ -24,7 +24,7 @@ returns : tie.Need-returns
 unfolding detailsAt reads after times
 returns c =
     let back : toZ w32 (ofZ w32 (c .to-i32 .result)) ≡ c .to-i32 .result = search needs in
-    rw back (simp (c .to-i32 .ensures, c .before .before .read-323 .ensures, c .before .before .before .before .read-322 .ensures, c .before .before .before .before .before .before .read-32 .ensures))
+    rw back (simp (c .to-i32 .ensures, c .before .before .read-323 .ensures, c .before .before .before .read-322 .ensures, c .before .before .before .before .read-32 .ensures))
 
 pub floats-spec : {M : Type 1} → statement M
 floats-spec =

@@ -1,16 +1,19 @@
 -- `definitionOf` opened is the code's reads one after the other: the contract of each call gives its field, and that of `finish` the refusal or the
 -- definition.
-use mathlib.Core.Path.{_≡_, _∙_}
+use mathlib.Core.Path.{_≡_, _∙_, ap, ap₂}
 use mir.Syntax.{w32}
 use mir.Val.{toZ, ofZ}
-use Rattle.wing_node.specs.Cursor.{reads, after}
-use Rattle.wing_node.specs.Definition.{definitionOf}
+use Prim.Native.Nat.{_/_, _%_}
+use lib.Dec.{eqb}
+use Rattle.wing_node.specs.Signed.{signed}
+use Rattle.wing_node.specs.Types.{typeOf, unitOf}
+use Rattle.wing_node.specs.Cursor.{number, string, start, readAt, reads, after, shortOf}
+use Rattle.wing_node.specs.Definition.{ParentId, Id, Index, Name, LongName, Flags, header, named, past, kindFrom, spanOf, detailsAt, parsedFrom, definitionOf}
+use Rattle.wing_node.specs.declared.cursor.FieldRead.{FieldRead}
+use Rattle.wing_node.specs.declared.cursor.ShortRead.{ShortRead}
 use borrow.Author.Needs.{needs}
 use Rattle.wing_node.proofs.definition.from_bytes.Statement.{statement}
 use Rattle.wing_node.proofs.definition.from_bytes.Tie as tie
-
-begin-requires : tie.Need-begin-requires
-begin-requires c κs = search needs
 
 read-32-requires : tie.Need-read-32-requires
 read-32-requires c κs = search needs
@@ -36,12 +39,6 @@ type-of-requires c κs = search needs
 read-details-requires : tie.Need-read-details-requires
 read-details-requires c κs = search needs
 
-span-of-requires : tie.Need-span-of-requires
-span-of-requires c κs = search needs
-
-span-of-requires-2 : tie.Need-span-of-requires-2
-span-of-requires-2 c κs = search needs
-
 to-i32-requires : tie.Need-to-i32-requires
 to-i32-requires c κs = search needs
 
@@ -57,43 +54,42 @@ finish-requires c κs = search needs
 returns : tie.Need-returns
 unfolding definitionOf reads after
 returns c =
-    let at-to-i32 = c .before .before .before in
-    let back : toZ w32 (ofZ w32 (at-to-i32 .to-i32 .result)) ≡ at-to-i32 .to-i32 .result = search needs in
-    let back2 : toZ w32 (ofZ w32 (c .before .before .to-i322 .result)) ≡ c .before .before .to-i322 .result = search needs in
-    let at-span-of2 = at-to-i32 .before in
-    let at-span-of = at-span-of2 .before in
-    let at-read-details = at-span-of .before .before in
-    let at-type-of = at-read-details .before in
-    let at-read-162 = at-type-of .before .before in
-    let at-read-string2 = at-read-162 .before .before in
-    let at-read-string = at-read-string2 .before .before in
-    let at-read-16 = at-read-string .before .before in
-    let at-read-322 = at-read-16 .before .before in
-    let at-read-32 = at-read-322 .before .before in
-    let at-begin = at-read-32 .before in
-    c .finish .ensures ∙ rw (back, back2)
-    (simp (
-      c .before .unit-of .ensures,
-      c .before .before .to-i322 .ensures,
-      at-to-i32 .to-i32 .ensures,
-      at-span-of2 .span-of2 .ensures,
-      at-span-of .span-of .ensures,
-      at-read-details .read-details .ensures,
-      at-type-of .type-of .ensures,
-      at-read-162 .read-162 .ensures,
-      at-read-string2 .read-string2 .ensures,
-      at-read-string .read-string .ensures,
-      at-read-16 .read-16 .ensures,
-      at-read-322 .read-322 .ensures,
-      at-read-32 .read-32 .ensures,
-      at-begin .begin .ensures,
-    ))
+    let at-to-i322 = c .before .before in
+    let at-read-details = at-to-i322 .before .before in
+    let at-read-162 = at-read-details .before .before in
+    let at-read-16 = at-read-162 .before .before .before in
+    let body = at-read-16 .before .before .before .before .args .body .now in
+    let f = named header body start in
+    let parent : at-read-16 .before .before .read-32 .result ≡ f ParentId = at-read-16 .before .before .read-32 .ensures in
+    let id : at-read-16 .before .read-322 .result ≡ f Id = at-read-16 .before .read-322 .ensures ∙ ap (λ (r : FieldRead). readAt (number 4) body (r .next)) parent in
+    let index : at-read-16 .read-16 .result ≡ shortOf (f Index) = at-read-16 .read-16 .ensures ∙ ap (λ (r : FieldRead). shortOf (readAt (number 2) body (r .next))) id in
+    let name : at-read-162 .before .before .read-string .result ≡ f Name = at-read-162 .before .before .read-string .ensures ∙ ap (λ (r : ShortRead). readAt string body (r .next)) index in
+    let long : at-read-162 .before .read-string2 .result ≡ f LongName = at-read-162 .before .read-string2 .ensures ∙ ap (λ (r : FieldRead). readAt string body (r .next)) name in
+    let flags : at-read-162 .read-162 .result ≡ shortOf (f Flags) = at-read-162 .read-162 .ensures ∙ ap (λ (r : FieldRead). shortOf (readAt (number 2) body (r .next))) long in
+    let kind : at-read-details .before .type-of .result ≡ kindFrom f = at-read-details .before .type-of .ensures ∙ ap (λ (r : ShortRead). typeOf (r .value / 16 % 16)) flags in
+    let found : at-read-details .read-details .result ≡ detailsAt (kindFrom f) body (past header body start) =
+    at-read-details .read-details .ensures ∙ (λ j. detailsAt (kind j) body (flags j .next)) in
+    let back : toZ w32 (ofZ w32 (at-to-i322 .before .to-i32 .result)) ≡ at-to-i322 .before .to-i32 .result = search needs in
+    let back2 : toZ w32 (ofZ w32 (at-to-i322 .to-i322 .result)) ≡ at-to-i322 .to-i322 .result = search needs in
+    let parent-id : toZ w32 (ofZ w32 (at-to-i322 .before .to-i32 .result)) ≡ signed 31 (f ParentId .value) = back ∙ at-to-i322 .before .to-i32 .ensures ∙ ap (λ (r : FieldRead). signed 31 (r .value)) parent in
+    let own-id : toZ w32 (ofZ w32 (at-to-i322 .to-i322 .result)) ≡ signed 31 (f Id .value) = back2 ∙ at-to-i322 .to-i322 .ensures ∙ ap (λ (r : FieldRead). signed 31 (r .value)) id in
+    let unit : c .before .unit-of .result ≡ unitOf (f Flags .value % 16) = c .before .unit-of .ensures ∙ ap (λ (r : ShortRead). unitOf (r .value % 16)) flags in
+    c .finish .ensures ∙ (λ j. parsedFrom (found j .next .refused) (record {
+      «parent_id» = parent-id j;
+      id = own-id j;
+      index = index j .value;
+      name = spanOf (name j);
+      «long_name» = spanOf (long j);
+      «node_type» = kind j;
+      unit = unit j;
+      «read_only» = eqb (flags j .value / 512 % 2) 1;
+      details = found j .details;
+    }))
 
 pub from-bytes-spec : {M : Type 1} → statement M
 from-bytes-spec =
     tie.close
     (tie.spec
-    begin-requires
     read-32-requires
     read-32-requires-2
     read-16-requires
@@ -102,8 +98,6 @@ from-bytes-spec =
     read-16-requires-2
     type-of-requires
     read-details-requires
-    span-of-requires
-    span-of-requires-2
     to-i32-requires
     to-i32-requires-2
     unit-of-requires

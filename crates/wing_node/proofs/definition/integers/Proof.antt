@@ -25,7 +25,7 @@ unfolding detailsAt reads after times
 returns c =
     let back : toZ w32 (ofZ w32 (c .before .to-i32 .result)) ≡ c .before .to-i32 .result = search needs in
     let back2 : toZ w32 (ofZ w32 (c .to-i322 .result)) ≡ c .to-i322 .result = search needs in
-    rw (back, back2) (simp (c .before .to-i32 .ensures, c .to-i322 .ensures, c .before .before .before .read-322 .ensures, c .before .before .before .before .before .read-32 .ensures))
+    rw (back, back2) (simp (c .before .to-i32 .ensures, c .to-i322 .ensures, c .before .before .before .read-322 .ensures, c .before .before .before .before .read-32 .ensures))
 
 pub integers-spec : {M : Type 1} → statement M
 integers-spec =

@@ -20,7 +20,7 @@ loop-holds : tie.Need-loop-holds Inv-loop μ-loop
 loop-holds c = refl
 
 returns : tie.Need-returns Inv-loop μ-loop
-returns c = sym (c .before .before .loop .inv ∙ after-refused _ _ _ (c .if1 .taken))
+returns c = sym (c .before .before .before .loop .inv ∙ after-refused _ _ _ (c .if1 .taken))
 
 read-item-requires : tie.Need-read-item-requires Inv-loop μ-loop
 read-item-requires c κs = search needs
@@ -33,10 +33,10 @@ loop-less c = omega arith
 
 loop-again : tie.Need-loop-again Inv-loop μ-loop
 loop-again c =
-    let body = c .before .before .before .before .before .before .args .body .now in
-    let kind = c .before .before .before .before .before .before .args .kind in
-    let left = c .before .before .before .before .loop .left in
-    c .before .before .before .before .loop .inv ∙ items-turn kind left body (c .before .before .before .before .loop .c) (c .before .before .before .loop-test .taken) ∙
+    let body = c .before .before .before .before .before .before .before .args .body .now in
+    let kind = c .before .before .before .before .before .before .before .args .kind in
+    let left = c .before .before .before .before .before .loop .left in
+    c .before .before .before .before .before .loop .inv ∙ items-turn kind left body (c .before .before .before .before .before .loop .c) (c .before .before .before .before .loop-test .taken) ∙
     ap (λ r. after (itemsOf kind (left - 1)) body (r .next)) (sym (c .before .read-item .ensures))
 
 returns-2 : tie.Need-returns-2 Inv-loop μ-loop

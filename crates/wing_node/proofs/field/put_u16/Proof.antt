@@ -1,4 +1,4 @@
--- Without room nothing is put (`put-short`); else the two stores, one after the other, are the two digits placed (`stores-two`).
+-- Without room nothing is put (`put-short`); else the two stores, one after the other, are the two bytes placed, which `bytes_16` gives (`stores-two`).
 use mathlib.Core.Path.{sym}
 use native.Mathlib.Omega.{arith}
 use lib.ListN.{length-set}
@@ -19,14 +19,17 @@ returns : tie.Need-returns
 unfolding digitsIn
 returns c = sym (put-short (bytesOf 2 _) _ _ (omega arith))
 
-cast-out : tie.Need-cast-out
-cast-out c = search needs
+bytes-16-requires : tie.Need-bytes-16-requires
+bytes-16-requires c κs = search needs
+
+array-read-out : tie.Need-array-read-out
+array-read-out c = search needs
 
 slice-write-out : tie.Need-slice-write-out
 slice-write-out c = search needs
 
-cast-out-2 : tie.Need-cast-out-2
-cast-out-2 c = search needs
+array-read-out-2 : tie.Need-array-read-out-2
+array-read-out-2 c = search needs
 
 add-out : tie.Need-add-out
 add-out c = search needs
@@ -39,7 +42,7 @@ same-length-2 c = search needs
 
 returns-2 : tie.Need-returns-2
 unfolding digitsIn
-returns-2 c = stores-two _ _ _ _ (omega arith)
+returns-2 c = rw (c .bytes-16 .ensures) (stores-two _ _ _ _ (omega arith))
 
 pub put-u16-spec : {M : Type 1} → statement M
 put-u16-spec =
@@ -48,9 +51,10 @@ put-u16-spec =
     left-requires
     same-length
     returns
-    cast-out
+    bytes-16-requires
+    array-read-out
     slice-write-out
-    cast-out-2
+    array-read-out-2
     add-out
     slice-write-out-2
     same-length-2

@@ -1,4 +1,4 @@
--- Without room nothing is put (`put-short`); else the four stores, one after the other, are the four digits placed (`stores-four`).
+-- Without room nothing is put (`put-short`); else the four stores, one after the other, are the four bytes placed, which `bytes_32` gives (`stores-four`).
 use mathlib.Core.Path.{sym}
 use native.Mathlib.Omega.{arith}
 use lib.ListN.{length-set}
@@ -19,14 +19,17 @@ returns : tie.Need-returns
 unfolding digitsIn
 returns c = sym (put-short (bytesOf 4 _) _ _ (omega arith))
 
-cast-out : tie.Need-cast-out
-cast-out c = search needs
+bytes-32-requires : tie.Need-bytes-32-requires
+bytes-32-requires c κs = search needs
+
+array-read-out : tie.Need-array-read-out
+array-read-out c = search needs
 
 slice-write-out : tie.Need-slice-write-out
 slice-write-out c = search needs
 
-cast-out-2 : tie.Need-cast-out-2
-cast-out-2 c = search needs
+array-read-out-2 : tie.Need-array-read-out-2
+array-read-out-2 c = search needs
 
 add-out : tie.Need-add-out
 add-out c = search needs
@@ -34,8 +37,8 @@ add-out c = search needs
 slice-write-out-2 : tie.Need-slice-write-out-2
 slice-write-out-2 c = simp length-set (omega arith)
 
-cast-out-3 : tie.Need-cast-out-3
-cast-out-3 c = search needs
+array-read-out-3 : tie.Need-array-read-out-3
+array-read-out-3 c = search needs
 
 add-out-2 : tie.Need-add-out-2
 add-out-2 c = search needs
@@ -43,8 +46,8 @@ add-out-2 c = search needs
 slice-write-out-3 : tie.Need-slice-write-out-3
 slice-write-out-3 c = simp length-set (omega arith)
 
-cast-out-4 : tie.Need-cast-out-4
-cast-out-4 c = search needs
+array-read-out-4 : tie.Need-array-read-out-4
+array-read-out-4 c = search needs
 
 add-out-3 : tie.Need-add-out-3
 add-out-3 c = search needs
@@ -57,7 +60,7 @@ same-length-2 c = search needs
 
 returns-2 : tie.Need-returns-2
 unfolding digitsIn
-returns-2 c = stores-four _ _ _ _ _ _ (omega arith)
+returns-2 c = rw (c .bytes-32 .ensures) (stores-four _ _ _ _ _ _ (omega arith))
 
 pub put-u32-spec : {M : Type 1} → statement M
 put-u32-spec =
@@ -66,15 +69,16 @@ put-u32-spec =
     left-requires
     same-length
     returns
-    cast-out
+    bytes-32-requires
+    array-read-out
     slice-write-out
-    cast-out-2
+    array-read-out-2
     add-out
     slice-write-out-2
-    cast-out-3
+    array-read-out-3
     add-out-2
     slice-write-out-3
-    cast-out-4
+    array-read-out-4
     add-out-3
     slice-write-out-4
     same-length-2

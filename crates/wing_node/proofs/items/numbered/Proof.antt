@@ -26,7 +26,7 @@ item-step-requires c κs = search needs
 
 returns-2 : tie.Need-returns-2
 unfolding numberedFrom
-returns-2 c = simp (lt-leb _ _ (c .before .before .if1 .left), c .before .past-items .ensures, c .item-step .ensures)
+returns-2 c = simp (lt-leb _ _ (c .before .before .before .if1 .left), c .before .before .past-items .ensures, c .item-step .ensures)
 
 pub numbered-spec : {M : Type 1} → statement M
 numbered-spec =

@@ -39,7 +39,7 @@ is-in-range-requires c κs = search needs
 add-tails : tie.Need-add-tails
 add-tails c =
     let start = c .before .before .before .before .before .before .before .before .before in
-    omega (arith, begins-inside _ (start .args .s .now) (start .args .i + 1) (sym (c .before .is-in-range .ensures) ∙ c .if3 .taken))
+    omega (arith, begins-inside _ (start .args .s .now) (start .args .i + 1) (rw (c .before .is-in-range .ensures) at (c .if3 .taken)))
 
 tails-requires : tie.Need-tails-requires
 tails-requires c κs = search needs

@@ -7,15 +7,12 @@ use Rattle.wing_node.specs.Utf8.{holds, begins}
 use Rattle.wing_node.proofs.utf8.is_in_range.Statement.{statement}
 use Rattle.wing_node.proofs.utf8.is_in_range.Tie as tie
 
-shared-slice-read-if2 : tie.Need-shared-slice-read-if2
-shared-slice-read-if2 c = search needs
-
-shared-slice-read-result : tie.Need-shared-slice-read-result
-shared-slice-read-result c = search needs
+shared-slice-read-byte : tie.Need-shared-slice-read-byte
+shared-slice-read-byte c = search needs
 
 returns : tie.Need-returns
 unfolding holds
-returns c = rw (begins-at _ _ _ (c .before .before .before .if1 .taken)) (simp (le-leb _ _ (c .before .if2 .taken)))
+returns c = rw (begins-at _ _ _ (c .before .before .if1 .taken)) (simp (le-leb _ _ (c .if2 .taken)))
 
 returns-2 : tie.Need-returns-2
 unfolding holds
@@ -27,4 +24,4 @@ returns-3 c = rw (drop-of-length-le _ (c .if1 .left))
 
 pub is-in-range-spec : {M : Type 1} → statement M
 is-in-range-spec =
-    tie.close (tie.spec shared-slice-read-if2 shared-slice-read-result returns returns-2 returns-3)
+    tie.close (tie.spec shared-slice-read-byte returns returns-2 returns-3)
