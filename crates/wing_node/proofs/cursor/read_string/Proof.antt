@@ -66,27 +66,31 @@ refuse-requires-3 c κs = search needs
 
 returns-3 : tie.Need-returns-3
 returns-3 c =
-    let s = c .before .before .before .before .before .before .before .before .before .before .before in
+    let at-left = c .before .before .before .before .before .before .before .before in
+    let s = at-left .before .before .before in
     let k = s .args .c in
     let e = c .before .before .before .before .before .least .result in
-    let there = c .before .before .before .before .before .before .before .before .left .ensures in
+    let there = at-left .left .ensures in
     let n : k .at + 1 + e - (k .at + 1) ≡ e = omega arith in
     let u = rw n at (c .before .before .before .is-utf8 .ensures .0) in
     c .refuse3 .ensures ∙
-    sym (string-refused (s .args .body .now) k (c .before .before .before .before .before .before .before .before .before .if1 .left) (omega arith) e (rw there at (c .before .before .before .before .before .least .ensures)) (c .before .before .before .is-utf8 .result) u (c .before .before .string-fault .result) (rw there at (c .before .before .string-fault .ensures)) (c .before .if3 .taken))
+    sym (string-refused (s .args .body .now) k (at-left .before .if1 .left) (omega arith) e (rw there at (c .before .before .before .before .before .least .ensures)) (c .before .before .before .is-utf8 .result) u (c .before .before .string-fault .result) (rw there at (c .before .before .string-fault .ensures)) (c .before .if3 .taken))
 
 cast-t19 : tie.Need-cast-t19
-cast-t19 c = omega (arith, c .before .before .before .before .before .shared-slice-known2 .given (c .before .before .before .before .before .before .before .before .before .before .args .c .at))
+cast-t19 c =
+    let known = c .before .before .before .before .before in
+    omega (arith, known .shared-slice-known2 .given (known .before .before .before .before .before .args .c .at))
 
 returns-4 : tie.Need-returns-4
 returns-4 c =
-    let s = c .before .before .before .before .before .before .before .before .before .before in
+    let at-left = c .before .before .before .before .before .before .before in
+    let s = at-left .before .before .before in
     let k = s .args .c in
     let e = c .before .before .before .before .least .result in
-    let there = c .before .before .before .before .before .before .before .left .ensures in
+    let there = at-left .left .ensures in
     let n : k .at + 1 + e - (k .at + 1) ≡ e = omega arith in
     let u = rw n at (c .before .before .is-utf8 .ensures .0) in
-    sym (string-good (s .args .body .now) k (c .before .before .before .before .before .before .before .before .if1 .left) (omega arith) e (rw there at (c .before .before .before .before .least .ensures)) (c .before .before .is-utf8 .result) u (rw there at (sym (c .before .string-fault .ensures) ∙ c .if3 .left)))
+    sym (string-good (s .args .body .now) k (at-left .before .if1 .left) (omega arith) e (rw there at (c .before .before .before .before .least .ensures)) (c .before .before .is-utf8 .result) u (rw there at (sym (c .before .string-fault .ensures) ∙ c .if3 .left)))
 
 pub read-string-spec : {M : Type 1} → statement M
 read-string-spec =
