@@ -1,6 +1,6 @@
 // Commands, each written into an output of a given length, and meter packets: what was written, and whether the output
 // is as it was past it.
-use crate::forms;
+use crate::forms::Asked;
 use crate::read;
 use crate::show;
 use crate::show::Log;
@@ -12,9 +12,6 @@ use wing_wire::request;
 use wing_wire::set;
 use wing_wire::write::Written;
 
-// What every output is filled with before a call.
-const MARK: u8 = 0xee;
-
 const READING_MARK: i16 = 0x6eee;
 
 // Keep-alives of 13 bytes for 65,536 ids.
@@ -22,15 +19,15 @@ const ROOM: usize = 851968;
 
 const READINGS: usize = 4200;
 
-pub fn word(n: u64) -> u32 {
+pub fn word(n: usize) -> u32 {
     (n % 0x1_0000_0000) as u32
 }
 
-pub fn int(n: u64) -> i32 {
+pub fn int(n: usize) -> i32 {
     field::to_i32(word(n))
 }
 
-fn half(n: u64) -> u16 {
+fn half(n: usize) -> u16 {
     (n % 0x1_0000) as u16
 }
 
@@ -82,118 +79,96 @@ fn meters_of(items: &[u8], other: u16) -> [Meter; 64] {
 }
 
 // Past the items: rta, unless the order names a meter.
-fn other_meter(letter: u8, named: u64) -> u16 {
+fn other_meter(letter: u8, named: usize) -> u16 {
     if letter == b'n' { half(named) } else { 0x0a00 }
 }
 
-fn ask_meters(letter: u8, n: forms::Numbers, items: &[u8], out: &mut [u8]) -> meter::Requested {
-    let meters = meters_of(items, other_meter(letter, n[4]));
-    meter::request_meter(out, meters, n[3] as usize, half(n[1]), half(n[2]))
+fn ask_meters(a: Asked, items: &[u8], out: &mut [u8]) -> meter::Requested {
+    let meters = meters_of(items, other_meter(a.letter, a.fifth));
+    meter::request_meter(out, meters, a.fourth, half(a.second), half(a.third))
 }
 
 // One call of the writer that the letter names, with the two numbers after the room.
-fn written(letter: u8, first: u64, second: u64, bytes: &[u8], out: &mut [u8]) -> Written {
-    let id = int(first);
+fn written(letter: u8, a: Asked, bytes: &[u8], out: &mut [u8]) -> Written {
+    let id = int(a.second);
     match letter {
-        b'i' => set::set_int(out, id, int(second)),
-        b'f' => set::set_float(out, id, word(second)),
+        b'i' => set::set_int(out, id, int(a.third)),
+        b'f' => set::set_float(out, id, word(a.third)),
         b's' => set::set_string(out, id, bytes),
-        b't' => set::format_id(out, id, (second % 256) as u8, suffix(bytes)),
+        b't' => set::format_id(out, id, (a.third % 256) as u8, suffix(bytes)),
         b'd' => request::request_node_definition(out, id),
         b'a' => request::request_node_data(out, id),
-        _ => meter::keep_alive_meters(out, half(first), half(second)),
+        _ => meter::keep_alive_meters(out, half(a.second), half(a.third)),
     }
 }
 
-// What a call wrote: how many bytes and the meter id, 0 where there is none; or the refusal's number.
-pub fn of_written(w: Written) -> Said {
+// What a call wrote: the meter id, 0 where there is none, and how many bytes, twice: those told, and where the rest begins.
+// Or the refusal's number.
+pub fn of_written(w: Written, good: u8, bad: u8) -> Said {
     match w {
-        Written::Bytes(len) => show::one(b's', len as u64),
-        Written::Refused(why) => show::one(b'r', why as u64),
+        Written::Bytes(len) => show::three(good, 0, len, len),
+        Written::Refused(why) => show::one(bad, why as usize),
     }
 }
 
 fn of_requested(r: meter::Requested) -> Said {
     match r {
-        meter::Requested::Bytes { len, id } => show::two(b's', len as u64, id as u64),
-        meter::Requested::Refused(why) => show::one(b'r', why as u64),
+        meter::Requested::Bytes { len, id } => show::three(b'w', id as usize, len, len),
+        meter::Requested::Refused(why) => show::one(b'q', why as usize),
     }
 }
 
 fn of_read(r: meter::MetersRead) -> Said {
     match r {
-        meter::MetersRead::Readings { id, count } => show::two(b'p', id as u64, count as u64),
-        meter::MetersRead::Refused(why) => show::one(b'r', why as u64),
+        meter::MetersRead::Readings { id, count } => show::three(b'm', id as usize, count, 0),
+        meter::MetersRead::Refused(why) => show::one(b'_', why as usize),
     }
 }
 
-fn call(letter: u8, n: forms::Numbers, bytes: &[u8], out: &mut [u8]) -> Said {
-    match letter {
-        b'm' | b'n' => of_requested(ask_meters(letter, n, bytes, out)),
-        _ => of_written(written(letter, n[1], n[2], bytes, out)),
+fn call(a: Asked, bytes: &[u8], out: &mut [u8]) -> Said {
+    if a.letter == b'm' || a.letter == b'n' {
+        return of_requested(ask_meters(a, bytes, out));
     }
-}
-
-fn say(log: &mut Log, at: usize, s: Said) -> usize {
-    show::say(log, at, b"sND|pDH:|hD|rrR|fA", s)
-}
-
-fn is_kept(log: &mut Log, at: usize, kept: bool) -> usize {
-    say(log, at, show::one(b'f', show::flag(kept)))
-}
-
-fn told(log: &mut Log, s: Said, out: &[u8]) -> usize {
-    let len = show::first(s, b's') as usize;
-    let bytes_at = say(log, 0, s);
-    let kept_at = show::front(log, bytes_at, out, len);
-    is_kept(log, kept_at, show::all_same(out, len, MARK))
+    of_written(written(a.letter, a, bytes, out), b'w', b'q')
 }
 
 // The first of the numbers is the room.
-fn into(log: &mut Log, letter: u8, n: forms::Numbers, bytes: &[u8], out: &mut [u8]) -> usize {
-    let room = read::at_most(n[0] as usize, out.len());
-    let s = call(letter, n, bytes, &mut out[0..room]);
-    told(log, s, read::part(out, 0, room))
+fn into(log: &mut Log, a: Asked, bytes: &[u8], out: &mut [u8]) -> usize {
+    let room = read::at_most(a.first, out.len());
+    let s = call(a, bytes, &mut out[0..room]);
+    show::say(log, 0, s, read::part(out, 0, room))
 }
 
 // A suffix has one byte or none.
-pub fn order(log: &mut Log, letter: u8, n: forms::Numbers, bytes: &[u8]) -> usize {
-    if letter == b't' && 1 < bytes.len() {
+pub fn order(log: &mut Log, a: Asked, bytes: &[u8]) -> usize {
+    if a.letter == b't' && 1 < bytes.len() {
         return 0;
     }
-    let mut out = [MARK; ROOM];
-    into(log, letter, n, bytes, &mut out)
+    let mut out = [show::MARK; ROOM];
+    into(log, a, bytes, &mut out)
 }
 
-fn all_mark(s: &[i16], from: usize) -> bool {
-    let mut i = from;
-    while i < s.len() {
-        if s[i] != READING_MARK {
-            return false;
+// So many readings, and whether the output is as it was past them.
+fn readings(log: &mut Log, mut at: usize, out: &[i16], count: usize) -> usize {
+    let mut kept = true;
+    let mut i = 0;
+    while i < out.len() {
+        let reading = out[i];
+        if i < count {
+            at = show::hex(log, at, field::of_i16(reading) as usize, 4);
+        } else if reading != READING_MARK {
+            kept = false;
         }
         i += 1;
     }
-    true
-}
-
-fn readings(log: &mut Log, at: usize, out: &[i16], count: usize) -> usize {
-    let mut to = at;
-    let mut i = 0;
-    while i < out.len() && i < count {
-        to = say(log, to, show::one(b'h', field::of_i16(out[i]) as u64));
-        i += 1;
-    }
-    to
+    show::hex(log, at, show::flag(kept), 1)
 }
 
 fn packet_into(log: &mut Log, room: usize, bytes: &[u8], out: &mut [i16]) -> usize {
     let end = read::at_most(room, out.len());
     let s = of_read(meter::read_meters(bytes, &mut out[0..end]));
-    let v = s.values;
-    let count = v[1] as usize;
-    let at = say(log, 0, s);
-    let kept_at = readings(log, at, out, count);
-    is_kept(log, kept_at, all_mark(out, count))
+    let at = show::say(log, 0, s, bytes);
+    readings(log, at, out, s.second)
 }
 
 pub fn packet(log: &mut Log, room: usize, bytes: &[u8]) -> usize {

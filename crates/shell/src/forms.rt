@@ -1,32 +1,37 @@
 // The orders by their names, and the words of each (docs/ORDERS.md).
 use crate::read;
-use crate::read::Number;
-use wing_node::field;
 
 // The longest line.
 pub const LINE: usize = 16384;
 
 // The most bytes that an order makes by repeating: more than the 65,536 that 01 lets a feed have, so that 14 can be seen.
-const MOST: u64 = 65600;
+const MOST: usize = 65600;
 
 // The most bytes held, and after them the most of one line.
 pub const BYTES: usize = 135601;
 
 pub type Bytes = [u8; BYTES];
 
+// The most sizes of a list.
 pub const COUNT: usize = 64;
 
-pub type Numbers = [u64; COUNT];
+pub type Sizes = [usize; COUNT];
 
 // A line that has the form of an order: the part that answers it (0 for a line out of form), the order's letter there, whether
-// the answer's sum is asked, and the numbers that its words spell. Its bytes stand in the buffer lent, from a place up to
-// another.
+// the answer's sum is asked, the numbers that its words spell, each in the place of its word, the last of them, and the
+// sizes of a list. Its bytes stand in the buffer lent, from a place up to another.
 pub struct Asked {
     pub part: u8,
     pub letter: u8,
     pub summed: bool,
+    pub first: usize,
+    pub second: usize,
+    pub third: usize,
+    pub fourth: usize,
+    pub fifth: usize,
+    pub last: usize,
     pub count: usize,
-    pub numbers: Numbers,
+    pub sizes: Sizes,
     pub from: usize,
     pub to: usize,
 }
@@ -37,106 +42,118 @@ fn unread(held: usize) -> Asked {
         part: 0,
         letter: 0,
         summed: false,
+        first: 0,
+        second: 0,
+        third: 0,
+        fourth: 0,
+        fifth: 0,
+        last: 0,
         count: 0,
-        numbers: [0u64; COUNT],
+        sizes: [0; COUNT],
         from: held,
         to: held,
     }
 }
 
-// A number that fills its hex digits: they go to the end of its four bytes.
-fn hex_number(word: &[u8], from: usize) -> Number {
-    let mut bytes = [0u8; 4];
-    let p = read::pairs(word, &mut bytes, from);
-    read::number_of(p.good && p.value == 4, field::u32_at(&bytes, 0) as u64)
+// A number that fills its hex digits.
+fn hex_number(word: &[u8], digits: usize) -> usize {
+    if word.len() == digits {
+        return read::unsigned(word, 16, 0xffff_ffff);
+    }
+    read::NONE
 }
 
-fn limit(letter: u8) -> u64 {
-    let table =
+// A word that spells a number, by its letter in the table of limits or here.
+fn number(word: &[u8], letter: u8) -> usize {
+    let limits =
         b"g2|n27|o255|e263|t512|p1026|k4096|a4200|r16384|w65535|m270864|l851968|d4294967295";
-    let n = read::unsigned(read::entry(table, letter), 0, u64::MAX);
-    n.value
-}
-
-// A word that spells a number, by its letter in the table.
-fn number(word: &[u8], letter: u8) -> Number {
     match letter {
         b'i' => read::signed(word),
-        b'x' => hex_number(word, 0),
-        b'z' => hex_number(word, 2),
-        b'y' => hex_number(word, 3),
-        _ => read::unsigned(word, 0, limit(letter)),
+        b'x' => hex_number(word, 8),
+        b'z' => hex_number(word, 4),
+        b'y' => hex_number(word, 2),
+        _ => {
+            let limit = read::unsigned(read::entry(limits, letter), 10, read::NONE);
+            read::unsigned(word, 10, limit)
+        }
     }
 }
 
-fn with_number(before: Asked, n: Number) -> Asked {
-    let mut a = before;
-    let k = a.count;
-    if k < COUNT {
-        a.numbers[k] = n.value;
-        a.count = k + 1;
+fn with_number(mut a: Asked, place: usize, n: usize) -> Asked {
+    match place {
+        0 => a.first = n,
+        1 => a.second = n,
+        2 => a.third = n,
+        3 => a.fourth = n,
+        _ => a.fifth = n,
     }
-    if !n.good || k == COUNT {
+    a.last = n;
+    if n == read::NONE {
+        a.part = 0;
+    }
+    a
+}
+
+// A size out of form is 0.
+fn with_size(mut a: Asked, n: usize) -> Asked {
+    let k = a.count;
+    if n == 0 {
+        a.part = 0;
+    }
+    if k < COUNT {
+        a.sizes[k] = n;
+        a.count = k + 1;
+    } else {
         a.part = 0;
     }
     a
 }
 
 // A list of sizes with commas between. One size more than there is room for is out of form.
-fn with_list(before: Asked, word: &[u8]) -> Asked {
-    let mut a = before;
+fn with_list(mut a: Asked, word: &[u8]) -> Asked {
     let mut at = 0;
     let mut turns = COUNT + 1;
     while turns > 0 && at <= word.len() {
         let end = read::word_end(word, at, b',');
-        a = with_number(a, read::unsigned(read::part(word, at, end), 1, 0xffff));
+        let n = read::unsigned(read::part(word, at, end), 10, 0xffff);
+        a = with_size(a, n % read::NONE);
         at = read::after(end);
         turns -= 1;
     }
     a
 }
 
-pub fn last_number(a: Asked) -> u64 {
-    let n = a.numbers;
-    read::number_at(&n, read::less(a.count as u64, 1) as usize)
-}
-
 // The bytes from a place up to another again and again after themselves, so many in all.
-fn repeat(bytes: &mut Bytes, from: usize, end: usize, count: u64) -> usize {
-    let mut to = end;
-    let mut back = from;
-    let mut left = count;
-    while left > 0 {
-        let b = read::byte_or(bytes, back, 0);
-        to = read::put(bytes, to, b);
-        back = read::onward(back, 1, BYTES);
-        left -= 1;
+fn repeat(bytes: &mut Bytes, mut from: usize, mut end: usize, mut count: usize) -> usize {
+    while count > 0 {
+        let b = read::byte_or(bytes, from, 0);
+        end = read::put(bytes, end, b);
+        from = read::onward(from, 1, BYTES);
+        count -= 1;
     }
-    to
+    end
 }
 
 // The remainders are the numbers themselves.
-fn product(len: u64, times: u64) -> u64 {
+fn product(len: usize, times: usize) -> usize {
     len % 0x1_0000 * (times % 0x1_0000_0000)
 }
 
 // The bytes of a hex word, some times over.
-fn with_bytes(before: Asked, word: &[u8], bytes: &mut Bytes, times: u64) -> Asked {
-    let mut a = before;
-    let p = read::pairs(word, bytes, a.from);
-    let len = read::less(p.value, a.from as u64);
+fn with_bytes(mut a: Asked, word: &[u8], bytes: &mut Bytes, times: usize) -> Asked {
+    let end = read::pairs(word, bytes, a.from);
+    let len = read::less(end, a.from);
     let all = product(len, times);
-    if !p.good || MOST < all {
+    if end == read::NONE || MOST < all {
         a.part = 0;
     } else if all > 0 {
-        a.to = repeat(bytes, a.from, p.value as usize, read::less(all, len));
+        a.to = repeat(bytes, a.from, end, read::less(all, len));
     }
     a
 }
 
-// One word more, by its letter in the table.
-fn with_word(before: Asked, word: &[u8], letter: u8, bytes: &mut Bytes) -> Asked {
-    let mut a = before;
+// One word more in its place, by its letter in the table.
+fn with_word(mut a: Asked, word: &[u8], letter: u8, place: usize, bytes: &mut Bytes) -> Asked {
     if letter == b'+' && read::same(word, b"+") {
         a.to = a.from;
         a.from = 0;
@@ -144,20 +161,24 @@ fn with_word(before: Asked, word: &[u8], letter: u8, bytes: &mut Bytes) -> Asked
     }
     match letter {
         b'+' | b'h' => with_bytes(a, word, bytes, 1),
-        b'*' => with_bytes(a, word, bytes, last_number(a)),
+        b'*' => with_bytes(a, word, bytes, a.last),
         b',' => with_list(a, word),
-        _ => with_number(a, number(word, letter)),
+        _ => with_number(a, place, number(word, letter)),
     }
 }
 
 // The words of a line from a place on by their letters. All of the line must be read.
-fn with_words(first: Asked, line: &[u8], from: usize, letters: &[u8], bytes: &mut Bytes) -> Asked {
-    let mut a = first;
-    let mut at = from;
+fn with_words(
+    mut a: Asked,
+    line: &[u8],
+    mut at: usize,
+    letters: &[u8],
+    bytes: &mut Bytes,
+) -> Asked {
     let mut k = 0;
     while k < letters.len() {
         let end = read::word_end(line, at, b' ');
-        a = with_word(a, read::part(line, at, end), letters[k], bytes);
+        a = with_word(a, read::part(line, at, end), letters[k], k, bytes);
         at = read::after(end);
         k += 1;
     }
@@ -167,19 +188,17 @@ fn with_words(first: Asked, line: &[u8], from: usize, letters: &[u8], bytes: &mu
     a
 }
 
-// A line by an entry of the table: a name, the two letters of the order and those of its words.
+// A line by an entry of the table: the two letters of the order, its name and the letters of its words.
 fn by_entry(line: &[u8], entry: &[u8], bytes: &mut Bytes, held: usize) -> Asked {
     let mut a = unread(held);
-    let colon = read::word_end(entry, 0, b':');
+    let colon = read::word_end(entry, 2, b':');
     let end = read::word_end(line, 0, b' ');
-    if !read::same(read::part(entry, 0, colon), read::part(line, 0, end)) {
+    if !read::same(read::part(entry, 2, colon), read::part(line, 0, end)) {
         return a;
     }
-    let at = read::after(colon);
-    a.part = read::byte_or(entry, at, 0);
-    let letter_at = read::after(at);
-    a.letter = read::byte_or(entry, letter_at, 0);
-    let letters = read::part(entry, read::after(letter_at), entry.len());
+    a.part = read::byte_or(entry, 0, 0);
+    a.letter = read::byte_or(entry, 1, 0);
+    let letters = read::part(entry, read::after(colon), entry.len());
     with_words(a, line, read::after(end), letters, bytes)
 }
 
@@ -197,41 +216,31 @@ fn by_table(line: &[u8], table: &[u8], bytes: &mut Bytes, held: usize) -> Asked 
     a
 }
 
-// Of an order's two letters the first is the part that answers it, a capital one to the mirror. Of the words h is hex,
-// + hex or the bytes held, * hex as many times over as the number before it says, `,` a list, x, z and y are hex numbers of
-// eight, four and two digits, i is signed, and every other letter a number up to a limit.
-fn unsummed(line: &[u8], bytes: &mut Bytes, held: usize) -> Asked {
-    let table = b"new:MNp new:MNpe new:MNpeo count:MCd poke:MPmh more:MHh feed:FFh repeat:FFd* \
-int:SIiit float:SFixt string:SSiht recall:SRr dump:QD lookup:QLi record:QRd peek:QPmk \
-stream:ss+ pieces:spw+ piecelist:sl,+ units:suh state:send* splits:sch lent:snh \
-definition:dd+ cuts:dch item:didh step:dswwwh walk:dwh \
-utf8:vuh utf8s:vfh streams:vsh getters:vggh getstring:vlwh packet:pva+ \
-setint:cirii setfloat:cfrix setstring:csrih format:ctriyh askdefinition:cdri askdata:cari \
-askmeters:cmrwwoh askmetersfill:cnrwwozh keepalive:cklww";
-    by_table(line, table, bytes, held)
-}
-
-// Where a line's order begins: after `sum ` where that stands first.
-fn order_at(line: &[u8]) -> usize {
-    if read::same(read::part(line, 0, 4), b"sum ") {
-        4
-    } else {
-        0
+// A line has its most bytes, and an order to the mirror no sum, which stands before an order. Of an order's two letters the
+// first is the part that answers it, a capital one to the mirror. Of the words h is hex, + hex or the bytes held, * hex as
+// many times over as the number before it says, `,` a list, x, z and y are hex numbers of eight, four and two digits, i is
+// signed, and every other letter a number up to a limit.
+pub fn order(line: &[u8], bytes: &mut Bytes, held: usize) -> Asked {
+    let mut from = 0;
+    if read::is_front(b"sum ", line) {
+        from = 4;
     }
-}
-
-// A line has its most bytes, and an order to the mirror no sum.
-fn checked(before: Asked, len: usize, summed: bool) -> Asked {
-    let mut a = before;
-    a.summed = summed;
-    if LINE < len || summed && a.part < b'a' {
+    let order = read::part(line, from, line.len());
+    let mut a = by_table(
+        order,
+        b"MNnew:p MNnew:pe MNnew:peo MCcount:d MPpoke:mh MHmore:h FFfeed:h FFrepeat:d* \
+SIint:iit SFfloat:ixt SSstring:iht SRrecall:r QDdump: QLlookup:i QRrecord:d QPpeek:mk \
+ssstream:+ sppieces:w+ slpiecelist:,+ suunits:h sestate:nd* scsplits:h snlent:h \
+dddefinition:+ dccuts:h diitem:dh dsstep:wwwh dwwalk:h \
+vuutf8:h vfutf8s:h vsstreams:h vggetters:gh vlgetstring:wh pvpacket:a+ \
+cisetint:rii cfsetfloat:rix cssetstring:rih ctformat:riyh cdaskdefinition:ri caaskdata:ri \
+cmaskmeters:rwwoh cnaskmetersfill:rwwozh ckkeepalive:lww",
+        bytes,
+        held,
+    );
+    a.summed = from > 0;
+    if LINE < line.len() || a.summed && a.part < b'a' {
         a.part = 0;
     }
     a
-}
-
-pub fn order(line: &[u8], bytes: &mut Bytes, held: usize) -> Asked {
-    let from = order_at(line);
-    let a = unsummed(read::part(line, from, line.len()), bytes, held);
-    checked(a, line.len(), from > 0)
 }

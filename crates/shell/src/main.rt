@@ -35,83 +35,76 @@ struct Input {
     more: bool,
 }
 
-// An order that leaves the mirror alone: its text, or the text's sum.
-fn text(a: Asked, bytes: &[u8], log: &mut Log) -> usize {
-    let part = a.part;
-    let letter = a.letter;
-    let n = a.numbers;
+// An order with no answer but its text, or the text's sum.
+fn text(part: u8, k: Kept, memory: &[u8], a: Asked, bytes: &[u8], log: &mut Log) -> usize {
     let len = match part {
-        b's' => streams::order(log, letter, n, a.count, bytes),
-        b'd' => definitions::order(log, letter, n, bytes),
-        b'v' => values::order(log, letter, n[0], bytes),
-        b'c' => commands::order(log, letter, n, bytes),
-        b'p' => commands::packet(log, n[0] as usize, bytes),
+        b'Q' => mirror::query(a.letter, k, memory, a, log),
+        b's' => streams::order(log, a.letter, a, bytes),
+        b'd' => definitions::order(log, a.letter, a, bytes),
+        b'v' => values::order(log, a.letter, a.first, bytes),
+        b'c' => commands::order(log, a, bytes),
+        b'p' => commands::packet(log, a.first, bytes),
         _ => 0,
     };
     show::summed(log, len, a.summed)
 }
 
 // Every order but a feed. Capital letters are orders to the mirror.
-fn order(k: Kept, memory: &mut Memory, a: Asked, bytes: &[u8], log: &mut Log) -> Kept {
-    let part = a.part;
+fn order(part: u8, k: Kept, memory: &mut Memory, a: Asked, bytes: &[u8], log: &mut Log) -> Kept {
     match part {
         b'M' => mirror::change(k, memory, a, bytes, log),
         b'S' => mirror::send(k, memory, a, bytes, log),
-        b'Q' => mirror::with_text(k, mirror::query(k, memory, a, log), a.from),
-        _ => mirror::with_text(k, text(a, bytes, log), a.from),
+        _ => mirror::with_text(k, text(part, k, memory, a, bytes, log), a.from),
     }
 }
 
-fn turn(t: Session, memory: &mut Memory, a: Asked, bytes: &[u8], log: &mut Log) -> Session {
-    let state = t.state;
-    let before = t.kept;
+fn turn(mut t: Session, memory: &mut Memory, a: Asked, bytes: &[u8], log: &mut Log) -> Session {
     if a.part == b'F' {
-        return mirror::feed(state, before, memory, bytes, log);
+        return mirror::feed(t.state, t.kept, memory, bytes, log);
     }
-    let kept = order(before, memory, a, bytes, log);
-    Session { state, kept }
+    let kept = order(a.part, t.kept, memory, a, bytes, log);
+    t.kept = kept;
+    t
 }
 
-// A line out of form, which has no answer, is printed back; a comment and an empty line too, so that the output reads by
-// itself.
-fn or_back(line: &[u8], log: &mut Log, answer: usize) -> usize {
-    if answer > 0 {
-        return answer;
-    }
+// Prints an answer of so many bytes. A line out of form, which has none, is printed back; a comment and an empty line too,
+// so that the output reads by itself.
+fn print(line: &[u8], log: &mut Log, answer: usize) {
+    let mut n = answer;
+    let mut letter = b'X';
     if forms::LINE < line.len() {
-        return read::put(log, 0, b'?');
+        letter = b'E';
+    } else if read::byte_or(line, 0, b'#') == b'#' {
+        letter = b'#';
     }
-    if read::byte_or(line, 0, b'#') == b'#' {
-        return read::lay(log, 0, line);
+    if n == 0 {
+        n = show::tell(log, 0, letter, 0, 0, 0, line);
     }
-    let at = read::lay(log, 0, b"? ");
-    read::lay(log, at, line)
-}
-
-fn answer(t: Session, m: &mut Memory, line: &[u8], bytes: &mut Bytes, log: &mut Log) -> Session {
-    let before = t.kept;
-    let a = forms::order(line, bytes, before.held);
-    let s = turn(t, m, a, read::part(bytes, a.from, a.to), log);
-    let k = s.kept;
-    let n = or_back(line, log, k.len);
     show::print(log, n);
-    s
 }
 
-fn say_broken(broken: bool) {
-    if broken {
-        let text = b"shell: standard input was not read to its end\n";
-        io::write_all(libc::STDERR_FILENO, text);
-    }
+fn answer(
+    mut t: Session,
+    m: &mut Memory,
+    line: &[u8],
+    bytes: &mut Bytes,
+    log: &mut Log,
+) -> Session {
+    let a = forms::order(line, bytes, t.kept.held);
+    t = turn(t, m, a, read::part(bytes, a.from, a.to), log);
+    print(line, log, t.kept.len);
+    t
 }
 
-fn refill(before: Input, buffer: &mut Buffer) -> Input {
-    let mut t = before;
+fn refill(mut t: Input, buffer: &mut Buffer) -> Input {
     let got = libc::read(libc::STDIN_FILENO, buffer);
     t.at = 0;
     t.end = io::count(got, buffer);
     t.more = got > 0;
-    say_broken(got < 0);
+    if got < 0 {
+        let text = b"shell: standard input was not read to its end\n";
+        io::write_all(libc::STDERR_FILENO, text);
+    }
     t
 }
 
@@ -119,8 +112,7 @@ fn goes_on(t: Input) -> bool {
     t.more && !t.ended
 }
 
-fn read_line(before: Input, buffer: &mut Buffer, line: &mut Line) -> Input {
-    let mut t = before;
+fn read_line(mut t: Input, buffer: &mut Buffer, line: &mut Line) -> Input {
     t.len = 0;
     t.ended = false;
     let mut turns = u64::MAX;

@@ -26,9 +26,6 @@ const ROOM: usize = 16384;
 // The most bytes held for a later order.
 const HELD: usize = 70000;
 
-// What the bytes of an output hold before a call.
-const MARK: u8 = 0xa5;
-
 // What lasts from line to line, and the length of the last answer's text, 0 for a line out of form. The count is that of the
 // records, the size the table buffer's, the fill what the memory held when the mirror was fresh. fresh: the next feed
 // begins with a fresh decoder. held: the bytes at the front of the orders' buffer that wait for a later order.
@@ -47,34 +44,26 @@ pub struct Session {
     pub kept: Kept,
 }
 
-// A fresh mirror. The remainders are the numbers themselves: with them the size is known to be a number.
-fn fresh(n: forms::Numbers, held: usize) -> Kept {
-    Kept {
-        count: 0,
-        size: (n[0] % 1027 * 264 + n[1] % 264) as usize,
-        fill: (n[2] % 256) as u8,
-        fresh: true,
-        held,
-        len: 0,
-    }
+// The remainders are the numbers themselves: with them the size is known to be a number.
+fn size_of(places: usize, extra: usize) -> usize {
+    places % 1027 * 264 + extra % 264
 }
 
 pub fn start() -> Session {
     let state = State::fresh();
-    let kept = fresh([0u64; forms::COUNT], 0);
+    let kept = Kept {
+        count: 0,
+        size: 0,
+        fill: 0,
+        fresh: true,
+        held: 0,
+        len: 0,
+    };
     Session { state, kept }
 }
 
-fn with_count(before: Kept, count: usize, len: usize) -> Kept {
-    let mut k = before;
-    k.count = count;
-    k.len = len;
-    k
-}
-
 // After an order with a text of so many bytes, none for one out of form. Bytes held that it took are held no more.
-pub fn with_text(before: Kept, len: usize, held: usize) -> Kept {
-    let mut k = before;
+pub fn with_text(mut k: Kept, len: usize, held: usize) -> Kept {
     k.len = len;
     if len > 0 {
         k.held = held;
@@ -82,63 +71,37 @@ pub fn with_text(before: Kept, len: usize, held: usize) -> Kept {
     k
 }
 
-fn say(log: &mut Log, at: usize, s: Said) -> usize {
-    let table =
-        b"Ffed U U U U U U|pplaces U|ccount U|hheld U|kpoked|ssent |rrefused U|+ clean|! dirt|\
-dU records|iS,i,S|fS,f,H|tS,s,|aat U|nnone";
-    show::say(log, at, table, s)
-}
-
 fn fed(a: answer::FeedAnswer, c: answer::Counts) -> Said {
-    let values = [
-        c.stored as u64,
-        c.unplaced as u64,
-        c.strings_refused as u64,
-        c.definitions_read as u64,
-        c.definitions_refused as u64,
-        c.ends as u64,
-    ];
     match a {
-        answer::FeedAnswer::Taken => show::said_of(b'F', values),
-        answer::FeedAnswer::Refused(why) => show::one(b'r', why as u64),
+        answer::FeedAnswer::Taken => show::six(
+            b'F',
+            c.stored as usize,
+            c.unplaced as usize,
+            c.strings_refused as usize,
+            c.definitions_read as usize,
+            c.definitions_refused as usize,
+            c.ends as usize,
+        ),
+        answer::FeedAnswer::Refused(why) => show::one(b'?', why as usize),
     }
 }
 
-fn decoder(s: State, fresh: bool) -> State {
-    if fresh { State::fresh() } else { s }
-}
-
-fn after_feed(r: answer::FeedReply, before: Kept, log: &mut Log) -> Session {
-    let mut kept = before;
+fn after_feed(r: answer::FeedReply, mut kept: Kept, bytes: &[u8], log: &mut Log) -> Session {
     let a = r.answer;
-    let c = r.counts;
     let state = r.state;
     kept.fresh = false;
     kept.count = r.count;
-    kept.len = say(log, 0, fed(a, c));
+    kept.len = show::say(log, 0, fed(a, r.counts), bytes);
     Session { state, kept }
 }
 
-pub fn feed(s: State, k: Kept, memory: &mut [u8], bytes: &[u8], log: &mut Log) -> Session {
+pub fn feed(mut s: State, k: Kept, memory: &mut [u8], bytes: &[u8], log: &mut Log) -> Session {
     let size = read::at_most(k.size, memory.len());
-    let first = decoder(s, k.fresh);
-    let r = wing_mirror::feed::feed(first, &mut memory[0..size], k.count, bytes);
-    after_feed(r, k, log)
-}
-
-fn cleanness(log: &mut Log, at: usize, clean: bool) -> usize {
-    say(log, at, show::none(if clean { b'+' } else { b'!' }))
-}
-
-// What was written into an output, and whether the rest of it is as it was.
-fn sent(log: &mut Log, w: wing_wire::write::Written, out: &[u8]) -> usize {
-    let o = of_written(w);
-    let n = show::first(o, b's') as usize;
-    let mut at = say(log, 0, o);
-    if o.letter == b's' {
-        at = show::bytes(log, at, read::part(out, 0, n));
+    if k.fresh {
+        s = State::fresh();
     }
-    cleanness(log, at, show::all_same(out, n, MARK))
+    let r = wing_mirror::feed::feed(s, &mut memory[0..size], k.count, bytes);
+    after_feed(r, k, bytes, log)
 }
 
 fn recalled(table: &[u8], count: usize, out: &mut [u8]) -> answer::SetReply {
@@ -148,58 +111,51 @@ fn recalled(table: &[u8], count: usize, out: &mut [u8]) -> answer::SetReply {
 
 // A set or a recall.
 fn written(a: Asked, s: &[u8], table: &mut [u8], count: usize, out: &mut [u8]) -> answer::SetReply {
-    let n = a.numbers;
-    let id = int(n[0]);
+    let id = int(a.first);
     let letter = a.letter;
     match letter {
-        b'I' => set::set_int(table, count, out, id, int(n[1])),
-        b'F' => set::set_float(table, count, out, id, word(n[1])),
+        b'I' => set::set_int(table, count, out, id, int(a.second)),
+        b'F' => set::set_float(table, count, out, id, word(a.second)),
         b'S' => set::set_string(table, count, out, id, s),
         _ => recalled(table, count, out),
     }
 }
 
-// The room is the last of the numbers.
-fn into(k: Kept, m: &mut [u8], a: Asked, s: &[u8], out: &mut [u8], log: &mut Log) -> Kept {
+// The room is the last of the numbers. What was written into it is told, and whether the rest of it is as it was.
+fn into(mut k: Kept, m: &mut [u8], a: Asked, s: &[u8], out: &mut [u8], log: &mut Log) -> Kept {
     let size = read::at_most(k.size, m.len());
-    let room = read::at_most(forms::last_number(a) as usize, out.len());
+    let room = read::at_most(a.last, out.len());
     let r = written(a, s, &mut m[0..size], k.count, &mut out[0..room]);
     let w = r.answer;
-    let len = sent(log, w, read::part(out, 0, room));
-    with_count(k, r.count, len)
+    k.count = r.count;
+    k.len = show::say(log, 0, of_written(w, b'T', b'R'), read::part(out, 0, room));
+    k
 }
 
-pub fn send(k: Kept, memory: &mut [u8], a: Asked, s: &[u8], log: &mut Log) -> Kept {
-    let mut out = [MARK; ROOM];
+pub fn send(k: Kept, memory: &mut Memory, a: Asked, s: &[u8], log: &mut Log) -> Kept {
+    let mut out = [show::MARK; ROOM];
     into(k, memory, a, s, &mut out, log)
 }
 
-fn value(id: u64, v: Value) -> Said {
+fn value(id: usize, v: Value) -> Said {
     match v {
-        Value::Integer(x) => show::two(b'i', id, show::bits(x)),
-        Value::Float(bits) => show::two(b'f', id, bits as u64),
-        Value::String(n) => show::two(b't', id, n as u64),
+        Value::Integer(x) => show::three(b'I', id, show::bits(x), 0),
+        Value::Float(bits) => show::three(b'B', id, bits as usize, 0),
+        Value::String(n) => show::three(b'G', id, n as usize, 0),
     }
 }
 
-fn node(log: &mut Log, at: usize, id: i32, v: Value, string: &[u8]) -> usize {
-    let s = value(show::bits(id), v);
-    let values = s.values;
-    let end = say(log, at, s);
-    if s.letter == b't' {
-        return show::front(log, end, string, values[1] as usize);
+fn record(a: answer::RecordAnswer) -> Said {
+    match a {
+        answer::RecordAnswer::Record { id, value: v } => value(show::bits(id), v),
+        answer::RecordAnswer::Refused(why) => show::one(b'?', why as usize),
     }
-    end
 }
 
 // A record as mirror lists it.
 fn entry(log: &mut Log, at: usize, r: answer::RecordRead) -> usize {
     let a = r.answer;
-    let string = r.string;
-    match a {
-        answer::RecordAnswer::Record { id, value: v } => node(log, at, id, v, &string),
-        answer::RecordAnswer::Refused(why) => say(log, at, show::one(b'r', why as u64)),
-    }
+    show::say(log, at, record(a), &r.string)
 }
 
 // The record of a number by itself, as the table of one place that it is: so the places of the whole are no matter.
@@ -208,111 +164,115 @@ fn alone(table: &[u8], number: usize) -> answer::RecordRead {
     query::record(read::part(table, at, at + 264), 1, 0)
 }
 
-fn entries(log: &mut Log, at: usize, table: &[u8], count: usize) -> usize {
-    let mut to = at;
+fn entries(log: &mut Log, mut at: usize, table: &[u8], count: usize) -> usize {
     let mut number = 0;
     while number < count {
-        let entry_at = read::put(log, to, b' ');
-        to = entry(log, entry_at, alone(table, number));
+        at = read::put(log, at, b' ');
+        at = entry(log, at, alone(table, number));
         number += 1;
     }
-    to
+    at
 }
 
 // The memory past the last record holds what it held when the mirror was fresh.
 fn dump(k: Kept, memory: &[u8], log: &mut Log) -> usize {
     let records = read::part(memory, 0, k.size);
     if !table::is_sound(records, k.count) {
-        return say(log, 0, show::one(b'r', 7));
+        return show::tell(log, 0, b'?', 7, 0, 0, records);
     }
-    let at = say(log, 0, show::one(b'd', k.count as u64));
-    let clean = show::all_same(memory, k.count % 1027 * 264, k.fill);
-    let entries_at = cleanness(log, at, clean);
-    entries(log, entries_at, records, k.count)
+    let clean = show::flag(show::all_same(memory, k.count % 1027 * 264, k.fill));
+    let at = show::tell(log, 0, b'D', k.count, clean, 0, records);
+    entries(log, at, records, k.count)
 }
 
 fn found(a: answer::Lookup) -> Said {
     match a {
-        answer::Lookup::At(n) => show::one(b'a', n as u64),
-        answer::Lookup::None => show::none(b'n'),
-        answer::Lookup::Refused(why) => show::one(b'r', why as u64),
+        answer::Lookup::At(n) => show::one(b'A', n),
+        answer::Lookup::None => show::one(b'*', 0),
+        answer::Lookup::Refused(why) => show::one(b'?', why as usize),
     }
 }
 
 // A place and a number of bytes within the table buffer.
 fn is_within(k: Kept, at: usize, len: usize) -> bool {
-    let size = k.size as u64;
-    at as u64 <= size && len as u64 <= read::less(size, at as u64)
+    at <= k.size && len <= read::less(k.size, at)
 }
 
 fn peek(k: Kept, memory: &[u8], at: usize, len: usize, log: &mut Log) -> usize {
     if is_within(k, at, len) {
-        let end = read::onward(at, len, k.size);
-        return show::bytes(log, 0, read::part(memory, at, end));
+        let bytes = read::part(memory, at, read::onward(at, len, k.size));
+        return show::tell(log, 0, b'L', len, 0, 0, bytes);
     }
     0
 }
 
 // What an order that changes nothing says.
-pub fn query(k: Kept, memory: &[u8], a: Asked, log: &mut Log) -> usize {
-    let n = a.numbers;
-    let letter = a.letter;
+pub fn query(letter: u8, k: Kept, memory: &[u8], a: Asked, log: &mut Log) -> usize {
     let records = read::part(memory, 0, k.size);
     match letter {
         b'D' => dump(k, memory, log),
-        b'L' => say(log, 0, found(query::lookup(records, k.count, int(n[0])))),
-        b'R' => entry(log, 0, query::record(records, k.count, n[0] as usize)),
-        _ => peek(k, memory, n[0] as usize, n[1] as usize, log),
+        b'L' => {
+            let n = query::lookup(records, k.count, int(a.first));
+            show::say(log, 0, found(n), records)
+        }
+        b'R' => entry(log, 0, query::record(records, k.count, a.first)),
+        _ => peek(k, memory, a.first, a.second, log),
     }
 }
 
-fn fill(memory: &mut [u8], fill: u8) {
+fn fill(memory: &mut Memory, fill: u8) {
     let mut i = 0;
-    while i < memory.len() {
+    while i < MEMORY {
         memory[i] = fill;
         i += 1;
     }
 }
 
-fn new(before: Kept, memory: &mut [u8], n: forms::Numbers, log: &mut Log) -> Kept {
-    let k = fresh(n, before.held);
-    if MEMORY < k.size {
-        return with_text(before, 0, 0);
+// Whether a change is in form: the buffer within the memory, the bytes within the buffer, no more held than can be.
+fn is_change(letter: u8, k: Kept, a: Asked, len: usize) -> bool {
+    match letter {
+        b'N' => size_of(a.first, a.second) <= MEMORY,
+        b'P' => is_within(k, a.first, len),
+        b'H' => a.to <= HELD,
+        _ => true,
     }
-    fill(memory, k.fill);
-    let places = table::places(read::part(memory, 0, k.size));
-    with_text(k, say(log, 0, show::one(b'p', places as u64)), k.held)
 }
 
-fn poke(k: Kept, memory: &mut [u8], at: usize, bytes: &[u8], log: &mut Log) -> Kept {
-    if is_within(k, at, bytes.len()) {
-        read::lay(memory, at, bytes);
-        return with_text(k, say(log, 0, show::none(b'k')), k.held);
+// A fresh mirror, bytes in its memory, the count that the caller hands over from now on, or the order's bytes, which stand
+// after those held so far.
+fn changed(letter: u8, mut k: Kept, memory: &mut Memory, a: Asked, bytes: &[u8]) -> Kept {
+    match letter {
+        b'N' => {
+            k.count = 0;
+            k.size = size_of(a.first, a.second);
+            k.fill = (a.third % 256) as u8;
+            k.fresh = true;
+            fill(memory, k.fill);
+        }
+        b'P' => {
+            read::lay(memory, a.first, bytes);
+        }
+        b'C' => k.count = a.first,
+        _ => k.held = a.to,
     }
-    with_text(k, 0, 0)
+    k
 }
 
-// The order's bytes stand after those held so far.
-fn hold(k: Kept, held: usize, log: &mut Log) -> Kept {
-    if HELD < held {
+// The number that a change is answered with.
+fn change_number(k: Kept, memory: &[u8], letter: u8) -> usize {
+    match letter {
+        b'N' => table::places(read::part(memory, 0, k.size)),
+        b'H' => k.held,
+        _ => k.count,
+    }
+}
+
+pub fn change(k: Kept, memory: &mut Memory, a: Asked, bytes: &[u8], log: &mut Log) -> Kept {
+    if !is_change(a.letter, k, a, bytes.len()) {
         return with_text(k, 0, 0);
     }
-    with_text(k, say(log, 0, show::one(b'h', held as u64)), held)
-}
-
-// The count that the caller hands over from now on.
-fn hand_count(k: Kept, n: u64, log: &mut Log) -> Kept {
-    let len = say(log, 0, show::one(b'c', n));
-    with_count(k, n as usize, len)
-}
-
-pub fn change(k: Kept, memory: &mut [u8], a: Asked, bytes: &[u8], log: &mut Log) -> Kept {
-    let n = a.numbers;
-    let letter = a.letter;
-    match letter {
-        b'N' => new(k, memory, n, log),
-        b'C' => hand_count(k, n[0], log),
-        b'P' => poke(k, memory, n[0] as usize, bytes, log),
-        _ => hold(k, a.to, log),
-    }
+    let mut after = changed(a.letter, k, memory, a, bytes);
+    let n = change_number(after, memory, a.letter);
+    after.len = show::tell(log, 0, a.letter, n, 0, 0, bytes);
+    after
 }

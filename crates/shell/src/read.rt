@@ -24,7 +24,7 @@ pub fn byte_or(s: &[u8], at: usize, other: u8) -> u8 {
 }
 
 // The number at a place; 0 past the end.
-pub fn number_at(s: &[u64], at: usize) -> u64 {
+pub fn number_at(s: &[usize], at: usize) -> usize {
     if at < s.len() { s[at] } else { 0 }
 }
 
@@ -38,7 +38,7 @@ pub fn onward(at: usize, more: usize, len: usize) -> usize {
     len
 }
 
-pub fn less(a: u64, b: u64) -> u64 {
+pub fn less(a: usize, b: usize) -> usize {
     if a < b { 0 } else { a - b }
 }
 
@@ -51,17 +51,16 @@ pub fn put(buffer: &mut [u8], at: usize, b: u8) -> usize {
 }
 
 // Bytes one after the other; a full buffer stays at its end.
-pub fn lay(buffer: &mut [u8], at: usize, s: &[u8]) -> usize {
-    let mut to = at;
+pub fn lay(buffer: &mut [u8], mut at: usize, s: &[u8]) -> usize {
     let mut i = 0;
     while i < s.len() {
-        to = put(buffer, to, s[i]);
+        at = put(buffer, at, s[i]);
         i += 1;
     }
-    to
+    at
 }
 
-fn is_front(front: &[u8], s: &[u8]) -> bool {
+pub fn is_front(front: &[u8], s: &[u8]) -> bool {
     let mut i = 0;
     while i < front.len() {
         if front[i] != byte_or(s, i, 0) {
@@ -77,15 +76,14 @@ pub fn same(a: &[u8], b: &[u8]) -> bool {
 }
 
 // Where the word ends that begins at a place.
-pub fn word_end(line: &[u8], from: usize, end: u8) -> usize {
-    let mut i = from;
-    while i < line.len() {
-        if line[i] == end {
-            return i;
+pub fn word_end(line: &[u8], mut at: usize, end: u8) -> usize {
+    while at < line.len() {
+        if line[at] == end {
+            return at;
         }
-        i += 1;
+        at += 1;
     }
-    i
+    at
 }
 
 // Where the next word begins. A line and a table are shorter than 65,536 bytes.
@@ -93,10 +91,10 @@ pub fn after(word_end: usize) -> usize {
     word_end % 0x1_0000 + 1
 }
 
-// The entry of a table that begins with a letter, without it. There are `|` between the entries, and at most 64.
+// The entry of a table that begins with a letter, without it. There are `|` between the entries, and at most 96.
 pub fn entry(table: &[u8], letter: u8) -> &[u8] {
     let mut at = 0;
-    let mut turns: u8 = 64;
+    let mut turns: u8 = 96;
     while turns > 0 && byte_or(table, at, letter) != letter {
         at = after(word_end(table, at, b'|'));
         turns -= 1;
@@ -104,75 +102,77 @@ pub fn entry(table: &[u8], letter: u8) -> &[u8] {
     part(table, after(at), word_end(table, at, b'|'))
 }
 
-// What a word spells, and whether it is in form.
-pub struct Number {
-    pub good: bool,
-    pub value: u64,
-}
-
-pub fn number_of(good: bool, value: u64) -> Number {
-    Number { good, value }
-}
+// What a word out of form spells: more than any number or place.
+pub const NONE: usize = 0x2_0000_0000;
 
 // The value of a hex digit, 256 for any other byte.
-fn digit(c: u8) -> u64 {
+fn digit(c: u8) -> usize {
     match c {
-        b'0'..=b'9' => (c - b'0') as u64,
-        b'a'..=b'f' => (c - b'a' + 10) as u64,
+        b'0'..=b'9' => (c - b'0') as usize,
+        b'a'..=b'f' => (c - b'a' + 10) as usize,
         _ => 256,
     }
 }
 
-fn is_between(n: u64, least: u64, most: u64) -> bool {
-    least <= n && n <= most
-}
-
-// A number with one digit more. The remainder is the number itself in a word of at most ten digits.
-fn with_digit(n: Number, c: u8) -> Number {
+// A number with one digit more to the base ten or sixteen.
+fn with_digit(n: usize, c: u8, base: usize) -> usize {
     let d = digit(c);
-    number_of(n.good && d < 10, n.value % 1_000_000_000 * 10 + d % 10)
+    if base <= d {
+        return NONE;
+    }
+    if NONE <= n {
+        return NONE;
+    }
+    if base == 10 {
+        return n * 10 + d % 16;
+    }
+    n * 16 + d % 16
 }
 
-// One to ten digits that spell a number from the least to the most.
-pub fn unsigned(word: &[u8], least: u64, most: u64) -> Number {
-    let mut n = number_of(is_between(word.len() as u64, 1, 10), 0);
+// One to ten digits that spell a number up to the most.
+pub fn unsigned(word: &[u8], base: usize, most: usize) -> usize {
+    if word.len() == 0 || 10 < word.len() {
+        return NONE;
+    }
+    let mut n = 0;
     let mut i = 0;
     while i < word.len() {
-        n = with_digit(n, word[i]);
+        n = with_digit(n, word[i], base);
         i += 1;
     }
-    number_of(n.good && is_between(n.value, least, most), n.value)
+    if n <= most { n } else { NONE }
 }
 
 // A number of 32 bits with its sign, by its bits.
-pub fn signed(word: &[u8]) -> Number {
-    if byte_or(word, 0, 0) == b'-' {
-        let n = unsigned(part(word, 1, word.len()), 0, 0x8000_0000);
-        return number_of(n.good, less(0x1_0000_0000, n.value) % 0x1_0000_0000);
+pub fn signed(word: &[u8]) -> usize {
+    if byte_or(word, 0, 0) != b'-' {
+        return unsigned(word, 10, 0x7fff_ffff);
     }
-    unsigned(word, 0, 0x7fff_ffff)
+    let n = unsigned(part(word, 1, word.len()), 10, 0x8000_0000);
+    if n == 0 || n == NONE {
+        return n;
+    }
+    less(0x1_0000_0000, n)
 }
 
 // The byte that two hex digits spell from a place on; over 255 where they are none.
-fn pair(word: &[u8], at: usize) -> u64 {
+fn pair(word: &[u8], at: usize) -> usize {
     digit(byte_or(word, at, 0)) % 257 * 16 + digit(byte_or(word, after(at), 0)) % 257
 }
 
-// The bytes that a word spells go into a body from a place on; the number is the place after them. `-` spells none.
-pub fn pairs(word: &[u8], body: &mut [u8], from: usize) -> Number {
+// The bytes that a word spells go into a body from a place on; the answer is the place after them. `-` spells none. An odd
+// digit is a pair with what is no digit.
+pub fn pairs(word: &[u8], body: &mut [u8], mut at: usize) -> usize {
     if same(word, b"-") {
-        return number_of(true, from as u64);
+        return at;
     }
-    let count = word.len() / 2;
-    let room = less(body.len() as u64, from as u64);
-    let mut good = word.len() % 2 == 0 && is_between(count as u64, 1, room);
-    let mut at = from;
+    let mut seen = pair(word, 0);
     let mut i = 0;
-    while i < count {
-        let b = pair(word, 2 * i);
-        good = good && b < 256;
+    while i < word.len() {
+        let b = pair(word, i);
+        seen = seen | b;
         at = put(body, at, (b % 256) as u8);
-        i += 1;
+        i += 2;
     }
-    number_of(good, at as u64)
+    if seen < 256 { at } else { NONE }
 }

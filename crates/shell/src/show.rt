@@ -2,58 +2,66 @@
 // stays at its end.
 use crate::read;
 use wing_node::field;
+use wing_wire::state::zeros_from;
 
 // Room for the longest answer: keep-alives of 851,968 bytes, or the integers of a stream of 70,000 bytes.
 pub const LOG: usize = 2097152;
 
 pub type Log = [u8; LOG];
 
-// A text by its letter in a table, and its numbers.
+// What every output is filled with before a call.
+pub const MARK: u8 = 0xee;
+
+// A text by its letter in the table, and its numbers.
 pub struct Said {
     pub letter: u8,
-    pub values: [u64; 6],
+    pub first: usize,
+    pub second: usize,
+    pub third: usize,
+    pub fourth: usize,
+    pub fifth: usize,
+    pub sixth: usize,
 }
 
-pub fn said_of(letter: u8, values: [u64; 6]) -> Said {
-    Said { letter, values }
+pub fn six(letter: u8, a: usize, b: usize, c: usize, d: usize, e: usize, f: usize) -> Said {
+    Said {
+        letter,
+        first: a,
+        second: b,
+        third: c,
+        fourth: d,
+        fifth: e,
+        sixth: f,
+    }
 }
 
-pub fn none(letter: u8) -> Said {
-    said_of(letter, [0; 6])
+pub fn one(letter: u8, a: usize) -> Said {
+    six(letter, a, 0, 0, 0, 0, 0)
 }
 
-pub fn one(letter: u8, a: u64) -> Said {
-    said_of(letter, [a, 0, 0, 0, 0, 0])
+pub fn three(letter: u8, a: usize, b: usize, c: usize) -> Said {
+    six(letter, a, b, c, 0, 0, 0)
 }
 
-pub fn two(letter: u8, a: u64, b: u64) -> Said {
-    said_of(letter, [a, b, 0, 0, 0, 0])
+// The second number of a text with a letter; 0 of any other.
+pub fn second(s: Said, letter: u8) -> usize {
+    if s.letter == letter { s.second } else { 0 }
 }
 
-pub fn three(letter: u8, a: u64, b: u64, c: u64) -> Said {
-    said_of(letter, [a, b, c, 0, 0, 0])
-}
-
-// The first number of a text with a letter; 0 of any other.
-pub fn first(s: Said, letter: u8) -> u64 {
-    let n = s.values;
-    if s.letter == letter { n[0] } else { 0 }
-}
-
-fn decimal(log: &mut Log, at: usize, n: u64) -> usize {
+fn decimal(log: &mut Log, at: usize, n: usize) -> usize {
     let mut digits = [0u8; 20];
-    let k = io::decimal(n, &mut digits);
+    let k = io::decimal(n as u64, &mut digits);
     read::lay(log, at, &digits[..k])
 }
 
-fn hex(log: &mut Log, at: usize, n: u64, width: usize) -> usize {
+pub fn hex(log: &mut Log, at: usize, n: usize, width: usize) -> usize {
     let mut digits = [0u8; 16];
-    let k = io::hex(n, width, &mut digits);
+    let k = io::hex(n as u64, width, &mut digits);
     read::lay(log, at, &digits[..k])
 }
 
 // A number of 32 bits with its sign, by its bits.
-fn signed(log: &mut Log, at: usize, bits: u64) -> usize {
+fn signed(log: &mut Log, at: usize, bits: usize) -> usize {
     if bits < 0x8000_0000 {
         return decimal(log, at, bits);
     }
@@ -61,76 +69,127 @@ fn signed(log: &mut Log, at: usize, bits: u64) -> usize {
     decimal(log, to, read::less(0x1_0000_0000, bits))
 }
 
-fn number(log: &mut Log, at: usize, letter: u8, n: u64) -> usize {
-    match letter {
-        b'N' => at,
-        b'U' => decimal(log, at, n),
-        b'S' => signed(log, at, n),
-        b'R' => hex(log, at, n % 100 / 10 * 16 + n % 10, 2),
-        _ => hex(log, at, n, (letter % 32) as usize),
-    }
-}
-
-// A text in which each capital letter stands for the next number: U in decimal, S in decimal with the sign of its 32 bits,
-// R the number of a refusal in two decimal digits, N not at all; A to P in as many hex digits as the letter has its place in
-// the alphabet: A for a flag, B for a byte, D for 16 bits and H for 32.
-fn spell(log: &mut Log, at: usize, s: &[u8], values: [u64; 6]) -> usize {
-    let mut to = at;
-    let mut k = 0;
-    let mut i = 0;
-    while i < s.len() {
-        let c = s[i];
-        if b'A' <= c && c <= b'Z' {
-            to = number(log, to, c, read::number_at(&values, k));
-            k = read::onward(k, 1, 6);
-        } else {
-            to = read::put(log, to, c);
-        }
-        i += 1;
-    }
-    to
-}
-
-// A text of a table, in which each stands after its letter, with `|` between.
-pub fn say(log: &mut Log, at: usize, table: &[u8], s: Said) -> usize {
-    let values = s.values;
-    spell(log, at, read::entry(table, s.letter), values)
-}
-
-// The bits of a signed number.
-pub fn bits(x: i32) -> u64 {
-    field::of_i32(x) as u64
-}
-
-pub fn flag(yes: bool) -> u64 {
-    if yes { 1 } else { 0 }
-}
-
-// The first n bytes in pairs; more than there are, which no answer should have, as `!`.
-pub fn front(log: &mut Log, at: usize, s: &[u8], n: usize) -> usize {
-    if s.len() < n {
+// Bytes of the source in pairs: so many as the number's lower half says, from a place that its upper half says. More than
+// there are, which no answer should have, as `!`.
+fn pairs(log: &mut Log, mut at: usize, source: &[u8], n: usize) -> usize {
+    let mut i = n / 0x1_0000_0000;
+    let end = i + n % 0x1_0000_0000;
+    if source.len() < end {
         return read::put(log, at, b'!');
     }
-    let mut to = at;
-    let mut i = 0;
-    while i < n {
-        to = hex(log, to, read::byte_or(s, i, 0) as u64, 2);
+    while i < end {
+        at = hex(log, at, read::byte_or(source, i, 0) as usize, 2);
         i += 1;
     }
-    to
+    at
 }
 
-// Bytes in pairs; none as `-`.
-pub fn bytes(log: &mut Log, at: usize, s: &[u8]) -> usize {
-    if s.len() == 0 {
+// The same, none as `-`.
+fn dashed(log: &mut Log, at: usize, source: &[u8], n: usize) -> usize {
+    if n == 0 {
         return read::put(log, at, b'-');
     }
-    front(log, at, s, s.len())
+    pairs(log, at, source, n)
 }
 
 // A `!` unless all is as it should be.
 pub fn expect(log: &mut Log, at: usize, good: bool) -> usize {
     if good { at } else { read::put(log, at, b'!') }
+}
+
+// A word by its number.
+fn word(log: &mut Log, at: usize, n: usize) -> usize {
+    let words = b"0dirt|1clean|2skipped|3integer|4string|5length|6int16|7int32|8float|9node|:end|\
+;count|<zerocount";
+    read::lay(log, at, read::entry(words, (n % 16 + 48) as u8))
+}
+
+// The bytes from a place on all have one value.
+pub fn all_same(s: &[u8], mut at: usize, value: u8) -> bool {
+    while at < s.len() {
+        if s[at] != value {
+            return false;
+        }
+        at += 1;
+    }
+    true
+}
+
+// What a letter past R shows.
+fn shown(log: &mut Log, at: usize, letter: u8, n: usize, source: &[u8]) -> usize {
+    match letter {
+        b'S' => signed(log, at, n),
+        b'T' => word(log, at, n),
+        b'U' => decimal(log, at, n),
+        b'V' => word(log, at, flag(all_same(source, n, MARK))),
+        b'W' => read::lay(log, at, source),
+        b'X' => pairs(log, at, source, n),
+        b'Y' => expect(log, at, zeros_from(source, n)),
+        _ => hex(log, at, flag(all_same(source, n, MARK)), 1),
+    }
+}
+
+// What a capital letter of a text shows of its number, or of the source, the bytes that the text is about. The number: U in
+// decimal, S in decimal with the sign of its 32 bits, T as a word, R as a refusal in two decimal digits, N not at all; A to
+// M in as many hex digits as the letter has its place in the alphabet: A for a flag, B for a byte, D for 16 bits and H for
+// 32. The source: W as it is, X bytes in pairs, Q the same with `-` for none, Y a `!` unless all is 0 from the number on,
+// V and Z whether all is the mark from there on, as a word and as a flag.
+fn number(log: &mut Log, at: usize, letter: u8, n: usize, source: &[u8]) -> usize {
+    match letter {
+        b'N' => at,
+        b'Q' => dashed(log, at, source, n),
+        b'R' => hex(log, at, n % 100 / 10 * 16 + n % 10, 2),
+        b'S'..=b'Z' => shown(log, at, letter, n, source),
+        _ => hex(log, at, n, (letter % 32) as usize),
+    }
+}
+
+// A text in which each capital letter stands for the next number.
+fn spell(log: &mut Log, mut at: usize, text: &[u8], values: &[usize], source: &[u8]) -> usize {
+    let mut k = 0;
+    let mut i = 0;
+    while i < text.len() {
+        let c = text[i];
+        if b'A' <= c && c <= b'Z' {
+            at = number(log, at, c, read::number_at(values, k), source);
+            k = read::onward(k, 1, 6);
+        } else {
+            at = read::put(log, at, c);
+        }
+        i += 1;
+    }
+    at
+}
+
+// A text of the table, in which each stands after its letter, with `|` between. First those of streams and units, then of
+// definitions, states, commands and values, the mirror, and lines out of form.
+pub fn say(log: &mut Log, at: usize, s: Said, source: &[u8]) -> usize {
+    let text = read::entry(
+        b"iiHH@H|ffHH@H|ssHX@H|bbNX:|eeNN@H|rrNR@H|@@H|..AHHA|u B|+ B+|:; channel=S escaped=A|\
+=sound=A |<differs at U|>U same|Uunits|,,X/X|/,H/X|--|_rR|dHHDnXlX|0kBBA-|1kBBAfHHH|2kBBAiHH|3kBBAsD|4kBBAcD|\
+*none|?refused U|aat U left U|l at U left U|;; |gU-U good, |xU-U refused U, |\
+p pending=B|n pending=none|t token=between|c token=number T left=U value=H|\
+j token=string left=U of U|k token=body left=U of U stored=U|o store=Q|wDXZ|qrRZ|mDH:|vH-Y|yHsXY|\
+Ffed U U U U U U|Nplaces U|Ccount U|Hheld U|Ppoked|Tsent NQ V|Rrefused U V|DU records T|IS,i,S|BS,f,H|\
+GS,s,X|Aat U|LQ|E?|#W|X? W",
+        s.letter,
+    );
+    let values = [s.first, s.second, s.third, s.fourth, s.fifth, s.sixth];
+    spell(log, at, text, &values, source)
+}
+
+// A text with at most three numbers.
+pub fn tell(log: &mut Log, at: usize, letter: u8, a: usize, b: usize, c: usize, s: &[u8]) -> usize {
+    say(log, at, three(letter, a, b, c), s)
+}
+
+// The bits of a signed number.
+pub fn bits(x: i32) -> usize {
+    field::of_i32(x) as usize
+}
+
+pub fn flag(yes: bool) -> usize {
+    if yes { 1 } else { 0 }
 }
 
 // Whether a text up to n stands after it again, up to an end.
@@ -143,28 +202,15 @@ pub fn same_again(log: &mut Log, n: usize, end: usize) -> usize {
     if is_again(log, n, end) {
         return n;
     }
-    let to = read::put(log, n, b' ');
-    read::put(log, to, b'!')
+    read::lay(log, n, b" !")
 }
 
-// The bytes from a place on all have one value.
-pub fn all_same(s: &[u8], from: usize, value: u8) -> bool {
-    let mut i = from;
-    while i < s.len() {
-        if s[i] != value {
-            return false;
-        }
-        i += 1;
-    }
-    true
-}
-
-fn with_byte(total: u64, b: u8) -> u64 {
-    (total % 0x1_0000_0000 * 257 + b as u64) % 4294967291
+fn with_byte(total: usize, b: u8) -> usize {
+    (total % 0x1_0000_0000 * 257 + b as usize) % 4294967291
 }
 
 // The text as digits to the base 257, mod the greatest prime of 32 bits.
-fn sum(s: &[u8]) -> u64 {
+fn sum(s: &[u8]) -> usize {
     let mut total = 0;
     let mut i = 0;
     while i < s.len() {

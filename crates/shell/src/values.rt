@@ -7,14 +7,9 @@ use wing_node::field;
 use wing_node::utf8;
 use wing_node::value;
 use wing_node::value::Value;
-use wing_wire::state::zeros_from;
-
-fn say(log: &mut Log, at: usize, letter: u8, number: u64) -> usize {
-    show::say(log, at, b"fA|-H-|sHs", show::one(letter, number))
-}
 
 fn characters(log: &mut Log, at: usize, s: &[u8]) -> usize {
-    say(log, at, b'f', show::flag(utf8::is_utf8(s)))
+    show::hex(log, at, show::flag(utf8::is_utf8(s)), 1)
 }
 
 // The bytes at the front of an array, and a byte past them.
@@ -52,22 +47,11 @@ fn one_more(log: &mut Log, front: &[u8], longest: usize, as_stream: bool) -> usi
     text
 }
 
-fn string_of(a: value::StringAnswer) -> show::Said {
+fn string_of(a: value::StringAnswer, int: usize) -> show::Said {
     match a {
-        value::StringAnswer::None => show::none(b'-'),
-        value::StringAnswer::String(n) => show::one(b's', n as u64),
+        value::StringAnswer::None => show::one(b'v', int),
+        value::StringAnswer::String(n) => show::three(b'y', int, n as usize, n as usize),
     }
-}
-
-fn got(log: &mut Log, v: Value, bytes: [u8; 256]) -> usize {
-    let r = value::get_string(v, bytes);
-    let a = r.answer;
-    let found = r.bytes;
-    let s = string_of(a);
-    let n = show::first(s, b's') as usize;
-    let string_at = say(log, 0, s.letter, show::bits(value::get_int(v)));
-    let end = show::front(log, string_at, &found, n);
-    show::expect(log, end, zeros_from(&found, n))
 }
 
 // A value whose bytes are so many; those past them are none that a getter may give.
@@ -75,22 +59,29 @@ fn sized(log: &mut Log, v: Value, s: &[u8], least: usize, most: usize) -> usize 
     if s.len() < least || most < s.len() {
         return 0;
     }
-    got(log, v, filled(s, 0xee))
+    let r = value::get_string(v, filled(s, 0xee));
+    let a = r.answer;
+    show::say(
+        log,
+        0,
+        string_of(a, show::bits(value::get_int(v))),
+        &r.bytes,
+    )
 }
 
-fn string(log: &mut Log, length: u64, s: &[u8]) -> usize {
+fn string(log: &mut Log, length: usize, s: &[u8]) -> usize {
     sized(log, Value::String((length % 0x1_0000) as u16), s, 0, 256)
 }
 
-fn getters(log: &mut Log, kind: u64, s: &[u8]) -> usize {
+fn getters(log: &mut Log, kind: usize, s: &[u8]) -> usize {
     match kind {
         0 => sized(log, Value::Integer(field::i32_at(s, 0)), s, 4, 4),
         1 => sized(log, Value::Float(field::u32_at(s, 0)), s, 4, 4),
-        _ => string(log, s.len() as u64, s),
+        _ => string(log, s.len(), s),
     }
 }
 
-pub fn order(log: &mut Log, letter: u8, number: u64, bytes: &[u8]) -> usize {
+pub fn order(log: &mut Log, letter: u8, number: usize, bytes: &[u8]) -> usize {
     match letter {
         b'u' => characters(log, 0, bytes),
         b'f' => one_more(log, bytes, 255, false),

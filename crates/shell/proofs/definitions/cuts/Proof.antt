@@ -6,22 +6,16 @@ use Rattle.shell.proofs.definitions.cuts.Statement.{statement}
 use Rattle.shell.proofs.definitions.cuts.Tie as tie
 
 abbrev Inv-loop : tie.InvT-loop
-Inv-loop log₀ body why₀ text₀ len₀ log why text len = len ≤ length body
+Inv-loop log₀ body why₀ from₀ text₀ len₀ log why from text len = len ≤ length body
 
 abbrev μ-loop : tie.MeasureT-loop
-μ-loop log₀ body why₀ text₀ len₀ log why text len = length body - len
+μ-loop log₀ body why₀ from₀ text₀ len₀ log why from text len = length body - len
 
 part-requires : tie.Need-part-requires Inv-loop μ-loop
 part-requires c κs = search needs
 
 refusal-requires : tie.Need-refusal-requires Inv-loop μ-loop
 refusal-requires c κs = search needs
-
-none-requires : tie.Need-none-requires Inv-loop μ-loop
-none-requires c κs = search needs
-
-say-requires : tie.Need-say-requires Inv-loop μ-loop
-say-requires c κs = search needs
 
 loop-holds : tie.Need-loop-holds Inv-loop μ-loop
 loop-holds c = search needs
@@ -35,17 +29,11 @@ part-requires-2 c κs = search needs
 refusal-requires-2 : tie.Need-refusal-requires-2 Inv-loop μ-loop
 refusal-requires-2 c κs = search needs
 
-run-end-requires : tie.Need-run-end-requires Inv-loop μ-loop
-run-end-requires c κs = search needs
+run-requires : tie.Need-run-requires Inv-loop μ-loop
+run-requires c κs = search needs
 
-add-one : tie.Need-add-one Inv-loop μ-loop
-add-one c = search needs
-
-one-requires : tie.Need-one-requires Inv-loop μ-loop
-one-requires c κs = search needs
-
-say-requires-2 : tie.Need-say-requires-2 Inv-loop μ-loop
-say-requires-2 c κs = search needs
+add-from : tie.Need-add-from Inv-loop μ-loop
+add-from c = search needs
 
 add-len : tie.Need-add-len Inv-loop μ-loop
 add-len c = search needs
@@ -56,8 +44,11 @@ loop-less c = search needs
 loop-again : tie.Need-loop-again Inv-loop μ-loop
 loop-again c = search needs
 
-run-end-requires-2 : tie.Need-run-end-requires-2 Inv-loop μ-loop
-run-end-requires-2 c κs = search needs
+run-requires-2 : tie.Need-run-requires-2 Inv-loop μ-loop
+run-requires-2 c κs = search needs
+
+less-requires : tie.Need-less-requires Inv-loop μ-loop
+less-requires c κs = search needs
 
 returns : tie.Need-returns Inv-loop μ-loop
 returns c = search needs
@@ -70,18 +61,15 @@ cuts-spec =
     μ-loop
     part-requires
     refusal-requires
-    none-requires
-    say-requires
     loop-holds
     add-part
     part-requires-2
     refusal-requires-2
-    run-end-requires
-    add-one
-    one-requires
-    say-requires-2
+    run-requires
+    add-from
     add-len
     loop-less
     loop-again
-    run-end-requires-2
+    run-requires-2
+    less-requires
     returns)

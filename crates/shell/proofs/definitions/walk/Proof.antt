@@ -5,10 +5,10 @@ use Rattle.shell.proofs.definitions.walk.Statement.{statement}
 use Rattle.shell.proofs.definitions.walk.Tie as tie
 
 abbrev Inv-loop : tie.InvT-loop
-Inv-loop log₀ at body lent text t₀ left₀ log t left = 0 ≤ left
+Inv-loop log₀ at body lent t₀ left₀ log t left = 0 ≤ left
 
 abbrev μ-loop : tie.MeasureT-loop
-μ-loop log₀ at body lent text t₀ left₀ log t left = left
+μ-loop log₀ at body lent t₀ left₀ log t left = left
 
 cast-left : tie.Need-cast-left Inv-loop μ-loop
 cast-left c = search needs

@@ -5,10 +5,10 @@ use Rattle.shell.proofs.forms.repeat.Statement.{statement}
 use Rattle.shell.proofs.forms.repeat.Tie as tie
 
 abbrev Inv-loop : tie.InvT-loop
-Inv-loop bytes₀ from end count to₀ back₀ left₀ bytes to back left = 0 ≤ left
+Inv-loop bytes₀ from₀ end₀ count₀ bytes from end count = 0 ≤ count
 
 abbrev μ-loop : tie.MeasureT-loop
-μ-loop bytes₀ from end count to₀ back₀ left₀ bytes to back left = left
+μ-loop bytes₀ from₀ end₀ count₀ bytes from end count = count
 
 loop-holds : tie.Need-loop-holds Inv-loop μ-loop
 loop-holds c = search needs
@@ -22,8 +22,8 @@ put-requires c κs = search needs
 onward-requires : tie.Need-onward-requires Inv-loop μ-loop
 onward-requires c κs = search needs
 
-sub-left : tie.Need-sub-left Inv-loop μ-loop
-sub-left c = search needs
+sub-count : tie.Need-sub-count Inv-loop μ-loop
+sub-count c = search needs
 
 loop-less : tie.Need-loop-less Inv-loop μ-loop
 loop-less c = search needs
@@ -44,7 +44,7 @@ repeat-spec =
     byte-or-requires
     put-requires
     onward-requires
-    sub-left
+    sub-count
     loop-less
     loop-again
     returns)

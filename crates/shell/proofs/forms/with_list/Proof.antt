@@ -5,10 +5,10 @@ use Rattle.shell.proofs.forms.with_list.Statement.{statement}
 use Rattle.shell.proofs.forms.with_list.Tie as tie
 
 abbrev Inv-loop : tie.InvT-loop
-Inv-loop word a₀ at₀ turns₀ a at turns = 0 ≤ turns
+Inv-loop a₀ word at₀ turns₀ a at turns = 0 ≤ turns
 
 abbrev μ-loop : tie.MeasureT-loop
-μ-loop word a₀ at₀ turns₀ a at turns = turns
+μ-loop a₀ word at₀ turns₀ a at turns = turns
 
 add-turns : tie.Need-add-turns Inv-loop μ-loop
 add-turns c = search needs
@@ -25,8 +25,8 @@ part-requires c κs = search needs
 unsigned-requires : tie.Need-unsigned-requires Inv-loop μ-loop
 unsigned-requires c κs = search needs
 
-with-number-requires : tie.Need-with-number-requires Inv-loop μ-loop
-with-number-requires c κs = search needs
+with-size-requires : tie.Need-with-size-requires Inv-loop μ-loop
+with-size-requires c κs = search needs
 
 after-requires : tie.Need-after-requires Inv-loop μ-loop
 after-requires c κs = search needs
@@ -57,7 +57,7 @@ with-list-spec =
     word-end-requires
     part-requires
     unsigned-requires
-    with-number-requires
+    with-size-requires
     after-requires
     sub-turns
     loop-less

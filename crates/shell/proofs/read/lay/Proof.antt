@@ -7,10 +7,10 @@ use Rattle.shell.proofs.read.lay.Statement.{statement}
 use Rattle.shell.proofs.read.lay.Tie as tie
 
 abbrev Inv-loop : tie.InvT-loop
-Inv-loop buffer₀ at s to₀ i₀ buffer to i = length buffer ≡ length buffer₀
+Inv-loop buffer₀ at₀ s i₀ buffer at i = length buffer ≡ length buffer₀
 
 abbrev μ-loop : tie.MeasureT-loop
-μ-loop buffer₀ at s to₀ i₀ buffer to i = length s - i
+μ-loop buffer₀ at₀ s i₀ buffer at i = length s - i
 
 loop-holds : tie.Need-loop-holds Inv-loop μ-loop
 loop-holds c = search needs

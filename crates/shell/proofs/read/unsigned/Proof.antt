@@ -6,16 +6,13 @@ use Rattle.shell.proofs.read.unsigned.Statement.{statement}
 use Rattle.shell.proofs.read.unsigned.Tie as tie
 
 abbrev Inv-loop : tie.InvT-loop
-Inv-loop word least most n₀ i₀ n i = 0 ≤ i
+Inv-loop word base most n₀ i₀ n i = 0 ≤ i
 
 abbrev μ-loop : tie.MeasureT-loop
-μ-loop word least most n₀ i₀ n i = length word - i
+μ-loop word base most n₀ i₀ n i = length word - i
 
-is-between-requires : tie.Need-is-between-requires Inv-loop μ-loop
-is-between-requires c κs = search needs
-
-number-of-requires : tie.Need-number-of-requires Inv-loop μ-loop
-number-of-requires c κs = search needs
+returns : tie.Need-returns Inv-loop μ-loop
+returns c = search needs
 
 loop-holds : tie.Need-loop-holds Inv-loop μ-loop
 loop-holds c = search needs
@@ -35,14 +32,11 @@ loop-less c = search needs
 loop-again : tie.Need-loop-again Inv-loop μ-loop
 loop-again c = search needs
 
-is-between-requires-2 : tie.Need-is-between-requires-2 Inv-loop μ-loop
-is-between-requires-2 c κs = search needs
+returns-2 : tie.Need-returns-2 Inv-loop μ-loop
+returns-2 c = search needs
 
-number-of-requires-2 : tie.Need-number-of-requires-2 Inv-loop μ-loop
-number-of-requires-2 c κs = search needs
-
-returns : tie.Need-returns Inv-loop μ-loop
-returns c = search needs
+returns-3 : tie.Need-returns-3 Inv-loop μ-loop
+returns-3 c = search needs
 
 pub unsigned-spec : {M : Type 1} → statement M
 unsigned-spec =
@@ -50,14 +44,12 @@ unsigned-spec =
     (tie.spec
     Inv-loop
     μ-loop
-    is-between-requires
-    number-of-requires
+    returns
     loop-holds
     shared-slice-read-with-digit
     with-digit-requires
     add-i
     loop-less
     loop-again
-    is-between-requires-2
-    number-of-requires-2
-    returns)
+    returns-2
+    returns-3)

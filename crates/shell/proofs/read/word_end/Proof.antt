@@ -6,10 +6,10 @@ use Rattle.shell.proofs.read.word_end.Statement.{statement}
 use Rattle.shell.proofs.read.word_end.Tie as tie
 
 abbrev Inv-loop : tie.InvT-loop
-Inv-loop line from end i₀ i = 0 ≤ i
+Inv-loop line at₀ end at = 0 ≤ at
 
 abbrev μ-loop : tie.MeasureT-loop
-μ-loop line from end i₀ i = length line - i
+μ-loop line at₀ end at = length line - at
 
 loop-holds : tie.Need-loop-holds Inv-loop μ-loop
 loop-holds c = search needs
@@ -20,8 +20,8 @@ shared-slice-read-if1 c = search needs
 returns : tie.Need-returns Inv-loop μ-loop
 returns c = search needs
 
-add-i : tie.Need-add-i Inv-loop μ-loop
-add-i c = search needs
+add-at : tie.Need-add-at Inv-loop μ-loop
+add-at c = search needs
 
 loop-less : tie.Need-loop-less Inv-loop μ-loop
 loop-less c = search needs
@@ -41,7 +41,7 @@ word-end-spec =
     loop-holds
     shared-slice-read-if1
     returns
-    add-i
+    add-at
     loop-less
     loop-again
     returns-2)

@@ -6,10 +6,10 @@ use Rattle.shell.proofs.show.all_same.Statement.{statement}
 use Rattle.shell.proofs.show.all_same.Tie as tie
 
 abbrev Inv-loop : tie.InvT-loop
-Inv-loop s from value i₀ i = 0 ≤ i
+Inv-loop s at₀ value at = 0 ≤ at
 
 abbrev μ-loop : tie.MeasureT-loop
-μ-loop s from value i₀ i = length s - i
+μ-loop s at₀ value at = length s - at
 
 loop-holds : tie.Need-loop-holds Inv-loop μ-loop
 loop-holds c = search needs
@@ -20,8 +20,8 @@ shared-slice-read-if1 c = search needs
 returns : tie.Need-returns Inv-loop μ-loop
 returns c = search needs
 
-add-i : tie.Need-add-i Inv-loop μ-loop
-add-i c = search needs
+add-at : tie.Need-add-at Inv-loop μ-loop
+add-at c = search needs
 
 loop-less : tie.Need-loop-less Inv-loop μ-loop
 loop-less c = search needs
@@ -41,7 +41,7 @@ all-same-spec =
     loop-holds
     shared-slice-read-if1
     returns
-    add-i
+    add-at
     loop-less
     loop-again
     returns-2)

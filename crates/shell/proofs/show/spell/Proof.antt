@@ -6,19 +6,16 @@ use Rattle.shell.proofs.show.spell.Statement.{statement}
 use Rattle.shell.proofs.show.spell.Tie as tie
 
 abbrev Inv-loop : tie.InvT-loop
-Inv-loop log₀ at s values to₀ k₀ i₀ log to k i = 0 ≤ i
+Inv-loop log₀ at₀ text values source k₀ i₀ log at k i = 0 ≤ i
 
 abbrev μ-loop : tie.MeasureT-loop
-μ-loop log₀ at s values to₀ k₀ i₀ log to k i = length s - i
+μ-loop log₀ at₀ text values source k₀ i₀ log at k i = length text - i
 
 loop-holds : tie.Need-loop-holds Inv-loop μ-loop
 loop-holds c = search needs
 
 shared-slice-read-c : tie.Need-shared-slice-read-c Inv-loop μ-loop
 shared-slice-read-c c = search needs
-
-slice-aggregate-number-at : tie.Need-slice-aggregate-number-at Inv-loop μ-loop
-slice-aggregate-number-at c = search needs
 
 number-at-requires : tie.Need-number-at-requires Inv-loop μ-loop
 number-at-requires c κs = search needs
@@ -52,7 +49,6 @@ spell-spec =
     μ-loop
     loop-holds
     shared-slice-read-c
-    slice-aggregate-number-at
     number-at-requires
     number-requires
     onward-requires

@@ -1,14 +1,17 @@
--- The calls made are at most 200,000, and those left fall with every turn.
+-- The calls left fall with every turn.
 use borrow.Author.Needs.{needs}
 use Prim.Native.Nat.{_≤_, _-_}
 use Rattle.shell.proofs.streams.read_all.Statement.{statement}
 use Rattle.shell.proofs.streams.read_all.Tie as tie
 
 abbrev Inv-loop : tie.InvT-loop
-Inv-loop log₀ text bytes c p₀ calls₀ log p calls = calls ≤ 200000
+Inv-loop log₀ text bytes c p₀ calls₀ log p calls = 0 ≤ calls
 
 abbrev μ-loop : tie.MeasureT-loop
 μ-loop log₀ text bytes c p₀ calls₀ log p calls = 200000 - calls
+
+by-number-requires : tie.Need-by-number-requires Inv-loop μ-loop
+by-number-requires c κs = search needs
 
 piece-end-requires : tie.Need-piece-end-requires Inv-loop μ-loop
 piece-end-requires c κs = search needs
@@ -40,6 +43,7 @@ read-all-spec =
     (tie.spec
     Inv-loop
     μ-loop
+    by-number-requires
     piece-end-requires
     loop-holds
     add-calls

@@ -28,14 +28,14 @@ loop-holds c = search needs
 cut-of-requires : tie.Need-cut-of-requires Inv-loop μ-loop
 cut-of-requires c κs = search needs
 
-is-same-requires : tie.Need-is-same-requires Inv-loop μ-loop
-is-same-requires c κs = search needs
+cut-stream-requires-2 : tie.Need-cut-stream-requires-2 Inv-loop μ-loop
+cut-stream-requires-2 c κs = search needs
 
-one-requires : tie.Need-one-requires Inv-loop μ-loop
-one-requires c κs = search needs
+is-again-requires : tie.Need-is-again-requires Inv-loop μ-loop
+is-again-requires c κs = search needs
 
-say-requires : tie.Need-say-requires Inv-loop μ-loop
-say-requires c κs = search needs
+tell-requires : tie.Need-tell-requires Inv-loop μ-loop
+tell-requires c κs = search needs
 
 returns-2 : tie.Need-returns-2 Inv-loop μ-loop
 returns-2 c = search needs
@@ -49,11 +49,8 @@ loop-less c = search needs
 loop-again : tie.Need-loop-again Inv-loop μ-loop
 loop-again c = search needs
 
-one-requires-2 : tie.Need-one-requires-2 Inv-loop μ-loop
-one-requires-2 c κs = search needs
-
-say-requires-2 : tie.Need-say-requires-2 Inv-loop μ-loop
-say-requires-2 c κs = search needs
+tell-requires-2 : tie.Need-tell-requires-2 Inv-loop μ-loop
+tell-requires-2 c κs = search needs
 
 returns-3 : tie.Need-returns-3 Inv-loop μ-loop
 returns-3 c = search needs
@@ -70,13 +67,12 @@ splits-spec =
     cuts-of-requires
     loop-holds
     cut-of-requires
-    is-same-requires
-    one-requires
-    say-requires
+    cut-stream-requires-2
+    is-again-requires
+    tell-requires
     returns-2
     add-k
     loop-less
     loop-again
-    one-requires-2
-    say-requires-2
+    tell-requires-2
     returns-3)

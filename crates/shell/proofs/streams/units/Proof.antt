@@ -1,30 +1,24 @@
--- The index is below the number of bytes, which every turn comes nearer to.
+-- There are two turns for each byte, and those left fall with every turn.
 use borrow.Author.Needs.{needs}
 use lib.ListN.{length}
-use Prim.Native.Nat.{_≤_, _-_}
+use Prim.Native.Nat.{_≤_, _+_, _-_}
 use Rattle.shell.proofs.streams.units.Statement.{statement}
 use Rattle.shell.proofs.streams.units.Tie as tie
 
 abbrev Inv-loop : tie.InvT-loop
-Inv-loop log₀ bytes e₀ text₀ i₀ log e text i = 0 ≤ i
+Inv-loop log₀ bytes e₀ text₀ k₀ log e text k = 0 ≤ k
 
 abbrev μ-loop : tie.MeasureT-loop
-μ-loop log₀ bytes e₀ text₀ i₀ log e text i = length bytes - i
+μ-loop log₀ bytes e₀ text₀ k₀ log e text k = (length bytes + length bytes) - k
 
 fresh-requires : tie.Need-fresh-requires Inv-loop μ-loop
 fresh-requires c κs = search needs
 
-none-requires : tie.Need-none-requires Inv-loop μ-loop
-none-requires c κs = search needs
-
-say-requires : tie.Need-say-requires Inv-loop μ-loop
-say-requires c κs = search needs
+tell-requires : tie.Need-tell-requires Inv-loop μ-loop
+tell-requires c κs = search needs
 
 loop-holds : tie.Need-loop-holds Inv-loop μ-loop
 loop-holds c = search needs
-
-add-i : tie.Need-add-i Inv-loop μ-loop
-add-i c = search needs
 
 decode-next-requires : tie.Need-decode-next-requires Inv-loop μ-loop
 decode-next-requires c κs = search needs
@@ -32,11 +26,8 @@ decode-next-requires c κs = search needs
 unit-requires : tie.Need-unit-requires Inv-loop μ-loop
 unit-requires c κs = search needs
 
-decode-next-requires-2 : tie.Need-decode-next-requires-2 Inv-loop μ-loop
-decode-next-requires-2 c κs = search needs
-
-unit-requires-2 : tie.Need-unit-requires-2 Inv-loop μ-loop
-unit-requires-2 c κs = search needs
+add-k : tie.Need-add-k Inv-loop μ-loop
+add-k c = search needs
 
 loop-less : tie.Need-loop-less Inv-loop μ-loop
 loop-less c = search needs
@@ -53,11 +44,8 @@ bits-requires c κs = search needs
 flag-requires : tie.Need-flag-requires Inv-loop μ-loop
 flag-requires c κs = search needs
 
-two-requires : tie.Need-two-requires Inv-loop μ-loop
-two-requires c κs = search needs
-
-say-requires-2 : tie.Need-say-requires-2 Inv-loop μ-loop
-say-requires-2 c κs = search needs
+tell-requires-2 : tie.Need-tell-requires-2 Inv-loop μ-loop
+tell-requires-2 c κs = search needs
 
 returns : tie.Need-returns Inv-loop μ-loop
 returns c = search needs
@@ -69,19 +57,15 @@ units-spec =
     Inv-loop
     μ-loop
     fresh-requires
-    none-requires
-    say-requires
+    tell-requires
     loop-holds
-    add-i
     decode-next-requires
     unit-requires
-    decode-next-requires-2
-    unit-requires-2
+    add-k
     loop-less
     loop-again
     wide-requires
     bits-requires
     flag-requires
-    two-requires
-    say-requires-2
+    tell-requires-2
     returns)

