@@ -1,9 +1,11 @@
 // The six counts of a feed.
 ghost use mathlib.Core.Path.{_≡_};
 ghost use Prim.Native.Nat.{_<_};
+ghost use Rattle.wing_node.specs.Definition.{definitionOf};
 ghost use Rattle.wing_mirror.specs.Counts.{zeroCounts, tick as tickOf, total, refusalMark, bodyMark};
 use crate::answer::Counts;
 use wing_node::definition::Parsed;
+use wing_node::definition::from_bytes;
 
 // Which of the six is meant, if any.
 pub enum Mark {
@@ -30,37 +32,36 @@ pub(crate) fn zero_counts() -> Counts
 }
 
 // One more of them.
-pub(crate) fn tick(c: Counts, m: Mark) -> Counts
+pub(crate) fn tick(mut c: Counts, m: Mark) -> Counts
     requires { ⌜ total c < 4294967295 ⌝ }
     ensures { λ r. ⌜ r ≡ tickOf m c ⌝ }
 {
-    let mut d = c;
     match m {
         Mark::Stored => {
-            d.stored += 1;
-            d
+            c.stored += 1;
+            c
         }
         Mark::Unplaced => {
-            d.unplaced += 1;
-            d
+            c.unplaced += 1;
+            c
         }
         Mark::StringRefused => {
-            d.strings_refused += 1;
-            d
+            c.strings_refused += 1;
+            c
         }
         Mark::DefinitionRead => {
-            d.definitions_read += 1;
-            d
+            c.definitions_read += 1;
+            c
         }
         Mark::DefinitionRefused => {
-            d.definitions_refused += 1;
-            d
+            c.definitions_refused += 1;
+            c
         }
         Mark::Ended => {
-            d.ends += 1;
-            d
+            c.ends += 1;
+            c
         }
-        Mark::Uncounted => d,
+        Mark::Uncounted => c,
     }
 }
 
@@ -79,9 +80,11 @@ pub(crate) fn refusal_mark(n: u8) -> Mark
     Mark::Uncounted
 }
 
-pub(crate) fn body_mark(p: Parsed) -> Mark
-    ensures { λ r. ⌜ r ≡ bodyMark p ⌝ }
+// 01: each body goes through the parser.
+pub(crate) fn body_mark(body: &[u8]) -> Mark
+    ensures { λ r. ⌜ r ≡ bodyMark (definitionOf (now (body .entry))) ⌝ }
 {
+    let p = from_bytes(body);
     match p {
         Parsed::Good(_) => Mark::DefinitionRead,
         Parsed::Refused(n) => refusal_mark(n),

@@ -1,16 +1,16 @@
 // What a feed makes of one answer of the decoder.
 ghost use mathlib.Core.Path.{_≡_};
-ghost use mathlib.Core.Bool.{true};
-ghost use Prim.Native.Nat.{_≤_, _<_};
+ghost use mathlib.Core.Bool.{true, false};
+ghost use Prim.Native.Nat.{_<_};
 ghost use lib.ListN.{length};
-ghost use Rattle.wing_node.specs.Definition.{definitionOf};
 ghost use Rattle.wing_node.specs.Value.{nodeValue};
 ghost use Rattle.wing_wire.specs.State.{bodyLimit};
 ghost use Rattle.wing_wire.specs.Range.{Within};
 ghost use Rattle.wing_wire.specs.Reader.{value as valueEvent};
 ghost use Rattle.wing_mirror.specs.Record.{full};
 ghost use Rattle.wing_mirror.specs.Table.{table as tableOf, usable};
-ghost use Rattle.wing_mirror.specs.Counts.{total, bodyMark};
+ghost use Rattle.wing_mirror.specs.Call.{tooLong};
+ghost use Rattle.wing_mirror.specs.Counts.{total};
 ghost use Rattle.wing_mirror.specs.Mirror.{keepEvent, keep};
 ghost use Rattle.wing_mirror.specs.Tally.{tallyOf, ticked};
 use crate::answer::Counts;
@@ -20,9 +20,7 @@ use crate::counts::refusal_mark;
 use crate::counts::tick;
 use crate::record::lay_record;
 use crate::store::put;
-use wing_node::definition::from_bytes;
 use wing_node::value::Value;
-use wing_wire::state::Control;
 use wing_wire::state::State;
 use wing_wire::unit::Answer;
 
@@ -30,12 +28,6 @@ use wing_wire::unit::Answer;
 pub struct Tally {
     pub count: usize,
     pub counts: Counts,
-}
-
-// What a feed leaves beside the store and the table.
-pub struct FedOn {
-    pub control: Control,
-    pub tally: Tally,
 }
 
 fn mark(count: usize, counts: Counts, m: Mark) -> Tally
@@ -51,7 +43,7 @@ fn mark(count: usize, counts: Counts, m: Mark) -> Tally
 
 // 01: a value is stored at its node, or has no place.
 fn keep_value(table: &mut [u8], t: Tally, node: i32, value: Value, string: &[u8]) -> Tally
-    requires { ⌜ (usable full (tableOf (now table) (t .count)) ≡ true) × (total (t .counts) < 4294967295) × (length (now string) ≤ 256) ⌝ }
+    requires { ⌜ (usable full (tableOf (now table) (t .count)) ≡ true) × (total (t .counts) < 4294967295) × (tooLong (nodeValue value (now string)) ≡ false) ⌝ }
     ensures { λ r. ⌜ tallyOf r (now (table .exit)) ≡ keepEvent full node (valueEvent (nodeValue value (now (string .entry)))) (tallyOf t (now (table .entry))) ⌝ }
 {
     let mut rec = [0u8; State::PLACE_WIDTH];
@@ -64,16 +56,6 @@ fn keep_value(table: &mut [u8], t: Tally, node: i32, value: Value, string: &[u8]
     mark(k.count, counts, Mark::Unplaced)
 }
 
-// 01: each body goes through the parser.
-fn keep_body(t: Tally, body: &[u8]) -> Tally
-    requires { ⌜ total (t .counts) < 4294967295 ⌝ }
-    ensures { λ r. ⌜ r ≡ ticked (t .count) (t .counts) (bodyMark (definitionOf (now (body .entry)))) ⌝ }
-{
-    let counts = t.counts;
-    let m = body_mark(from_bytes(body));
-    mark(t.count, counts, m)
-}
-
 // The answer's string or body stands at the front of the store.
 pub(crate) fn keep_answer(table: &mut [u8], t: Tally, node: i32, a: Answer, store: &[u8]) -> Tally
     requires { ⌜ (usable full (tableOf (now table) (t .count)) ≡ true) × (total (t .counts) < 4294967295) × (length (now store) ≡ bodyLimit) × Within a (now store) ⌝ }
@@ -82,10 +64,10 @@ pub(crate) fn keep_answer(table: &mut [u8], t: Tally, node: i32, a: Answer, stor
     let counts = t.counts;
     match a {
         Answer::More => t,
-        Answer::Integer(x) => keep_value(table, t, node, Value::Integer(x), &store[..0]),
-        Answer::Float(bits) => keep_value(table, t, node, Value::Float(bits), &store[..0]),
-        Answer::String(n) => keep_value(table, t, node, Value::String(n), &store[..256]),
-        Answer::Body(n) => keep_body(t, &store[..n as usize]),
+        Answer::Integer(x) => keep_value(table, t, node, Value::Integer(x), store),
+        Answer::Float(bits) => keep_value(table, t, node, Value::Float(bits), store),
+        Answer::String(n) => keep_value(table, t, node, Value::String(n), store),
+        Answer::Body(n) => mark(t.count, counts, body_mark(&store[..n as usize])),
         Answer::End => mark(t.count, counts, Mark::Ended),
         Answer::Refused(n) => mark(t.count, counts, refusal_mark(n)),
     }

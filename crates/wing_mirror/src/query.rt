@@ -1,12 +1,12 @@
 // What a table is asked: an id's record number, a record, and whether two tables are the same.
 ghost use mathlib.Core.Path.{_≡_};
-ghost use Prim.Native.Nat.{_+_, _*_, _≤_};
+ghost use Prim.Native.Nat.{_*_, _≤_};
 ghost use lib.ListN.{length, take};
 ghost use Rattle.wing_node.specs.Value.{string as stringOf};
 ghost use Rattle.wing_mirror.specs.Rows.{records, numberOf};
 ghost use Rattle.wing_mirror.specs.Entry.{entry};
 ghost use Rattle.wing_mirror.specs.Record.{width, keyOf, entryIn, full};
-ghost use Rattle.wing_mirror.specs.Table.{table as tableOf, rowAt};
+ghost use Rattle.wing_mirror.specs.Table.{table as tableOf};
 ghost use Rattle.wing_mirror.specs.Order.{InOrder};
 ghost use Rattle.wing_mirror.specs.Query.{lookupAnswer, answerOf, readOf, besideZeros, refusedRecord, recordAnswer, sameBytes, sameTables, sameAnswer};
 use crate::answer::Lookup;
@@ -16,9 +16,10 @@ use crate::answer::Same;
 use crate::bytes::lay;
 use crate::order::row;
 use crate::order::search;
+use crate::record::id_in;
 use crate::record::payload;
 use crate::record::rank;
-use crate::record::read;
+use crate::record::value_in;
 use crate::table::is_usable;
 use wing_node::field::least;
 use wing_node::value::Value;
@@ -90,20 +91,13 @@ fn read_record(rec: &[u8]) -> RecordRead
     requires { ⌜ length (now rec) ≡ width ⌝ }
     ensures { λ r. ⌜ r ≡ readOf (entryIn (now (rec .entry))) ⌝ }
 {
-    let held = read(rec);
-    let value = held.value;
+    let id = id_in(rec);
+    let value = value_in(rec);
     match value {
-        Value::Integer(_) => number_read(held.id, value),
-        Value::Float(_) => number_read(held.id, value),
-        Value::String(n) => string_read(held.id, n, payload(rec)),
+        Value::Integer(_) => number_read(id, value),
+        Value::Float(_) => number_read(id, value),
+        Value::String(n) => string_read(id, n, payload(rec)),
     }
-}
-
-fn read_at(table: &[u8], number: usize) -> RecordRead
-    requires { ⌜ width * number + width ≤ length (now table) ⌝ }
-    ensures { λ r. ⌜ r ≡ readOf (entryIn (rowAt number (now (table .entry)))) ⌝ }
-{
-    read_record(row(table, State::PLACE_WIDTH, number))
 }
 
 // 01: a record is read by number, from 0: its id and value, the bytes of a string beside it. 7, 14.
@@ -112,7 +106,7 @@ pub fn record(table: &[u8], count: usize, number: usize) -> RecordRead
 {
     if is_usable(table, count) {
         if number < count {
-            return read_at(table, number);
+            return read_record(row(table, State::PLACE_WIDTH, number));
         }
         return refused(14);
     }

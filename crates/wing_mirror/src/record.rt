@@ -1,22 +1,18 @@
 // A record of the table, 264 bytes: where it stands in the order, whether it has 01's form, what it holds, and how one is laid.
 ghost use mathlib.Core.Path.{_≡_};
+ghost use mathlib.Core.Bool.{false};
 ghost use Prim.Native.Nat.{_≤_};
-ghost use lib.ListN.{length, take};
+ghost use lib.ListN.{length, take, replicate};
 ghost use Rattle.wing_node.specs.Field.{bytesOf};
 ghost use Rattle.wing_node.specs.Value.{nodeValue};
 ghost use Rattle.wing_mirror.specs.Entry.{flipped, rankOf, entry};
-ghost use Rattle.wing_mirror.specs.Record.{width, keyOf, stringKept, wellKept, wellFormed, payloadIn, entryIn, recordOf, laidFrom};
+ghost use Rattle.wing_mirror.specs.Call.{tooLong};
+ghost use Rattle.wing_mirror.specs.Record.{width, keyOf, stringKept, wellKept, wellFormed, idIn, payloadIn, valueIn, recordOf, laidFrom};
 use crate::bytes;
 use wing_node::field;
 use wing_node::utf8::is_utf8;
 use wing_node::value::Value;
 use wing_wire::state::zeros_from;
-
-// What a record holds. A string's bytes stand in the payload, as many as its length.
-pub struct Held {
-    pub id: i32,
-    pub value: Value,
-}
 
 // Signed order as the order of numbers: the top bit the other way.
 fn flip(bits: u32) -> u32
@@ -92,31 +88,25 @@ pub(crate) fn well_formed(rec: &[u8]) -> bool
     false
 }
 
-// Its id and value, whatever its form.
-pub(crate) fn read(rec: &[u8]) -> Held
+pub(crate) fn id_in(rec: &[u8]) -> i32
     requires { ⌜ length (now rec) ≡ width ⌝ }
-    ensures { λ r. ⌜ entry (r .id) (nodeValue (r .value) (payloadIn (now (rec .entry)))) ≡ entryIn (now (rec .entry)) ⌝ }
+    ensures { λ r. ⌜ r ≡ idIn (now (rec .entry)) ⌝ }
 {
-    let id = field::i32_at(rec, 0);
+    field::i32_at(rec, 0)
+}
+
+// Its value, whatever its form. A string's bytes stand in the payload, as many as its length.
+pub(crate) fn value_in(rec: &[u8]) -> Value
+    requires { ⌜ length (now rec) ≡ width ⌝ }
+    ensures { λ r. ⌜ nodeValue r (payloadIn (now (rec .entry))) ≡ valueIn (now (rec .entry)) ⌝ }
+{
     if rec[4] == 0 {
-        let value = Value::Integer(field::i32_at(rec, 8));
-        return Held {
-            id: id,
-            value: value,
-        };
+        return Value::Integer(field::i32_at(rec, 8));
     }
     if rec[4] == 1 {
-        let value = Value::Float(field::u32_at(rec, 8));
-        return Held {
-            id: id,
-            value: value,
-        };
+        return Value::Float(field::u32_at(rec, 8));
     }
-    let value = Value::String(field::u16_at(rec, 6));
-    Held {
-        id: id,
-        value: value,
-    }
+    Value::String(field::u16_at(rec, 6))
 }
 
 // Kind, length and payload of a number.
@@ -131,7 +121,7 @@ fn lay_number(out: &mut [u8], kind: u8, bits: u32)
 
 // Kind, length and payload of a string, the first n of the bytes lent.
 fn lay_string(out: &mut [u8], string: &[u8], n: u16)
-    requires { ⌜ (length (now out) ≡ width) × (length (now string) ≤ 256) ⌝ }
+    requires { ⌜ (length (now out) ≡ width) × (length (take n (now string)) ≤ 256) ⌝ }
     ensures { λ _. ⌜ now (out .exit) ≡ laidFrom (now (out .entry)) 2 (take n (now (string .entry))) ⌝ }
 {
     let len = field::least(n as usize, string.len());
@@ -140,12 +130,11 @@ fn lay_string(out: &mut [u8], string: &[u8], n: u16)
     bytes::lay(out, 8, &string[..len]);
 }
 
-// The record of an id and a value; a string's bytes stand beside its length.
+// The record of an id and a value, laid over zeros; a string's bytes stand beside its length.
 pub(crate) fn lay_record(out: &mut [u8], id: i32, value: Value, string: &[u8])
-    requires { ⌜ (length (now out) ≡ width) × (length (now string) ≤ 256) ⌝ }
+    requires { ⌜ (now out ≡ replicate width 0) × (tooLong (nodeValue value (now string)) ≡ false) ⌝ }
     ensures { λ _. ⌜ now (out .exit) ≡ recordOf (entry id (nodeValue value (now (string .entry)))) ⌝ }
 {
-    bytes::clear(out);
     field::put_i32(out, 0, id);
     match value {
         Value::Integer(x) => lay_number(out, 0, field::of_i32(x)),

@@ -1,17 +1,17 @@
 // Set through the mirror: the command is written and the value stored. 01: 7, 10, 1, 6, 9; refused, all is as it was.
 ghost use mathlib.Core.Path.{_≡_};
 ghost use mathlib.Core.Bool.{true};
-ghost use Prim.Native.Nat.{_≤_};
 ghost use lib.ListN.{length};
+ghost use Rattle.wing_node.specs.Bool.{if};
 ghost use Rattle.wing_node.specs.Value.{integer, float, string as stringOf, nodeValue};
-ghost use Rattle.wing_mirror.specs.Entry.{storable};
+ghost use Rattle.wing_mirror.specs.Entry.{storable, Typed};
 ghost use Rattle.wing_mirror.specs.Record.{width, full};
 ghost use Rattle.wing_mirror.specs.Table.{table as tableOf, usable};
 ghost use Rattle.wing_mirror.specs.Mirror.{mirrorSet, setEffect};
 ghost use Rattle.wing_mirror.specs.Sets.{replied, keptOf, refusedSetReply};
 use crate::answer::SetReply;
 use crate::record::lay_record;
-use crate::send::send;
+use crate::send::send_record;
 use crate::store::has_room;
 use crate::store::put;
 use crate::table::is_usable;
@@ -46,7 +46,7 @@ fn keep_written(table: &mut [u8], count: usize, rec: &[u8], written: Written) ->
     }
 }
 
-// A value that may be stored, into a usable table. 01: 6 before 9.
+// A value that may be stored. 01: 7, 6, 9.
 fn set_value(
     table: &mut [u8],
     count: usize,
@@ -55,36 +55,42 @@ fn set_value(
     value: Value,
     string: &[u8],
 ) -> SetReply
-    requires { ⌜ (usable full (tableOf (now table) count) ≡ true) × (storable (nodeValue value (now string)) ≡ true) × (length (now string) ≤ 256) ⌝ }
+    requires { ⌜ (storable (nodeValue value (now string)) ≡ true) × Typed (nodeValue value (now string)) ⌝ }
     ensures { λ r. ⌜ setEffect r (now (out .exit)) (now (table .exit)) ≡ mirrorSet full id (nodeValue value (now (string .entry))) (tableOf (now (table .entry)) count) (now (out .entry)) ⌝ }
 {
-    let mut rec = [0u8; State::PLACE_WIDTH];
-    lay_record(&mut rec, id, value, string);
-    if has_room(table, State::PLACE_WIDTH, count, &rec) {
-        let written = send(out, id, value, string);
-        return keep_written(table, count, &rec, written);
+    if is_usable(table, count) {
+        let mut rec = [0u8; State::PLACE_WIDTH];
+        lay_record(&mut rec, id, value, string);
+        let laid: &[u8] = &rec;
+        if has_room(table, State::PLACE_WIDTH, count, laid) {
+            let written = send_record(out, laid);
+            return keep_written(table, count, laid, written);
+        }
+        return refused(6, count);
     }
-    refused(6, count)
+    refused(7, count)
 }
 
 // 01: set through the mirror writes the command and stores the value. 7, 6, 9.
 pub fn set_int(table: &mut [u8], count: usize, out: &mut [u8], id: i32, value: i32) -> SetReply
     ensures { λ r. ⌜ setEffect r (now (out .exit)) (now (table .exit)) ≡ mirrorSet full id (integer value) (tableOf (now (table .entry)) count) (now (out .entry)) ⌝ }
 {
-    if is_usable(table, count) {
-        let empty = [0u8; 0];
-        return set_value(table, count, out, id, Value::Integer(value), &empty);
-    }
-    refused(7, count)
+    set_value(table, count, out, id, Value::Integer(value), b"")
 }
 
 // The same for a float, by its 32 bits.
 pub fn set_float(table: &mut [u8], count: usize, out: &mut [u8], id: i32, bits: u32) -> SetReply
     ensures { λ r. ⌜ setEffect r (now (out .exit)) (now (table .exit)) ≡ mirrorSet full id (float bits) (tableOf (now (table .entry)) count) (now (out .entry)) ⌝ }
 {
+    set_value(table, count, out, id, Value::Float(bits), b"")
+}
+
+// A string's set that is refused for what it is: 7 before that.
+fn refused_string(table: &[u8], count: usize, why: u8) -> SetReply
+    ensures { λ r. ⌜ r ≡ refusedSetReply (if (usable full (tableOf (now (table .entry)) count)) why 7) count ⌝ }
+{
     if is_usable(table, count) {
-        let empty = [0u8; 0];
-        return set_value(table, count, out, id, Value::Float(bits), &empty);
+        return refused(why, count);
     }
     refused(7, count)
 }
@@ -93,15 +99,12 @@ pub fn set_float(table: &mut [u8], count: usize, out: &mut [u8], id: i32, bits: 
 pub fn set_string(table: &mut [u8], count: usize, out: &mut [u8], id: i32, value: &[u8]) -> SetReply
     ensures { λ r. ⌜ setEffect r (now (out .exit)) (now (table .exit)) ≡ mirrorSet full id (stringOf (now (value .entry))) (tableOf (now (table .entry)) count) (now (out .entry)) ⌝ }
 {
-    if is_usable(table, count) {
-        if value.len() <= 256 {
-            if is_utf8(value) {
-                let string = Value::String(value.len() as u16);
-                return set_value(table, count, out, id, string, value);
-            }
-            return refused(1, count);
+    if value.len() <= 256 {
+        if is_utf8(value) {
+            let string = Value::String(value.len() as u16);
+            return set_value(table, count, out, id, string, value);
         }
-        return refused(10, count);
+        return refused_string(table, count, 1);
     }
-    refused(7, count)
+    refused_string(table, count, 10)
 }

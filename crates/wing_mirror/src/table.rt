@@ -1,8 +1,8 @@
 // The table of records at the front of a lent buffer, and whether it is usable.
 ghost use mathlib.Core.Path.{_≡_};
-ghost use Prim.Native.Nat.{_+_, _*_, _/_, _≤_, _<_};
+ghost use Prim.Native.Nat.{_*_, _/_, _≤_, _<_};
 ghost use lib.ListN.{length};
-ghost use Rattle.wing_mirror.specs.Rows.{row as rowOf, records};
+ghost use Rattle.wing_mirror.specs.Rows.{records};
 ghost use Rattle.wing_mirror.specs.Record.{width, keyOf, full};
 ghost use Rattle.wing_mirror.specs.Form.{formOf};
 ghost use Rattle.wing_mirror.specs.Table.{table as tableOf, passesAt, checkedOf, soundOf, usableOf, soundTable, usable};
@@ -19,19 +19,12 @@ pub fn places(table: &[u8]) -> usize
     places_of(table, State::PLACE_WIDTH)
 }
 
-// The record of a number has the form of its width.
-fn formed_at(table: &[u8], width: usize, number: usize) -> bool
-    requires { ⌜ width * number + width ≤ length (now table) ⌝ }
-    ensures { λ r. ⌜ r ≡ formOf width (rowOf width number (now (table .entry))) ⌝ }
-{
-    formed(row(table, width, number), width)
-}
-
+// The record of a number has the form of its width, and the next one is above it.
 fn passes(table: &[u8], width: usize, count: usize, number: usize) -> bool
     requires { ⌜ (4 ≤ width) × (width * count ≤ length (now table)) × (number < count) ⌝ }
     ensures { λ r. ⌜ r ≡ passesAt width keyOf (formOf width) (now (table .entry)) count number ⌝ }
 {
-    if formed_at(table, width, number) {
+    if formed(row(table, width, number), width) {
         return is_below_next(table, width, count, number);
     }
     false

@@ -7,6 +7,8 @@ use borrow.Author.Tests.{le-leb, lt-leb, leb-true}
 use lib.Dec.{ltb, leb}
 use lib.IntN.{ℤ}
 use lib.ListN.{length, take}
+use Rattle.wing_node.specs.Bool.{if}
+use Rattle.wing_node.specs.Signed.{InBits}
 use Rattle.wing_node.specs.Utf8.{utf8}
 use Rattle.wing_node.specs.Value.{NodeValue, integer, float, string}
 use Rattle.wing_node.proofs.Branches.{if-both}
@@ -15,17 +17,23 @@ use Rattle.wing_wire.specs.Command.{setBytes, setString}
 use Rattle.wing_wire.specs.declared.write.Written.{Written}
 use Rattle.wing_wire.proofs.Laws.{writer-laws}
 use Rattle.wing_mirror.specs.Rows.{Table, takes}
-use Rattle.wing_mirror.specs.Entry.{entry, storable}
+use Rattle.wing_mirror.specs.Entry.{entry, storable, Typed}
 use Rattle.wing_mirror.specs.Layout.{kept, Layout}
+use Rattle.wing_mirror.specs.Record.{recordOf, wellFormed}
 use Rattle.wing_mirror.specs.Table.{usable, put, fits}
 use Rattle.wing_mirror.specs.Puts.{putOf}
 use Rattle.wing_mirror.specs.Call.{tooLong, notText}
 use Rattle.wing_mirror.specs.Mirror.{SetEffect, refusedSet, mirrorSet, setEffect}
+use Rattle.wing_mirror.specs.Recall.{setOf}
+use Rattle.wing_mirror.specs.Sending.{orderIn}
 use Rattle.wing_mirror.specs.Sets.{Replied, replied, keptOf}
 use Rattle.wing_mirror.specs.declared.answer.SetReply.{SetReply}
+use Rattle.wing_mirror.proofs.Records.Trips.{entry-back}
+use Rattle.wing_mirror.proofs.Records.Full.{full-laws}
 use Rattle.wing_mirror.proofs.Tables.Laying.{take-least}
 
-not-long : (v : NodeValue) → storable v ≡ true → tooLong v ≡ false
+-- a value that may be stored is not refused for itself
+pub not-long : (v : NodeValue) → storable v ≡ true → tooLong v ≡ false
 unfolding storable tooLong
 not-long (integer x) h = refl
 not-long (float bits) h = refl
@@ -52,6 +60,12 @@ string-sent id n len s out l h =
   where
     b : (leb (length (take n s)) 256 ≡ true) × (utf8 (take n s) ≡ true)
     b = if-both (leb (length (take n s)) 256) (utf8 (take n s)) h
+
+-- the record of a value that may be stored has 01's form, and its set order is the value's
+pub laid-order : (id : ℤ) (v : NodeValue) (rec : List ℕ) → rec ≡ recordOf (entry id v) → InBits 31 id → Typed v → storable v ≡ true →
+    (wellFormed rec ≡ true) × (orderIn rec ≡ setBytes id v)
+laid-order id v rec e i t s =
+    (ap wellFormed e ∙ full-laws .formed (entry id v) s refl, ap orderIn e ∙ ap setOf (entry-back id v i t s))
 
 abbrev settled : Replied → List ℕ → SetEffect
 settled k out = record { answer = k .answer; out = out; table = k .after }
@@ -88,12 +102,20 @@ module _ (L : Layout) (id : ℤ) (v : NodeValue) (t : Table) (out : List ℕ) wh
         ap (λ (k : Replied). settled k o) (ek ∙ ap (λ (x : List ℕ). keptOf L w x t) er) ∙ ap after ew
         ∙ written q (ltb (length out) (length (setBytes id v))) refl
 
--- of a string
-module _ (L : Layout) (id : ℤ) (s : List ℕ) (t : Table) (out : List ℕ) (u : usable L t ≡ true) (o : L .keeping (string s) ≡ kept) where
-  pub long-string : 256 < length s → refusedSet 10 t out ≡ mirrorSet L id (string s) t out
+-- of a string that is refused for what it is: 7 before that
+module _ (L : Layout) (id : ℤ) (s : List ℕ) (t : Table) (out : List ℕ) (o : L .keeping (string s) ≡ kept) where
+  pub long-string : 256 < length s → refusedSet (if (usable L t) 10 7) t out ≡ mirrorSet L id (string s) t out
   unfolding mirrorSet tooLong
-  long-string h = rw (u, o, lt-leb (length s) 256 h)
+  long-string h = go (usable L t) refl
+    where
+      go : (b : Bool) → usable L t ≡ b → refusedSet (if b 10 7) t out ≡ mirrorSet L id (string s) t out
+      go true u = rw (u, o, lt-leb (length s) 256 h)
+      go false u = rw u
 
-  pub bad-string : length s ≤ 256 → utf8 s ≡ false → refusedSet 1 t out ≡ mirrorSet L id (string s) t out
+  pub bad-string : length s ≤ 256 → utf8 s ≡ false → refusedSet (if (usable L t) 1 7) t out ≡ mirrorSet L id (string s) t out
   unfolding mirrorSet tooLong notText
-  bad-string h q = rw (u, o, le-leb (length s) 256 h, q)
+  bad-string h q = go (usable L t) refl
+    where
+      go : (b : Bool) → usable L t ≡ b → refusedSet (if b 1 7) t out ≡ mirrorSet L id (string s) t out
+      go true u = rw (u, o, le-leb (length s) 256 h, q)
+      go false u = rw u

@@ -41,25 +41,27 @@ string-said id n len p out h l e =
     let f : out ≡ filled 256 (take n p) = e ∙ ap (λ (q : List ℕ). sets (replicate 256 0) 0 q) t ∙ sets-over (take n p) (replicate 256 0) in
     ap₂ (λ (a : ℕ) (b : List ℕ). record { answer = Record id (String a); string = b }) m f
 
-module _ (r : List ℕ) (wide : length r ≡ 264) (id : ℤ) (eid : id ≡ signed 31 (fieldAt 4 r 0)) where
-  id-is : id ≡ idIn r
-  id-is = eid ∙ ap (signed 31) (field-whole 4 r 0 (omega arith))
+module _ (r : List ℕ) (wide : length r ≡ 264) where
+  pub id-said : (id : ℤ) → id ≡ signed 31 (fieldAt 4 r 0) → id ≡ idIn r
+  id-said id e = e ∙ ap (signed 31) (field-whole 4 r 0 (omega arith))
 
-  pub integer-entry : (x : ℤ) → getD r 4 0 ≡ 0 → x ≡ signed 31 (fieldAt 4 r 8) → entry id (integer x) ≡ entryIn r
-  unfolding entryIn valueIn
-  integer-entry x k e =
-      rw (eq-eqb (getD r 4 0) 0 k) (ap₂ (λ (a b : ℤ). entry a (integer b)) id-is (e ∙ ap (signed 31) (field-whole 4 r 8 (omega arith))))
+  pub integer-value : (x : ℤ) → getD r 4 0 ≡ 0 → x ≡ signed 31 (fieldAt 4 r 8) → integer x ≡ valueIn r
+  unfolding valueIn
+  integer-value x k e = rw (eq-eqb (getD r 4 0) 0 k) (ap integer (e ∙ ap (signed 31) (field-whole 4 r 8 (omega arith))))
 
-  pub float-entry : (bits : ℕ) → (getD r 4 0 ≡ 0 → ⊥) → getD r 4 0 ≡ 1 → bits ≡ fieldAt 4 r 8 → entry id (float bits) ≡ entryIn r
-  unfolding entryIn valueIn
-  float-entry bits j k e =
-      rw (ne-eqb (getD r 4 0) 0 j, eq-eqb (getD r 4 0) 1 k) (ap₂ (λ (a : ℤ) (b : ℕ). entry a (float b)) id-is (e ∙ field-whole 4 r 8 (omega arith)))
+  pub float-value : (bits : ℕ) → (getD r 4 0 ≡ 0 → ⊥) → getD r 4 0 ≡ 1 → bits ≡ fieldAt 4 r 8 → float bits ≡ valueIn r
+  unfolding valueIn
+  float-value bits j k e = rw (ne-eqb (getD r 4 0) 0 j, eq-eqb (getD r 4 0) 1 k) (ap float (e ∙ field-whole 4 r 8 (omega arith)))
 
-  pub string-entry : (n : ℕ) → (getD r 4 0 ≡ 0 → ⊥) → (getD r 4 0 ≡ 1 → ⊥) → n ≡ fieldAt 2 r 6 → entry id (string (take n (drop 8 r))) ≡ entryIn r
-  unfolding entryIn valueIn
-  string-entry n j k e =
-      rw (ne-eqb (getD r 4 0) 0 j, ne-eqb (getD r 4 0) 1 k)
-      (ap₂ (λ (a : ℤ) (m : ℕ). entry a (string (take m (drop 8 r)))) id-is (e ∙ field-whole 2 r 6 (omega arith)))
+  pub string-value : (n : ℕ) → (getD r 4 0 ≡ 0 → ⊥) → (getD r 4 0 ≡ 1 → ⊥) → n ≡ fieldAt 2 r 6 → string (take n (drop 8 r)) ≡ valueIn r
+  unfolding valueIn
+  string-value n j k e =
+      rw (ne-eqb (getD r 4 0) 0 j, ne-eqb (getD r 4 0) 1 k) (ap (λ (m : ℕ). string (take m (drop 8 r))) (e ∙ field-whole 2 r 6 (omega arith)))
+
+-- id and value, read one after the other
+pub entry-held : (id : ℤ) (v : Value) (p r : List ℕ) → id ≡ idIn r → nodeValue v p ≡ valueIn r → entry id (nodeValue v p) ≡ entryIn r
+unfolding entryIn
+entry-held id v p r i e = ap₂ entry i e
 
 -- what a record that holds v says, its string's bytes in p
 module _ (id : ℤ) (v : Value) (p r : List ℕ) (e : entry id (nodeValue v p) ≡ entryIn r) where

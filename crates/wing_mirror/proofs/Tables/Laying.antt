@@ -1,22 +1,25 @@
 -- Bytes laid at a place, one after the other, and a gap that is filled.
 use Prim.Native.Nat.{ℕ, zero, suc, min, _+_, _-_, _≤_, _<_}
-use mathlib.Core.Bool.{Bool}
+use mathlib.Core.Bool.{Bool, true, false, not}
 use mathlib.Core.Path.{_≡_, refl, sym, ap, _∙_}
 use mathlib.Core.List.{List, [], _∷_, _++_, append-assoc}
 use native.Mathlib.Omega.{arith}
 use native.Mathlib.Nat.{add-zero, zero-min, min-zero, suc-min-suc}
 use native.Mathlib.Numerals.{add-one}
-use lib.ListN.{length, replicate, set, take, drop, getD, length-append, length-take}
+use borrow.Author.Tests.{le-leb, leb-true}
+use lib.Dec.{leb}
+use lib.ListN.{length, replicate, set, take, drop, getD, length-append, length-take, length-replicate}
 use lib.Seq.{sets, sets-eq, take-suc, length-take-le, take-append-le, take-take, drop-at}
 use lib.IntN.{ℤ}
 use Rattle.wing_node.specs.Digits.{digitsIn}
 use Rattle.wing_node.specs.Signed.{unsigned}
-use Rattle.wing_node.specs.Value.{NodeValue}
+use Rattle.wing_node.specs.Value.{NodeValue, string}
 use Rattle.wing_node.specs.Field.{bytesOf, put, putAt}
 use Rattle.wing_node.proofs.Numerals.Numbers.{length-digitsIn}
 use Rattle.wing_node.proofs.Numerals.Placed.{put-whole}
 use Rattle.wing_wire.specs.Reader.{over, filled}
 use Rattle.wing_mirror.specs.Entry.{entry}
+use Rattle.wing_mirror.specs.Call.{tooLong}
 use Rattle.wing_mirror.specs.Record.{kindOf, payloadOf, recordOf, laidFrom}
 
 pub sets-append : (vs ws l : List ℕ) (i : ℕ) → sets (sets l i vs) (i + length vs) ws ≡ sets l i (vs ++ ws)
@@ -92,11 +95,25 @@ string-laid o mid last s n len l e f =
     let z : len ≡ length (take n s) = l ∙ sym (length-take n s) in
     f ∙ ap (λ (q : List ℕ). sets mid 8 q) t ∙ ap (λ (q : List ℕ). sets q 8 (take n s)) (e ∙ ap (λ (m : ℕ). sets (set o 4 2) 6 (bytesOf 2 m)) z)
 
--- the record of an entry
-pub record-laid : (id : ℤ) (v : NodeValue) (o a b last : List ℕ) → length o ≡ 264 → a ≡ replicate (length o) 0 → b ≡ sets a 0 (bytesOf 4 (unsigned 31 id)) →
+-- the record of an entry, over zeros, the id first
+pub record-laid : (id : ℤ) (v : NodeValue) (a b last : List ℕ) (r : Bool) → a ≡ replicate 264 0 → put r b ≡ putAt (bytesOf 4 (unsigned 31 id)) 0 a →
     last ≡ laidFrom b (kindOf v) (payloadOf v) → last ≡ recordOf (entry id v)
 unfolding recordOf
-record-laid id v o a b last h ea eb el =
-    let zero-all : a ≡ replicate 264 0 = ea ∙ ap (λ (n : ℕ). replicate n 0) h in
-    let all : b ≡ sets (replicate 264 0) 0 (bytesOf 4 (unsigned 31 id)) = eb ∙ ap (λ (l : List ℕ). sets l 0 (bytesOf 4 (unsigned 31 id))) zero-all in
+record-laid id v a b last r ea eb el =
+    let wide : length a ≡ 264 = ap length ea ∙ length-replicate {A = ℕ} 264 0 in
+    let all : b ≡ sets (replicate 264 0) 0 (bytesOf 4 (unsigned 31 id)) = field-sets 4 (unsigned 31 id) 0 a b r (omega arith) (omega arith) eb ∙ ap (λ (l : List ℕ). sets l 0 (bytesOf 4 (unsigned 31 id))) ea in
     el ∙ ap (λ (l : List ℕ). laidFrom l (kindOf v) (payloadOf v)) all ∙ laid-whole (unsigned 31 id) (kindOf v) (payloadOf v)
+
+-- a string that is not too long has room in a record
+pub short : (s : List ℕ) → tooLong (string s) ≡ false → length s ≤ 256
+unfolding tooLong
+short s h = leb-true (length s) 256 (opposite (leb (length s) 256) h)
+  where
+    opposite : (b : Bool) → not b ≡ false → b ≡ true
+    opposite true h = refl
+    opposite false h = sym h
+
+-- the first 256 bytes or fewer are not too long
+pub short-front : (n : ℕ) (s : List ℕ) → n ≤ 256 → tooLong (string (take n s)) ≡ false
+unfolding tooLong
+short-front n s h = rw (le-leb (length (take n s)) 256 (omega (arith, length-take n s)))

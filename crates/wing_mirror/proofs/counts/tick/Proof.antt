@@ -8,38 +8,38 @@ use Rattle.wing_mirror.proofs.counts.tick.Tie as tie
 enum-told : tie.Need-enum-told
 enum-told c = search needs
 
-add-d : tie.Need-add-d
-add-d c = search needs
+add-c : tie.Need-add-c
+add-c c = search needs
 
 enum-told-2 : tie.Need-enum-told-2
 enum-told-2 c = search needs
 
-add-d-2 : tie.Need-add-d-2
-add-d-2 c = search needs
+add-c-2 : tie.Need-add-c-2
+add-c-2 c = search needs
 
 enum-told-3 : tie.Need-enum-told-3
 enum-told-3 c = search needs
 
-add-d-3 : tie.Need-add-d-3
-add-d-3 c = search needs
+add-c-3 : tie.Need-add-c-3
+add-c-3 c = search needs
 
 enum-told-4 : tie.Need-enum-told-4
 enum-told-4 c = search needs
 
-add-d-4 : tie.Need-add-d-4
-add-d-4 c = search needs
+add-c-4 : tie.Need-add-c-4
+add-c-4 c = search needs
 
 enum-told-5 : tie.Need-enum-told-5
 enum-told-5 c = search needs
 
-add-d-5 : tie.Need-add-d-5
-add-d-5 c = search needs
+add-c-5 : tie.Need-add-c-5
+add-c-5 c = search needs
 
 enum-told-6 : tie.Need-enum-told-6
 enum-told-6 c = search needs
 
-add-d-6 : tie.Need-add-d-6
-add-d-6 c = search needs
+add-c-6 : tie.Need-add-c-6
+add-c-6 c = search needs
 
 enum-told-7 : tie.Need-enum-told-7
 enum-told-7 c = search needs
@@ -77,17 +77,17 @@ tick-spec =
     tie.close
     (tie.spec
     enum-told
-    add-d
+    add-c
     enum-told-2
-    add-d-2
+    add-c-2
     enum-told-3
-    add-d-3
+    add-c-3
     enum-told-4
-    add-d-4
+    add-c-4
     enum-told-5
-    add-d-5
+    add-c-5
     enum-told-6
-    add-d-6
+    add-c-6
     enum-told-7
     returns
     returns-2

@@ -1,6 +1,6 @@
 -- The invariant: the feed from here over the bytes left is the whole feed, and the table is usable (`FeedInvariant`); a turn hands one answer to
 -- `keep_answer` and releases it (law `again`), and at 'more' the feed has ended (law `ended`).
-use mathlib.Core.Path.{_≡_, refl, sym, _∙_}
+use mathlib.Core.Path.{_≡_, refl, sym, _∙_, ap}
 use native.Mathlib.Omega.{arith}
 use mir.Facts.{toZ-ofZ}
 use mir.Syntax.{w32}
@@ -12,7 +12,7 @@ use Rattle.wing_wire.proofs.Laws.{decoder-laws}
 use Rattle.wing_mirror.specs.Record.{full}
 use Rattle.wing_mirror.specs.Table.{table as tableOf}
 use Rattle.wing_mirror.specs.Counts.{zeroCounts}
-use Rattle.wing_mirror.specs.Mirror.{tableTally, fedAll}
+use Rattle.wing_mirror.specs.Mirror.{tableTally, fedAll, takenFeed}
 use Rattle.wing_mirror.specs.Tally.{tallyOf}
 use Rattle.wing_mirror.proofs.Records.Full.{full-laws}
 use Rattle.wing_mirror.proofs.Calls.Turns.{FeedInvariant, fed, left, begun, inside, ended, less-left, answer-bounded, again}
@@ -20,11 +20,11 @@ use Rattle.wing_mirror.proofs.feed.feed_on.Statement.{statement}
 use Rattle.wing_mirror.proofs.feed.feed_on.Tie as tie
 
 abbrev Inv-loop : tie.InvT-loop
-Inv-loop store₀ table₀ count bytes t₀ d₀ i₀ store table t d i =
-    (length store ≡ length store₀) × (length table ≡ length table₀) × FeedInvariant full bytes (fed d₀ store₀ (tableTally (tableOf table₀ count) zeroCounts)) d store (tallyOf t table) i
+Inv-loop c₀ store₀ table₀ count bytes t₀ i₀ c store table t i =
+    (length store ≡ length store₀) × (length table ≡ length table₀) × FeedInvariant full bytes (fed c₀ store₀ (tableTally (tableOf table₀ count) zeroCounts)) c store (tallyOf t table) i
 
 abbrev μ-loop : tie.MeasureT-loop
-μ-loop store₀ table₀ count bytes t₀ d₀ i₀ store table t d i = left bytes d i
+μ-loop c₀ store₀ table₀ count bytes t₀ i₀ c store table t i = left bytes c i
 
 zero-counts-requires : tie.Need-zero-counts-requires Inv-loop μ-loop
 zero-counts-requires c κs = search needs
@@ -69,11 +69,11 @@ same-length-2 c = search needs
 returns : tie.Need-returns Inv-loop μ-loop
 unfolding fedAll
 returns c =
-    let at-advance = c .before .before .before .before .before .before in
+    let at-advance = c .before .before .before .before .before .before .before in
     let at-loop = at-advance .before .before .before in
     let a = at-advance .advance in
-    let m = sym (c .before .is-more .ensures) ∙ c .if1 .taken in
-    ended full-laws (at-loop .loop .inv .2) (a .result) (a .last .1 .0) (a .ensures) m
+    let m = sym (c .before .before .is-more .ensures) ∙ c .before .if1 .taken in
+    ap takenFeed (ended full-laws (at-loop .loop .inv .2) (a .result) (a .last .1 .0) (a .ensures) m)
 
 keep-answer-requires : tie.Need-keep-answer-requires Inv-loop μ-loop
 keep-answer-requires c κs =

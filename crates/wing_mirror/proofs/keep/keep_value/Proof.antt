@@ -8,6 +8,7 @@ use Rattle.wing_mirror.specs.Record.{full}
 use Rattle.wing_mirror.specs.Entry.{entry}
 use Rattle.wing_mirror.specs.Record.{recordOf}
 use Rattle.wing_mirror.specs.Table.{table}
+use Rattle.wing_mirror.specs.Order.{putRow}
 use Rattle.wing_mirror.proofs.Records.Ready.{in-order, put-is}
 use Rattle.wing_mirror.proofs.Calls.Turns.{put-kept}
 use borrow.Author.Needs.{needs}
@@ -44,7 +45,7 @@ returns c =
     let v = nodeValue (start .args .value) (start .args .string .now) in
     let e = l .ensures ∙ ap (λ (x : ℤ). recordOf (entry x v)) (toZ-ofZ (start .fits .node)) in
     let t = table (start .args .table .now) (start .args .t .count) in
-    rw (c .mark .ensures) (rw (c .before .if1 .taken) at (put-kept full (start .args .node) v t (start .args .t .counts) (l .last .0) (p .result) (p .last .0) refl e (p .ensures ∙ put-is (l .last .0) t)))
+    rw (c .mark .ensures) (rw (c .before .if1 .taken) at (put-kept full (start .args .node) v t (start .args .t .counts) (l .last .0) (p .result) (p .last .0) refl e (_∙_ {b = putRow 264 (l .last .0) t} (p .ensures) (put-is (l .last .0) t))))
 
 mark-requires-2 : tie.Need-mark-requires-2
 mark-requires-2 c κs = search needs
@@ -62,7 +63,7 @@ returns-2 c =
     let v = nodeValue (start .args .value) (start .args .string .now) in
     let e = l .ensures ∙ ap (λ (x : ℤ). recordOf (entry x v)) (toZ-ofZ (start .fits .node)) in
     let t = table (start .args .table .now) (start .args .t .count) in
-    rw (c .mark2 .ensures) (rw (c .before .if1 .left) at (put-kept full (start .args .node) v t (start .args .t .counts) (l .last .0) (p .result) (p .last .0) refl e (p .ensures ∙ put-is (l .last .0) t)))
+    rw (c .mark2 .ensures) (rw (c .before .if1 .left) at (put-kept full (start .args .node) v t (start .args .t .counts) (l .last .0) (p .result) (p .last .0) refl e (_∙_ {b = putRow 264 (l .last .0) t} (p .ensures) (put-is (l .last .0) t))))
 
 pub keep-value-spec : {M : Type 1} → statement M
 keep-value-spec =

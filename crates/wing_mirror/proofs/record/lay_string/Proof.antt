@@ -31,7 +31,7 @@ lay-requires c κs =
     let start = at-least .before .before .before in
     let s = start .args .string .now in
     let n = at-least .least .result in
-    omega (arith, at-least .least .ensures, length-take n s, at-put-u16 .put-u16 .kept .0, length-set (start .args .out .now) 4 2)
+    omega (arith, at-least .least .ensures, length-take n s, length-take (start .args .n) s, at-put-u16 .put-u16 .kept .0, length-set (start .args .out .now) 4 2)
 
 same-length : tie.Need-same-length
 same-length c =

@@ -1,4 +1,4 @@
--- Each arm is the kind of value that `read` gives (`integer-held`, `float-held`, `string-held`), by the contract of the writer that it calls; a string of a
+-- Each arm is the kind of value that `value_in` gives (`integer-held`, `float-held`, `string-held`), by the contract of the writer that it calls; a string of a
 -- record that has 01's form may be stored (`read-storable`) and so is never refused for itself (`string-sent`).
 use Prim.Native.Nat.{ℕ}
 use mathlib.Core.Bool.{true}
@@ -14,15 +14,18 @@ use Rattle.wing_wire.specs.Write.{writeOf}
 use Rattle.wing_mirror.specs.Entry.{Entry, entry, storable}
 use Rattle.wing_mirror.specs.Record.{entryIn, payloadIn}
 use Rattle.wing_mirror.specs.Recall.{setOf}
-use Rattle.wing_mirror.proofs.Records.Said.{integer-held, float-held, string-held}
+use Rattle.wing_mirror.proofs.Records.Said.{entry-held, integer-held, float-held, string-held}
 use Rattle.wing_mirror.proofs.Records.Trips.{read-storable}
 use Rattle.wing_mirror.proofs.Calls.Orders.{string-sent}
 use borrow.Author.Needs.{needs}
-use Rattle.wing_mirror.proofs.recall.send_record.Statement.{statement}
-use Rattle.wing_mirror.proofs.recall.send_record.Tie as tie
+use Rattle.wing_mirror.proofs.send.send_record.Statement.{statement}
+use Rattle.wing_mirror.proofs.send.send_record.Tie as tie
 
-read-requires : tie.Need-read-requires
-read-requires c κs = search needs
+id-in-requires : tie.Need-id-in-requires
+id-in-requires c κs = search needs
+
+value-in-requires : tie.Need-value-in-requires
+value-in-requires c κs = search needs
 
 enum-known-value : tie.Need-enum-known-value
 enum-known-value c = search needs
@@ -59,31 +62,35 @@ same-length c = search needs
 
 returns : tie.Need-returns
 returns c =
-    let at-value = c .before .before .before .before .before .before in
-    let at-read = at-value .before .before in
-    let s = at-read .before .before .before in
-    let h = at-read .read in
+    let at-value = c .before .before .before .before .before in
+    let at-held = at-value .before .before in
+    let s = at-held .before .before .before .before in
+    let id = at-held .before .id-in .result in
+    let w = at-held .value-in .result in
+    let h = entry-held id w (payloadIn (s .args .rec .now)) (s .args .rec .now) (at-held .before .id-in .ensures) (at-held .value-in .ensures) in
     let v = at-value .value .given in
     let x = v .0 .0 in
-    let back-i : toZ w32 (ofZ w32 (h .result .id)) ≡ h .result .id = search needs in
-    let told = c .before .before .before .before .before .known-told in
+    let back-i : toZ w32 (ofZ w32 id) ≡ id = search needs in
+    let told = c .before .before .before .before .known-told in
     let back-x : toZ w32 (ofZ w32 x) ≡ x = search (needs, told) in
     rw (back-i, back-x) at (c .before .before .set-int .ensures)
-    ∙ ap (λ (e : Entry). writeOf (setOf e) (s .args .out .now)) (integer-held (h .result .id) (h .result .value) (payloadIn (s .args .rec .now)) (s .args .rec .now) (h .ensures) x (v .1))
+    ∙ ap (λ (e : Entry). writeOf (setOf e) (s .args .out .now)) (integer-held id w (payloadIn (s .args .rec .now)) (s .args .rec .now) h x (v .1))
 
 same-length-2 : tie.Need-same-length-2
 same-length-2 c = search needs
 
 returns-2 : tie.Need-returns-2
 returns-2 c =
-    let at-value = c .before .before .before .before .before .before in
-    let at-read = at-value .before .before in
-    let s = at-read .before .before .before in
-    let h = at-read .read in
+    let at-value = c .before .before .before .before .before in
+    let at-held = at-value .before .before in
+    let s = at-held .before .before .before .before in
+    let id = at-held .before .id-in .result in
+    let w = at-held .value-in .result in
+    let h = entry-held id w (payloadIn (s .args .rec .now)) (s .args .rec .now) (at-held .before .id-in .ensures) (at-held .value-in .ensures) in
     let v = at-value .value2 .given in
-    let back-i : toZ w32 (ofZ w32 (h .result .id)) ≡ h .result .id = search needs in
+    let back-i : toZ w32 (ofZ w32 id) ≡ id = search needs in
     rw back-i at (c .before .before .set-float .ensures)
-    ∙ ap (λ (e : Entry). writeOf (setOf e) (s .args .out .now)) (float-held (h .result .id) (h .result .value) (payloadIn (s .args .rec .now)) (s .args .rec .now) (h .ensures) (v .0 .0) (v .1))
+    ∙ ap (λ (e : Entry). writeOf (setOf e) (s .args .out .now)) (float-held id w (payloadIn (s .args .rec .now)) (s .args .rec .now) h (v .0 .0) (v .1))
 
 same-length-3 : tie.Need-same-length-3
 same-length-3 c = search needs
@@ -91,28 +98,31 @@ same-length-3 c = search needs
 returns-3 : tie.Need-returns-3
 unfolding entryIn
 returns-3 c =
-    let at-least = c .before .before .before .before .before .before in
+    let at-least = c .before .before .before .before .before in
     let at-payload = at-least .before in
     let at-value = at-payload .before .before in
-    let at-read = at-value .before .before in
-    let s = at-read .before .before .before in
-    let h = at-read .read in
+    let at-held = at-value .before .before in
+    let s = at-held .before .before .before .before in
+    let id = at-held .before .id-in .result in
+    let w = at-held .value-in .result in
+    let h = entry-held id w (payloadIn (s .args .rec .now)) (s .args .rec .now) (at-held .before .id-in .ensures) (at-held .value-in .ensures) in
     let r = s .args .rec .now in
     let v = at-value .value3 .given in
     let n = v .0 .0 in
     let p = at-payload .payload .result .now in
-    let back-i : toZ w32 (ofZ w32 (h .result .id)) ≡ h .result .id = search needs in
-    let held : entry (h .result .id) (string (take n p)) ≡ entryIn r = ap (λ (q : List ℕ). entry (h .result .id) (string (take n q))) (at-payload .payload .ensures) ∙ string-held (h .result .id) (h .result .value) (payloadIn r) r (h .ensures) n (v .1) in
-    let good : storable (string (take n p)) ≡ true = ap (λ (e : Entry). storable (e .value)) held ∙ read-storable r (s .pre .0) (λ i. omega (arith, at-read .before .shared-slice-known .given i)) (s .pre .1) in
+    let back-i : toZ w32 (ofZ w32 id) ≡ id = search needs in
+    let held : entry id (string (take n p)) ≡ entryIn r = ap (λ (q : List ℕ). entry id (string (take n q))) (at-payload .payload .ensures) ∙ string-held id w (payloadIn r) r h n (v .1) in
+    let good : storable (string (take n p)) ≡ true = ap (λ (e : Entry). storable (e .value)) held ∙ read-storable r (s .pre .0) (λ i. omega (arith, at-held .before .before .shared-slice-known .given i)) (s .pre .1) in
     rw back-i at (c .before .before .set-string .ensures)
-    ∙ string-sent (h .result .id) n (at-least .least .result) p (s .args .out .now) (at-least .least .ensures) good
+    ∙ string-sent id n (at-least .least .result) p (s .args .out .now) (at-least .least .ensures) good
     ∙ ap (λ (e : Entry). writeOf (setOf e) (s .args .out .now)) held
 
 pub send-record-spec : {M : Type 1} → statement M
 send-record-spec =
     tie.close
     (tie.spec
-    read-requires
+    id-in-requires
+    value-in-requires
     enum-known-value
     set-int-requires
     enum-known-value-2
