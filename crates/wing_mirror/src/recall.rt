@@ -9,10 +9,31 @@ ghost use Rattle.wing_mirror.specs.Table.{table as tableOf, rows, rowAt,
 ghost use Rattle.wing_mirror.specs.Recall.{recallBytes, recallOf};
 ghost use Rattle.wing_mirror.specs.Sending.{orderIn, ordersOf, sizeIn};
 use crate::order::row;
-use crate::send::send_record;
+use crate::record;
 use crate::table::is_usable;
+use wing_node::field;
+use wing_node::value::Value;
+use wing_wire::set;
 use wing_wire::state::State;
 use wing_wire::write::Written;
+
+// The set order of what a record holds. Not by `send`, which would be a call for each record, with the value in memory.
+fn send_record(out: &mut [u8], rec: &[u8]) -> Written
+    requires { ⌜ (length (now rec) ≡ width) × (wellFormed (now rec) ≡ true) ⌝ }
+    ensures { λ r. ⌜ writeEffect r (now (out .exit)) ≡ writeOf (orderIn (now (rec .entry))) (now (out .entry)) ⌝ }
+{
+    let id = record::id_in(rec);
+    let value = record::value_in(rec);
+    match value {
+        Value::Integer(x) => set::set_int(out, id, x),
+        Value::Float(bits) => set::set_float(out, id, bits),
+        Value::String(n) => {
+            let bytes = record::payload(rec);
+            let len = field::least(n as usize, bytes.len());
+            set::set_string(out, id, &bytes[..len])
+        }
+    }
+}
 
 fn size_in(w: Written) -> usize
     ensures { λ r. ⌜ r ≡ sizeIn w ⌝ }

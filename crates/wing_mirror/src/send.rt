@@ -1,29 +1,26 @@
-// The set order of a record: a set through the mirror writes it, and a recall one for each record.
+// The command that a set through the mirror writes.
 ghost use mathlib.Core.Path.{_≡_};
 ghost use mathlib.Core.Bool.{true};
-ghost use lib.ListN.{length};
+ghost use Rattle.wing_node.specs.Value.{nodeValue};
 ghost use Rattle.wing_wire.specs.Write.{writeEffect, writeOf};
-ghost use Rattle.wing_mirror.specs.Record.{width, wellFormed};
-ghost use Rattle.wing_mirror.specs.Sending.{orderIn};
-use crate::record;
-use wing_node::field;
+ghost use Rattle.wing_wire.specs.Command.{setBytes};
+ghost use Rattle.wing_mirror.specs.Entry.{storable};
+use wing_node::field::least;
 use wing_node::value::Value;
 use wing_wire::set;
 use wing_wire::write::Written;
 
-pub(crate) fn send_record(out: &mut [u8], rec: &[u8]) -> Written
-    requires { ⌜ (length (now rec) ≡ width) × (wellFormed (now rec) ≡ true) ⌝ }
-    ensures { λ r. ⌜ writeEffect r (now (out .exit)) ≡ writeOf (orderIn (now (rec .entry))) (now (out .entry)) ⌝ }
+// The command of a value; a string's bytes stand beside its length.
+pub(crate) fn send(out: &mut [u8], id: i32, value: Value, string: &[u8]) -> Written
+    requires { ⌜ storable (nodeValue value (now string)) ≡ true ⌝ }
+    ensures { λ r. ⌜ writeEffect r (now (out .exit)) ≡ writeOf (setBytes id (nodeValue value (now (string .entry)))) (now (out .entry)) ⌝ }
 {
-    let id = record::id_in(rec);
-    let value = record::value_in(rec);
     match value {
         Value::Integer(x) => set::set_int(out, id, x),
         Value::Float(bits) => set::set_float(out, id, bits),
         Value::String(n) => {
-            let bytes = record::payload(rec);
-            let len = field::least(n as usize, bytes.len());
-            set::set_string(out, id, &bytes[..len])
+            let len = least(n as usize, string.len());
+            set::set_string(out, id, &string[..len])
         }
     }
 }

@@ -4,14 +4,14 @@ ghost use mathlib.Core.Bool.{true};
 ghost use lib.ListN.{length};
 ghost use Rattle.wing_node.specs.Bool.{if};
 ghost use Rattle.wing_node.specs.Value.{integer, float, string as stringOf, nodeValue};
-ghost use Rattle.wing_mirror.specs.Entry.{storable, Typed};
+ghost use Rattle.wing_mirror.specs.Entry.{storable};
 ghost use Rattle.wing_mirror.specs.Record.{width, full};
 ghost use Rattle.wing_mirror.specs.Table.{table as tableOf, usable};
 ghost use Rattle.wing_mirror.specs.Mirror.{mirrorSet, setEffect};
 ghost use Rattle.wing_mirror.specs.Sets.{replied, keptOf, refusedSetReply};
 use crate::answer::SetReply;
 use crate::record::lay_record;
-use crate::send::send_record;
+use crate::send::send;
 use crate::store::has_room;
 use crate::store::put;
 use crate::table::is_usable;
@@ -55,7 +55,7 @@ fn set_value(
     value: Value,
     string: &[u8],
 ) -> SetReply
-    requires { ⌜ (storable (nodeValue value (now string)) ≡ true) × Typed (nodeValue value (now string)) ⌝ }
+    requires { ⌜ storable (nodeValue value (now string)) ≡ true ⌝ }
     ensures { λ r. ⌜ setEffect r (now (out .exit)) (now (table .exit)) ≡ mirrorSet full id (nodeValue value (now (string .entry))) (tableOf (now (table .entry)) count) (now (out .entry)) ⌝ }
 {
     if is_usable(table, count) {
@@ -63,7 +63,7 @@ fn set_value(
         lay_record(&mut rec, id, value, string);
         let laid: &[u8] = &rec;
         if has_room(table, State::PLACE_WIDTH, count, laid) {
-            let written = send_record(out, laid);
+            let written = send(out, id, value, string);
             return keep_written(table, count, laid, written);
         }
         return refused(6, count);

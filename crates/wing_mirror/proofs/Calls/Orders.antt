@@ -8,7 +8,6 @@ use lib.Dec.{ltb, leb}
 use lib.IntN.{ℤ}
 use lib.ListN.{length, take}
 use Rattle.wing_node.specs.Bool.{if}
-use Rattle.wing_node.specs.Signed.{InBits}
 use Rattle.wing_node.specs.Utf8.{utf8}
 use Rattle.wing_node.specs.Value.{NodeValue, integer, float, string}
 use Rattle.wing_node.proofs.Branches.{if-both}
@@ -17,19 +16,14 @@ use Rattle.wing_wire.specs.Command.{setBytes, setString}
 use Rattle.wing_wire.specs.declared.write.Written.{Written}
 use Rattle.wing_wire.proofs.Laws.{writer-laws}
 use Rattle.wing_mirror.specs.Rows.{Table, takes}
-use Rattle.wing_mirror.specs.Entry.{entry, storable, Typed}
+use Rattle.wing_mirror.specs.Entry.{entry, storable}
 use Rattle.wing_mirror.specs.Layout.{kept, Layout}
-use Rattle.wing_mirror.specs.Record.{recordOf, wellFormed}
 use Rattle.wing_mirror.specs.Table.{usable, put, fits}
 use Rattle.wing_mirror.specs.Puts.{putOf}
 use Rattle.wing_mirror.specs.Call.{tooLong, notText}
 use Rattle.wing_mirror.specs.Mirror.{SetEffect, refusedSet, mirrorSet, setEffect}
-use Rattle.wing_mirror.specs.Recall.{setOf}
-use Rattle.wing_mirror.specs.Sending.{orderIn}
 use Rattle.wing_mirror.specs.Sets.{Replied, replied, keptOf}
 use Rattle.wing_mirror.specs.declared.answer.SetReply.{SetReply}
-use Rattle.wing_mirror.proofs.Records.Trips.{entry-back}
-use Rattle.wing_mirror.proofs.Records.Full.{full-laws}
 use Rattle.wing_mirror.proofs.Tables.Laying.{take-least}
 
 -- a value that may be stored is not refused for itself
@@ -60,12 +54,6 @@ string-sent id n len s out l h =
   where
     b : (leb (length (take n s)) 256 ≡ true) × (utf8 (take n s) ≡ true)
     b = if-both (leb (length (take n s)) 256) (utf8 (take n s)) h
-
--- the record of a value that may be stored has 01's form, and its set order is the value's
-pub laid-order : (id : ℤ) (v : NodeValue) (rec : List ℕ) → rec ≡ recordOf (entry id v) → InBits 31 id → Typed v → storable v ≡ true →
-    (wellFormed rec ≡ true) × (orderIn rec ≡ setBytes id v)
-laid-order id v rec e i t s =
-    (ap wellFormed e ∙ full-laws .formed (entry id v) s refl, ap orderIn e ∙ ap setOf (entry-back id v i t s))
 
 abbrev settled : Replied → List ℕ → SetEffect
 settled k out = record { answer = k .answer; out = out; table = k .after }

@@ -12,9 +12,7 @@ slice-aggregate-set-value c = search needs
 
 set-value-requires : tie.Need-set-value-requires
 unfolding storable nodeValue
-set-value-requires c κs =
-    let start = c .before .before .before .before .before in
-    (refl, start .fits .bits .fits)
+set-value-requires c κs = refl
 
 same-length : tie.Need-same-length
 same-length c = search needs

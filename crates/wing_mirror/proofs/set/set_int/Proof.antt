@@ -12,9 +12,7 @@ slice-aggregate-set-value c = search needs
 
 set-value-requires : tie.Need-set-value-requires
 unfolding storable nodeValue
-set-value-requires c κs =
-    let start = c .before .before .before .before .before in
-    (refl, rw (toZ-ofZ (start .fits .value)) (start .fits .value .sfits))
+set-value-requires c κs = refl
 
 same-length : tie.Need-same-length
 same-length c = search needs

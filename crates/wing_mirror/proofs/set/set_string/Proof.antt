@@ -25,7 +25,7 @@ set-value-requires c κs =
     let at-is-utf8 = c .before .before .before in
     let start = at-is-utf8 .before .before .before .before .before in
     let v = start .args .value .now in
-    (rw (take-all (length v) v (omega arith)) (storable-string v (at-is-utf8 .before .if1 .taken) (sym (at-is-utf8 .is-utf8 .ensures .0) ∙ c .before .before .if2 .taken)), tt)
+    rw (take-all (length v) v (omega arith)) (storable-string v (at-is-utf8 .before .if1 .taken) (sym (at-is-utf8 .is-utf8 .ensures .0) ∙ c .before .before .if2 .taken))
 
 same-length : tie.Need-same-length
 same-length c = search needs

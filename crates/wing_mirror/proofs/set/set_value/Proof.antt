@@ -1,15 +1,12 @@
--- The returns are the cases of `mirrorSet` by what `is_usable` and `has_room` tell: `lay_record`, `send_record` (`laid-order`) and `keep_written` make what
+-- The returns are the cases of `mirrorSet` by what `is_usable` and `has_room` tell: `lay_record`, `send` and `keep_written` make what
 -- it writes and stores (`kept-so`), or there is no place (`no-room`), or the table is not usable (`unusable`).
-use mathlib.Core.Path.{refl, sym, _∙_, ap}
-use mathlib.Core.List.{List}
-use Prim.Native.Nat.{ℕ}
+use mathlib.Core.Path.{refl, sym, _∙_}
 use mir.Facts.{toZ-ofZ}
 use Rattle.wing_node.specs.Value.{nodeValue}
-use Rattle.wing_wire.specs.Write.{writeOf}
 use Rattle.wing_mirror.specs.Record.{full}
 use Rattle.wing_mirror.specs.Table.{table}
 use Rattle.wing_mirror.proofs.Records.Ready.{in-order}
-use Rattle.wing_mirror.proofs.Calls.Orders.{not-long, laid-order, unusable, no-room, kept-so}
+use Rattle.wing_mirror.proofs.Calls.Orders.{not-long, unusable, no-room, kept-so}
 use borrow.Author.Needs.{needs}
 use Rattle.wing_mirror.proofs.set.set_value.Statement.{statement}
 use Rattle.wing_mirror.proofs.set.set_value.Tie as tie
@@ -23,7 +20,7 @@ slice-aggregate-lay-record c = search needs
 lay-record-requires : tie.Need-lay-record-requires
 lay-record-requires c κs =
     let start = c .before .before .before .before .before .before .before in
-    (search needs, not-long (nodeValue (start .args .value) (start .args .string .now)) (start .pre .0))
+    (search needs, not-long (nodeValue (start .args .value) (start .args .string .now)) (start .pre))
 
 slice-aggregate-laid : tie.Need-slice-aggregate-laid
 slice-aggregate-laid c = search needs
@@ -34,12 +31,8 @@ has-room-requires c κs =
     let start = at-usable .before .before .before .before .before in
     (in-order (table (start .args .table .now) (start .args .count)) (sym (at-usable .is-usable .ensures) ∙ c .before .before .before .before .before .if1 .taken), search needs)
 
-send-record-requires : tie.Need-send-record-requires
-send-record-requires c κs =
-    let at-lay-record = c .before .before .before .before .before .before in
-    let start = at-lay-record .before .before .before .before .before .before .before .before in
-    let a = start .args in
-    (search needs, laid-order (a .id) (nodeValue (a .value) (a .string .now)) (at-lay-record .lay-record .last .0) (rw (toZ-ofZ (start .fits .id)) at (at-lay-record .lay-record .ensures)) (start .fits .id .sfits) (start .pre .1) (start .pre .0) .0)
+send-requires : tie.Need-send-requires
+send-requires c κs = search needs
 
 keep-written-requires : tie.Need-keep-written-requires
 keep-written-requires c κs =
@@ -54,8 +47,8 @@ same-length-2 c = search needs
 
 returns : tie.Need-returns
 returns c =
-    let at-send-record = c .before .before .before .before .before .before in
-    let at-if2 = at-send-record .before .before in
+    let at-send = c .before .before .before .before .before .before in
+    let at-if2 = at-send .before .before in
     let at-has-room = at-if2 .before in
     let at-lay-record = at-has-room .before .before .before .before in
     let at-if1 = at-lay-record .before .before in
@@ -63,9 +56,8 @@ returns c =
     let a = start .args in
     let v = nodeValue (a .value) (a .string .now) in
     let rec = at-lay-record .lay-record .last .0 in
-    let laid = rw (toZ-ofZ (start .fits .id)) at (at-lay-record .lay-record .ensures) in
-    let order = laid-order (a .id) v rec laid (start .fits .id .sfits) (start .pre .1) (start .pre .0) .1 in
-    kept-so full (a .id) v (table (a .table .now) (a .count)) (a .out .now) (sym (at-if1 .before .is-usable .ensures) ∙ at-if1 .if1 .taken) refl (start .pre .0) rec laid (at-has-room .has-room .result) (at-has-room .has-room .ensures) (at-if2 .if2 .taken) (at-send-record .send-record .result) (at-send-record .send-record .last .0) (at-send-record .send-record .ensures ∙ ap (λ (b : List ℕ). writeOf b (a .out .now)) order) (c .before .before .keep-written .result) (c .before .before .keep-written .last .0) (c .before .before .keep-written .ensures)
+    let z = toZ-ofZ (start .fits .id) in
+    kept-so full (a .id) v (table (a .table .now) (a .count)) (a .out .now) (sym (at-if1 .before .is-usable .ensures) ∙ at-if1 .if1 .taken) refl (start .pre) rec (rw z at (at-lay-record .lay-record .ensures)) (at-has-room .has-room .result) (at-has-room .has-room .ensures) (at-if2 .if2 .taken) (at-send .send .result) (at-send .send .last .0) (rw z at (at-send .send .ensures)) (c .before .before .keep-written .result) (c .before .before .keep-written .last .0) (c .before .before .keep-written .ensures)
 
 refused-requires : tie.Need-refused-requires
 refused-requires c κs = search needs
@@ -80,7 +72,7 @@ returns-2 c =
     let at-if1 = at-lay-record .before .before in
     let start = at-if1 .before .before .before .before .before .before in
     let a = start .args in
-    rw (c .refused .ensures) (no-room full (a .id) (nodeValue (a .value) (a .string .now)) (table (a .table .now) (a .count)) (a .out .now) (sym (at-if1 .before .is-usable .ensures) ∙ at-if1 .if1 .taken) refl (start .pre .0) (at-lay-record .lay-record .last .0) (rw (toZ-ofZ (start .fits .id)) at (at-lay-record .lay-record .ensures)) (at-has-room .has-room .result) (at-has-room .has-room .ensures) (c .before .if2 .left))
+    rw (c .refused .ensures) (no-room full (a .id) (nodeValue (a .value) (a .string .now)) (table (a .table .now) (a .count)) (a .out .now) (sym (at-if1 .before .is-usable .ensures) ∙ at-if1 .if1 .taken) refl (start .pre) (at-lay-record .lay-record .last .0) (rw (toZ-ofZ (start .fits .id)) at (at-lay-record .lay-record .ensures)) (at-has-room .has-room .result) (at-has-room .has-room .ensures) (c .before .if2 .left))
 
 refused-requires-2 : tie.Need-refused-requires-2
 refused-requires-2 c κs = search needs
@@ -103,7 +95,7 @@ set-value-spec =
     lay-record-requires
     slice-aggregate-laid
     has-room-requires
-    send-record-requires
+    send-requires
     keep-written-requires
     same-length
     same-length-2

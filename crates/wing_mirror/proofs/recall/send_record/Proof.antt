@@ -18,8 +18,8 @@ use Rattle.wing_mirror.proofs.Records.Said.{entry-held, integer-held, f
 use Rattle.wing_mirror.proofs.Records.Trips.{read-storable}
 use Rattle.wing_mirror.proofs.Calls.Orders.{string-sent}
 use borrow.Author.Needs.{needs}
-use Rattle.wing_mirror.proofs.send.send_record.Statement.{statement}
-use Rattle.wing_mirror.proofs.send.send_record.Tie as tie
+use Rattle.wing_mirror.proofs.recall.send_record.Statement.{statement}
+use Rattle.wing_mirror.proofs.recall.send_record.Tie as tie
 
 id-in-requires : tie.Need-id-in-requires
 id-in-requires c κs = search needs
