@@ -155,6 +155,12 @@ detailsAt t body c =
     let first = past (added t) body c in
     record { details = detailsFrom t f (first .at); next = after (itemsOf t (f Count .value)) body first }
 
+-- the same for a type with a count
+unfoldable pub listedAt : NodeType → List ℕ → Cursor → DetailsRead
+listedAt t body c =
+    let count = readAt (number 2) body c in
+    record { details = Items (count .value) (count .next .at); next = after (itemsOf t (count .value)) body (count .next) }
+
 -- 01: type = flags div 16 mod 16
 abbrev pub kindFrom : (FieldName → FieldRead) → NodeType
 kindFrom f = typeOf (f Flags .value / 16 % 16)

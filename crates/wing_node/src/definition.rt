@@ -2,8 +2,9 @@
 // field by field in the order of the wire, nothing copied out of the body.
 ghost use mathlib.Core.Path.{_≡_};
 ghost use Rattle.wing_node.specs.Cursor.{after};
-ghost use Rattle.wing_node.specs.Definition.{itemAt, itemsOf, detailsAt, parsedFrom, definitionOf};
+ghost use Rattle.wing_node.specs.Definition.{spanOf, itemAt, itemsOf, listedAt, detailsAt, parsedFrom, definitionOf};
 use crate::cursor::Cursor;
+use crate::cursor::FieldRead;
 use crate::cursor::read_16;
 use crate::cursor::read_32;
 use crate::cursor::read_string;
@@ -17,6 +18,15 @@ use crate::node_type::unit_of;
 pub struct Span {
     pub start: usize,
     pub len: u32,
+}
+
+fn span_of(r: FieldRead) -> Span
+    ensures { λ s. ⌜ s ≡ spanOf r ⌝ }
+{
+    Span {
+        start: r.start,
+        len: r.value,
+    }
 }
 
 // An item of a string or float enum; none, or the number of the refusal.
@@ -72,14 +82,8 @@ fn string_item(body: &[u8], c: Cursor) -> ItemRead
     let next = long_item.next;
     ItemRead {
         item: Item::Strings {
-            item: Span {
-                start: item.start,
-                len: item.value,
-            },
-            long_item: Span {
-                start: long_item.start,
-                len: long_item.value,
-            },
+            item: span_of(item),
+            long_item: span_of(long_item),
         },
         next: next,
     }
@@ -94,10 +98,7 @@ fn float_item(body: &[u8], c: Cursor) -> ItemRead
     ItemRead {
         item: Item::Float {
             item: item.value,
-            long_item: Span {
-                start: long_item.start,
-                len: long_item.value,
-            },
+            long_item: span_of(long_item),
         },
         next: next,
     }
@@ -165,22 +166,28 @@ fn integers(body: &[u8], c: Cursor) -> DetailsRead
     }
 }
 
+fn listed(body: &[u8], kind: NodeType, c: Cursor) -> DetailsRead
+    ensures { λ r. ⌜ r ≡ listedAt kind (now (body .entry)) c ⌝ }
+{
+    let count = read_16(body, c);
+    DetailsRead {
+        details: Details::Items {
+            count: count.value,
+            first: count.next.at,
+        },
+        next: past_items(body, kind, count.value, count.next),
+    }
+}
+
 fn read_details(body: &[u8], kind: NodeType, c: Cursor) -> DetailsRead
     ensures { λ r. ⌜ r ≡ detailsAt kind (now (body .entry)) c ⌝ }
 {
     match kind {
         NodeType::LinearFloat | NodeType::LogarithmicFloat => floats(body, c),
         NodeType::Integer => integers(body, c),
-        NodeType::StringEnum | NodeType::FloatEnum => {
-            let count = read_16(body, c);
-            DetailsRead {
-                details: Details::Items {
-                    count: count.value,
-                    first: count.next.at,
-                },
-                next: past_items(body, kind, count.value, count.next),
-            }
-        }
+        // An arm each, so that the loop over the items is compiled for its one type.
+        NodeType::StringEnum => listed(body, kind, c),
+        NodeType::FloatEnum => listed(body, kind, c),
         NodeType::String => {
             let max = read_16(body, c);
             let next = max.next;
@@ -224,14 +231,8 @@ pub fn from_bytes(body: &[u8]) -> Parsed
         parent_id: to_i32(parent_id.value),
         id: to_i32(id.value),
         index: index.value,
-        name: Span {
-            start: name.start,
-            len: name.value,
-        },
-        long_name: Span {
-            start: long_name.start,
-            len: long_name.value,
-        },
+        name: span_of(name),
+        long_name: span_of(long_name),
         node_type: kind,
         unit: unit_of(bits % 16),
         read_only: bits / 512 % 2 == 1,

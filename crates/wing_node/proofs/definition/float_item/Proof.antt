@@ -11,10 +11,13 @@ read-32-requires c κs = search needs
 read-string-requires : tie.Need-read-string-requires
 read-string-requires c κs = search needs
 
+span-of-requires : tie.Need-span-of-requires
+span-of-requires c κs = search needs
+
 returns : tie.Need-returns
 unfolding itemAt reads after
-returns c = simp (c .before .before .read-32 .ensures, c .before .read-string .ensures)
+returns c = simp (c .before .before .before .read-32 .ensures, c .before .before .read-string .ensures, c .span-of .ensures)
 
 pub float-item-spec : {M : Type 1} → statement M
 float-item-spec =
-    tie.close (tie.spec read-32-requires read-string-requires returns)
+    tie.close (tie.spec read-32-requires read-string-requires span-of-requires returns)

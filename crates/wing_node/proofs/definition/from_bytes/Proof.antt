@@ -45,6 +45,12 @@ to-i32-requires c κs = search needs
 to-i32-requires-2 : tie.Need-to-i32-requires-2
 to-i32-requires-2 c κs = search needs
 
+span-of-requires : tie.Need-span-of-requires
+span-of-requires c κs = search needs
+
+span-of-requires-2 : tie.Need-span-of-requires-2
+span-of-requires-2 c κs = search needs
+
 unit-of-requires : tie.Need-unit-of-requires
 unit-of-requires c κs = search needs
 
@@ -54,7 +60,7 @@ finish-requires c κs = search needs
 returns : tie.Need-returns
 unfolding definitionOf reads after
 returns c =
-    let at-to-i322 = c .before .before in
+    let at-to-i322 = c .before .before .before .before in
     let at-read-details = at-to-i322 .before .before in
     let at-read-162 = at-read-details .before .before in
     let at-read-16 = at-read-162 .before .before .before in
@@ -73,13 +79,15 @@ returns c =
     let back2 : toZ w32 (ofZ w32 (at-to-i322 .to-i322 .result)) ≡ at-to-i322 .to-i322 .result = search needs in
     let parent-id : toZ w32 (ofZ w32 (at-to-i322 .before .to-i32 .result)) ≡ signed 31 (f ParentId .value) = back ∙ at-to-i322 .before .to-i32 .ensures ∙ ap (λ (r : FieldRead). signed 31 (r .value)) parent in
     let own-id : toZ w32 (ofZ w32 (at-to-i322 .to-i322 .result)) ≡ signed 31 (f Id .value) = back2 ∙ at-to-i322 .to-i322 .ensures ∙ ap (λ (r : FieldRead). signed 31 (r .value)) id in
+    let name-span : c .before .before .before .span-of .result ≡ spanOf (f Name) = c .before .before .before .span-of .ensures ∙ ap spanOf name in
+    let long-span : c .before .before .span-of2 .result ≡ spanOf (f LongName) = c .before .before .span-of2 .ensures ∙ ap spanOf long in
     let unit : c .before .unit-of .result ≡ unitOf (f Flags .value % 16) = c .before .unit-of .ensures ∙ ap (λ (r : ShortRead). unitOf (r .value % 16)) flags in
     c .finish .ensures ∙ (λ j. parsedFrom (found j .next .refused) (record {
       «parent_id» = parent-id j;
       id = own-id j;
       index = index j .value;
-      name = spanOf (name j);
-      «long_name» = spanOf (long j);
+      name = name-span j;
+      «long_name» = long-span j;
       «node_type» = kind j;
       unit = unit j;
       «read_only» = eqb (flags j .value / 512 % 2) 1;
@@ -100,6 +108,8 @@ from-bytes-spec =
     read-details-requires
     to-i32-requires
     to-i32-requires-2
+    span-of-requires
+    span-of-requires-2
     unit-of-requires
     finish-requires
     returns)

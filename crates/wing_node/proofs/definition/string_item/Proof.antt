@@ -11,9 +11,15 @@ read-string-requires c κs = search needs
 read-string-requires-2 : tie.Need-read-string-requires-2
 read-string-requires-2 c κs = search needs
 
+span-of-requires : tie.Need-span-of-requires
+span-of-requires c κs = search needs
+
+span-of-requires-2 : tie.Need-span-of-requires-2
+span-of-requires-2 c κs = search needs
+
 returns : tie.Need-returns
 unfolding itemAt reads after
-returns c = simp (c .before .before .read-string .ensures, c .before .read-string2 .ensures)
+returns c = simp (c .before .before .before .before .read-string .ensures, c .before .before .before .read-string2 .ensures, c .before .span-of .ensures, c .span-of2 .ensures)
 
 pub string-item-spec : {M : Type 1} → statement M
 string-item-spec =
@@ -21,4 +27,6 @@ string-item-spec =
     (tie.spec
     read-string-requires
     read-string-requires-2
+    span-of-requires
+    span-of-requires-2
     returns)
