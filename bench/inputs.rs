@@ -1,23 +1,23 @@
 // The inputs that are timed. compare/ holds both sides' answers to them against each other.
-struct Dice(u64);
+pub struct Dice(pub u64);
 
 impl Dice {
-    fn bits(&mut self) -> u64 {
+    pub fn bits(&mut self) -> u64 {
         self.0 ^= self.0 << 13;
         self.0 ^= self.0 >> 7;
         self.0 ^= self.0 << 17;
         self.0.wrapping_mul(0x2545_f491_4f6c_dd1d) >> 16
     }
 
-    fn below(&mut self, n: u64) -> usize {
+    pub fn below(&mut self, n: u64) -> usize {
         (self.bits() % n) as usize
     }
 
-    fn ascii(&mut self, n: usize) -> Vec<u8> {
+    pub fn ascii(&mut self, n: usize) -> Vec<u8> {
         (0..n).map(|_| 0x20 + self.below(95) as u8).collect()
     }
 
-    fn mixed(&mut self, n: usize) -> Vec<u8> {
+    pub fn mixed(&mut self, n: usize) -> Vec<u8> {
         let mut s = String::new();
         while s.len() < n {
             let c = match self.below(6) {

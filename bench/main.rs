@@ -1,9 +1,12 @@
-// Times the port and libwing side by side, on the same inputs in one run, and calls through the Rust crate beside direct ones.
+// Times the port and libwing side by side, on the same inputs in one run (std or our own Rust where libwing has no such call), and calls
+// through the Rust crate beside direct ones.
 //   bench            all parts: the median of each side's runs, and their ratio with its spread
 //   bench once PART port|libwing|none    one round of one part, for an instruction count
 //   bench crate PART crate|direct|none   the same of a call through the crate
+mod definitions;
 mod inputs;
 
+use definitions::{definitions, write, Given};
 use inputs::{bodies, capture, orders, strings, values, Order, START, STREAMS};
 use std::collections::HashMap;
 use std::hint::black_box;
@@ -16,6 +19,10 @@ extern "C" {
     fn port_decode(bytes: *const u8, n: usize, store: *mut u8, m: usize) -> u64;
     fn port_next(bytes: *const u8, n: usize) -> u64;
     fn port_from_bytes(body: *const u8, n: usize) -> u32;
+    fn port_to_bytes(
+        parent_id: i32, id: i32, index: u16, node_type: u8, unit: u8, read_only: bool, min: u32, max: u32, steps: i32, count: u16, max_len: u16,
+        name: *const u8, a: usize, long_name: *const u8, b: usize, items: *const u8, c: usize, out: *mut u8, m: usize,
+    ) -> usize;
     fn port_set_int(out: *mut u8, m: usize, id: i32, x: i32) -> usize;
     fn port_set_float(out: *mut u8, m: usize, id: i32, bits: u32) -> usize;
     fn port_set_string(out: *mut u8, m: usize, id: i32, s: *const u8, n: usize) -> usize;
@@ -148,6 +155,34 @@ fn writing() -> Part {
     }
 }
 
+fn port_write(g: &Given, out: &mut [u8]) -> usize {
+    unsafe {
+        port_to_bytes(
+            g.parent_id, g.id, g.index, g.node_type, g.unit, g.read_only, g.min, g.max, g.steps, g.count, g.max_len,
+            g.name.as_ptr(), g.name.len(), g.long_name.as_ptr(), g.long_name.len(), g.items.as_ptr(), g.items.len(), out.as_mut_ptr(), out.len(),
+        )
+    }
+}
+
+// Our own writer stands in libwing's place: each body in a Vec of its own, made as long as the body at once or grown. The port's goes
+// into one lent output.
+fn defining(name: &'static str, budget: f64, room: bool) -> Part {
+    let all = definitions();
+    let same = definitions();
+    let mut out = vec![0u8; 4096];
+    for g in &all {
+        let n = port_write(g, &mut out);
+        assert_eq!(write(g, room).as_deref(), Ok(&out[..n]), "{name}: the two sides write differently");
+    }
+    Part {
+        wanted: None,
+        name,
+        budget,
+        libwing: Box::new(move || all.iter().map(|g| black_box(write(black_box(g), room)).map_or(0, |body| body.len() as u64)).sum()),
+        port: Box::new(move || same.iter().map(|g| port_write(black_box(g), black_box(&mut out)) as u64).sum()),
+    }
+}
+
 fn packets(name: &'static str, readings: usize) -> Part {
     let packet = inputs::packet(readings);
     let mut c = WingConsole::over(&[]);
@@ -207,6 +242,8 @@ fn parts() -> Vec<Part> {
         loading(),
         characters("UTF-8, short ASCII (std)", false),
         characters("UTF-8, short mixed (std)", true),
+        defining("write definitions (Vec::new)", 1.0, false),
+        defining("write definitions (capacity)", 0.0, true),
     ]
 }
 

@@ -36,6 +36,8 @@ extern "C" {
 #define WING_PLACES_MAX 1024
 /* The most bytes of a definition's body, and the least of wing_next's output. */
 #define WING_BODY_LIMIT 4096
+/* The most bytes of a definition's name, and of its long name. */
+#define WING_NAME_MAX 255
 /* The most bytes of one feed or next. */
 #define WING_FEED_MAX 65536
 /* The most bytes of a string. */
@@ -106,7 +108,7 @@ extern "C" {
 
 /* Refusals: a status is one of these with a minus sign. */
 #define WING_REFUSED_STRING 1              /* a string that is not UTF-8 */
-#define WING_REFUSED_BODY_LONG 2           /* a definition's count over 4,096 */
+#define WING_REFUSED_BODY_LONG 2           /* a definition's count over 4,096; a body to be written that is longer */
 #define WING_REFUSED_BODY_EMPTY 3          /* a definition's count 0 */
 #define WING_REFUSED_DEFINITION_SHORT 4    /* a definition's field past the end */
 #define WING_REFUSED_DEFINITION_STRING 5   /* a definition's string that is not UTF-8 */
@@ -119,10 +121,12 @@ extern "C" {
 #define WING_REFUSED_METER_ID 12           /* the last meter id is 65,535 */
 #define WING_REFUSED_PACKET 13             /* a packet of fewer than 4 or more than 8,192 bytes */
 #define WING_REFUSED_NUMBER 14             /* over 65,536 bytes; an item or record number not below its count */
+#define WING_REFUSED_NAME_LONG 15          /* a definition's name over 255 bytes */
+#define WING_REFUSED_FIELDS 16             /* a type or unit over 7; item bytes that are not the type's items, as many as the count */
 
 /* ---- What comes back ---- */
 
-/* A command. */
+/* A command, or a definition that was written. */
 typedef struct WingWritten {
     int32_t status; /* 0, or a refusal */
     size_t len;     /* how many bytes stand at the front of the output; those after them are as they were */
@@ -233,6 +237,23 @@ typedef struct WingStep {
     WingWalk walk; /* the walk after it; where the item is a refusal, the walk as it was. Its status is always 0 */
 } WingStep;
 
+/* ---- What goes in ---- */
+
+/* A definition to be written: fields of WingDefinition. What its type has not is ignored, but for the count and the item bytes (16). */
+typedef struct WingFields {
+    int32_t parent_id; /* the node above */
+    int32_t id;        /* the node */
+    uint16_t index;    /* its number below the parent */
+    uint8_t node_type; /* WING_TYPE_NODE to WING_TYPE_STRING */
+    uint8_t unit;      /* WING_UNIT_NONE to WING_UNIT_OCTAVES */
+    bool read_only;    /* bit 9 of the flags */
+    uint16_t count;    /* how many items, of the two enum types; 0 for the others */
+    uint16_t max_len;  /* the longest string, of type string */
+    uint32_t min;      /* the least value: 32 bits of a float (types 1, 2) or of an integer (4) */
+    uint32_t max;      /* the greatest value, likewise */
+    int32_t steps;     /* the number of steps (types 1, 2) */
+} WingFields;
+
 /* ---- The decoder ---- */
 
 /* Lays a fresh decoder state into the output (WING_STATE_SIZE bytes). Lent to be written: state.
@@ -311,6 +332,18 @@ WingStep wing_item_step(const uint8_t *body, size_t body_len, size_t at, uint16_
 /* An item by its number, from 0 (status 1). Lent to be read: body.
  * Refused: 4, 5, 14. */
 WingItem wing_item(const uint8_t *body, size_t body_len, size_t number);
+
+/* Writes a definition's body (at most WING_BODY_LIMIT bytes), the unused bits of its flags 0. Lent to be read: name and long_name (at most
+ * WING_NAME_MAX bytes each), and items as they stand in a body: each has two strings (type 5), or the four bytes of a float and a string
+ * (6), and a string is its length in one byte and its bytes. All strings are in UTF-8. Lent to be written: out.
+ * Refused: 15, 16, 5, 2, 9. */
+WingWritten wing_write_definition(WingFields fields, const uint8_t *name, size_t name_len, const uint8_t *long_name,
+                                  size_t long_name_len, const uint8_t *items, size_t items_len, uint8_t *out, size_t out_len);
+
+/* Reads a body and writes its definition anew (at most WING_BODY_LIMIT bytes). The bytes are the same exactly if type and unit in the flags
+ * are below 8 each, the flags' unused bits are 0 and nothing follows the last field. Lent to be read: body; to be written: out.
+ * Refused: 4, 5, 2, 9. */
+WingWritten wing_write_anew(const uint8_t *body, size_t body_len, uint8_t *out, size_t out_len);
 
 /* ---- Commands without a mirror ---- */
 

@@ -1,4 +1,4 @@
-"""What the program shell must answer, by 01 alone: a second opinion on the library.
+"""What the program shell must answer, by 01 and by 02's requests alone: a second opinion on the library.
 
 The rules are in rules/, the orders of docs/ORDERS.md in orders/.
 
@@ -7,7 +7,7 @@ The rules are in rules/, the orders of docs/ORDERS.md in orders/.
 """
 import sys
 
-from orders import node, wire, writers
+from orders import define, node, wire, writers
 from orders.compact import summed
 from orders.mirrors import MirrorOrders, record_text
 from orders.words import OutOfForm, demand, hex_of
@@ -28,8 +28,8 @@ class Orders:
 
     def __init__(self):
         self.held = b""
-        # Orders to the mirror and to the bytes held: they have no sum.
-        self.changing = {**MirrorOrders().table(), b"more": ((1,), self.more)}
+        # Orders that have no sum: those to the mirror and to the bytes held, and those of 02.
+        self.unsummed = {**MirrorOrders().table(), **define.TABLE, b"more": ((1,), self.more)}
 
     def more(self, word):
         data = self.held + hex_of(word)
@@ -62,8 +62,8 @@ class Orders:
     def order(self, name, words):
         if name == b"sum" and words:
             return summed(self.summed_order(words[0], words[1:]))
-        if name in self.changing:
-            return self.order_in(self.changing, name, words)
+        if name in self.unsummed:
+            return self.order_in(self.unsummed, name, words)
         return self.summed_order(name, words)
 
     def answer(self, line):

@@ -1,7 +1,7 @@
 """Orders to one mirror and its table memory."""
+from orders.answers import or_refused, output_text, refused
 from orders.words import UINT32, count, demand, hex_of, hex_width, int32, pairs
 from rules.mirror import WIDTH, Mirror
-from rules.refusal import Refusal
 
 MOST_PLACES = 1026
 MEMORY = MOST_PLACES * WIDTH
@@ -15,25 +15,6 @@ def record_text(record):
     """A record as the program mirror lists it."""
     node, (kind, content) = record
     return "%d,%s,%s" % (node, kind, content if kind == "i" else content.hex())
-
-
-def refused(number):
-    return "refused %d" % number
-
-
-def sent(call):
-    """The bytes sent, or the refusal; no byte past them is written."""
-    try:
-        return "sent %s clean" % pairs(call())
-    except Refusal as r:
-        return refused(r.number) + " clean"
-
-
-def or_refused(call):
-    try:
-        return call()
-    except Refusal as r:
-        return refused(r.number)
 
 
 class MirrorOrders:
@@ -71,7 +52,7 @@ class MirrorOrders:
 
     def set(self, node, value, room):
         node, room = int32(node), count(room, SET_ROOM)
-        return sent(lambda: self.mirror.set(node, value, room))
+        return output_text("sent", lambda: self.mirror.set(node, value, room))
 
     def set_int(self, node, word, room):
         return self.set(node, ("i", int32(word)), room)
@@ -84,7 +65,7 @@ class MirrorOrders:
 
     def recall(self, room):
         room = count(room, RECALL_ROOM)
-        return sent(lambda: self.mirror.recall(room))
+        return output_text("sent", lambda: self.mirror.recall(room))
 
     def dump(self):
         """The places alone do not make it refused."""

@@ -1,7 +1,8 @@
 """Bytes held over some lines, and the orders that take them."""
 from orders.words import pairs
 from randoms.odd import ODD
-from randoms.single import LINE_BYTES, Single
+from randoms.single import Single
+from randoms.source import LINE_BYTES
 from rules.numbers import unsigned_bytes
 
 # Orders out of form: they leave the bytes as they are.

@@ -1,7 +1,9 @@
-"""Orders that stand alone: streams, definitions, commands, packets, getters, UTF-8, states."""
+"""Orders that stand alone: streams, definitions read and written, commands, packets, getters, UTF-8, states."""
 from orders.states import MOST
 from orders.words import UINT32, pairs
 from orders.writers import KEEP_ALIVE_ROOM
+from randoms.define import Definitions
+from randoms.source import LINE_BYTES
 from rules.command import data_request, definition_request, format_id, keep_alives, meter_request, set_bytes
 from rules.definition import Definition, refusal_of
 from rules.refusal import Refusal
@@ -13,7 +15,6 @@ EDGES = (0x7F, 0x80, 0x8F, 0x90, 0x9F, 0xA0, 0xBF, 0xC0, 0xC1, 0xC2, 0xDF, 0xE0,
 SOUND = (0, 5, 6, 7, 10, 11, 16, 18, 22, 23)        # the numbers of the sound states
 # Lists of sizes out of form.
 ODD_LISTS = ("0", "-", "+", "x", ",", "1,", ",1", "1,,2", "1,0,2", "-1", "65536", "1,65536", "00000000001", "1;2", ",".join(["1"] * 65))
-LINE_BYTES = 8100       # the most bytes whose pairs fit a line with any order's other words
 
 
 class Single:
@@ -60,6 +61,12 @@ class Single:
 
     def definition(self):
         return "definition " + pairs(self.s.definition())
+
+    def define(self):
+        return Definitions(self.s).define()
+
+    def again(self):
+        return Definitions(self.s).again()
 
     def utf8(self):
         """A string, or bytes at the edges of the grammar's rows."""
@@ -190,7 +197,8 @@ class Single:
 
     def kinds(self):
         """Some kinds stand more than once, so that they come more often."""
-        return ((self.stream, self.definition) * 6 + (self.pieces, self.set_int, self.set_string, self.ask_meters, self.step) * 3
+        return ((self.stream, self.definition, self.define) * 6 + (self.again,) * 5
+                + (self.pieces, self.set_int, self.set_string, self.ask_meters, self.step) * 3
                 + (self.piece_list, self.utf8, self.set_float, self.packet, self.item, self.walk, self.units, self.lent,
                    self.state, self.summed, self.getters, self.ask_meters_fill) * 2
                 + (self.format, self.ask, self.keep_alive, self.get_string, self.cuts, self.splits, self.more, self.taking))

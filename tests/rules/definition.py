@@ -1,4 +1,4 @@
-"""01, 'Definitions': the fields of a body, and its items."""
+"""01, 'Definitions': the fields of a body that is read, and its items."""
 from rules.numbers import signed, unsigned
 from rules.refusal import Refusal, refuse_if
 from rules.utf8 import is_utf8
@@ -58,11 +58,13 @@ class Definition:
         self.unit = seven_at_most(flags % 16)
         self.read_only = flags // 512 % 2
         self.details = details(f, self.kind)
-        self.count, self.first = 0, 0
+        self.count, self.first, self.items = 0, 0, b""
         if has_items(self.kind):
             self.count, self.first = f.unsigned(2), f.at
             for _ in range(self.count):
                 f.item(self.kind)
+            self.items = body[self.first:f.at]
+        self.end = f.at
 
 
 def details(f, kind):

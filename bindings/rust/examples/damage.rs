@@ -1,11 +1,11 @@
 //! Damaged buffers through the crate and through its raw parts: `damage N SEED`.
 //!
-//! States, tables, streams, definitions, packets, saved mirrors and orders, with bytes changed, left out or put in, each in a heap
-//! allocation of exactly its size, so that valgrind sees an access past the end. Every answer must be a value or a refusal that its
+//! States, tables, streams, definitions to be read and written, packets, saved mirrors and orders, with bytes changed, left out or put
+//! in, each in a heap allocation of exactly its size, so that valgrind sees an access past the end. Every answer must be a value or a refusal that its
 //! call may give, and a refused call must have changed nothing. Ends with the totals; status 1 at the first fault.
 use std::process::exit;
 use whistleloam::raw;
-use whistleloam::{Decoder, Definition, Mirror, Refusal, Value, BODY_LIMIT, PLACE_WIDTH};
+use whistleloam::{Decoder, Definition, Details, Mirror, Refusal, Value, BODY_LIMIT, PLACE_WIDTH};
 
 struct Dice(u64);
 
@@ -54,7 +54,7 @@ impl Dice {
 #[derive(Default)]
 struct Totals {
     values: u64,
-    refused: [u64; 15],
+    refused: [u64; 17],
 }
 
 impl Totals {
@@ -270,6 +270,56 @@ impl Pool {
         self.totals.note("item", raw::item(&body, number).status, &[4, 5, 14]);
     }
 
+    /// Numbers that go together, or one of them changed.
+    fn fields(&mut self, good: &Definition) -> raw::WingFields {
+        let bits = self.dice.below(1 << 31) as u32;
+        let count = match good.details() {
+            Details::Items(count) => count,
+            _ => 0,
+        };
+        let mut fields = raw::WingFields {
+            parent_id: bits as i32,
+            id: -(bits as i32),
+            index: bits as u16,
+            node_type: good.node_type() as u8,
+            unit: good.unit() as u8,
+            read_only: self.dice.one_in(2),
+            count,
+            max_len: bits as u16,
+            min: bits,
+            max: !bits,
+            steps: bits as i32,
+        };
+        match self.dice.below(12) {
+            0 => fields.node_type = self.dice.below(12) as u8,
+            1 => fields.unit = self.dice.below(256) as u8,
+            2 => fields.count = self.dice.below(65536) as u16,
+            _ => {}
+        }
+        fields
+    }
+
+    /// Written of damaged names and items; what is written is read back, and is the same anew.
+    fn written(&mut self) {
+        let Ok(good) = Definition::from_bytes(&self.bodies[self.dice.below(8)]) else { fault("bodies", "refused") };
+        let fields = self.fields(&good);
+        let longer = if self.dice.one_in(8) { 250 } else { 0 };
+        let name = vec![b'n'; longer + self.dice.below(8)].into_boxed_slice();
+        let (long_name, items) = (self.dice.bytes(8).into_boxed_slice(), self.dice.damage(good.item_bytes(), true));
+        let mut out = vec![0xaa; self.dice.below(400)].into_boxed_slice();
+        let got = raw::write_definition(fields, &name, &long_name, &items, &mut out);
+        let refused = self.totals.note("write_definition", got.status, &[15, 16, 5, 2, 9]);
+        must("write_definition", out[got.len..].iter().all(|b| *b == 0xaa) && (got.len == 0) == refused);
+        let mut again = vec![0xaa; out.len()].into_boxed_slice();
+        let anew = raw::write_anew(&out[..got.len], &mut again);
+        if !self.totals.note("write_anew", anew.status, if refused { &[4] } else { &[] }) {
+            must("write_anew", again == out && anew.len == got.len);
+        }
+        let body = self.dice.damage(good.body(), true);
+        let anew = raw::write_anew(&body, &mut again);
+        self.totals.note("write_anew", anew.status, &[4, 5, 9]);
+    }
+
     fn packet(&mut self) {
         let len = if self.dice.one_in(50) { 8185 + self.dice.below(12) } else { self.dice.below(70) };
         let packet = vec![self.dice.byte(); len].into_boxed_slice();
@@ -316,13 +366,14 @@ impl Pool {
     }
 
     fn one(&mut self) {
-        match self.dice.below(7) {
+        match self.dice.below(8) {
             0 => self.state(),
             1 => self.table(),
             2 => self.stream(),
             3 => self.definition(),
-            4 => self.packet(),
-            5 => self.saved(),
+            4 => self.written(),
+            5 => self.packet(),
+            6 => self.saved(),
             _ => self.orders(),
         }
     }
@@ -336,7 +387,7 @@ fn main() {
         pool.one();
     }
     let totals = pool.totals;
-    let each: String = (1..15).map(|n| format!(", {} refused with {n}", totals.refused[n])).collect();
+    let each: String = (1..17).map(|n| format!(", {} refused with {n}", totals.refused[n])).collect();
     println!("{number} damaged buffers: {} answers{each}", totals.values);
     if number >= 20_000 && totals.refused[1..].contains(&0) {
         fault("damage", "a refusal that never came: the buffers are not damaged enough");

@@ -1,10 +1,11 @@
-//! `feeds N`: a mirror is fed samples/capture.bin N times, and as often set and recalled into buffers made before.
+//! `feeds N`: a mirror is fed samples/capture.bin N times, and as often set and recalled into buffers made before, and a definition is
+//! written.
 //!
 //! These calls allocate nothing, so that under valgrind the number of allocations is the same for every N: `bindings/test`
 //! compares two.
 use std::error::Error;
 use std::path::Path;
-use whistleloam::{Mirror, Value, SET_MAX};
+use whistleloam::{Details, Fields, Mirror, NodeType, NodeUnit, Value, SET_MAX};
 
 const PLACES: usize = 128;
 
@@ -13,6 +14,15 @@ fn main() -> Result<(), Box<dyn Error>> {
     let capture = std::fs::read(Path::new(env!("CARGO_MANIFEST_DIR")).join("../../samples/capture.bin"))?;
     let values = [(1000, Value::from("Sprecherin")), (2000, Value::float(-6.5)), (3000, Value::Int(1))];
     let (mut order, mut recall) = ([0; SET_MAX], vec![0; 2 + SET_MAX * PLACES]);
+    let fields = Fields {
+        parent_id: 1000,
+        id: 3000,
+        index: 1,
+        node_type: NodeType::StringEnum,
+        unit: NodeUnit::None,
+        read_only: false,
+        details: Details::Items(2),
+    };
     let mut mirror = Mirror::new(PLACES)?;
     let (mut stored, mut sent) = (0, 0);
     for _ in 0..rounds {
@@ -24,6 +34,7 @@ fn main() -> Result<(), Box<dyn Error>> {
             sent += mirror.set_into(*id, value, &mut order)?;
         }
         sent += mirror.recall_into(&mut recall)?;
+        sent += fields.write_into("mute", "Mute", b"\x03off\x00\x02on\x00", &mut order)?;
     }
     println!("{rounds} rounds: {stored} values stored, {sent} bytes to send, {} records", mirror.len());
     if stored == 0 || sent == 0 {

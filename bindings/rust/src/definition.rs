@@ -286,6 +286,16 @@ impl Definition {
         item_of(&self.body, raw::item(&self.body, number))?.ok_or(Refusal::NUMBER)
     }
 
+    /// The items as they stand in the body, from the first to the end of the last; none for a type that has none.
+    pub fn item_bytes(&self) -> &[u8] {
+        let mut walk = raw::items_begin(&self.body);
+        let first = walk.at;
+        for _ in 0..walk.left {
+            walk = raw::item_step(&self.body, walk.at, walk.left, walk.node_type).walk;
+        }
+        self.body.get(first..walk.at).unwrap_or_default()
+    }
+
     /// The body as the console sent it: libwing's `raw`.
     pub fn body(&self) -> &[u8] {
         &self.body

@@ -9,7 +9,7 @@
 //! borrows say that the memory is there, that it is initialised, and that what is written is borrowed by nobody else.
 #![allow(unsafe_code)]
 
-/// A command.
+/// A command, or a definition that was written.
 #[repr(C)]
 #[derive(Clone, Copy, Debug, PartialEq, Eq)]
 pub struct WingWritten {
@@ -207,6 +207,35 @@ pub struct WingStep {
     pub walk: WingWalk,
 }
 
+/// A definition to be written: fields of [`WingDefinition`]. What its type has not is ignored, but for the count and the
+/// item bytes (16).
+#[repr(C)]
+#[derive(Clone, Copy, Debug, PartialEq, Eq)]
+pub struct WingFields {
+    /// The node above.
+    pub parent_id: i32,
+    /// The node.
+    pub id: i32,
+    /// Its number below the parent.
+    pub index: u16,
+    /// 0 to 7, as in [`NodeType`](crate::NodeType).
+    pub node_type: u8,
+    /// 0 to 7, as in [`NodeUnit`](crate::NodeUnit).
+    pub unit: u8,
+    /// Bit 9 of the flags.
+    pub read_only: bool,
+    /// How many items, of the two enum types; 0 for the others.
+    pub count: u16,
+    /// The longest string, of type string.
+    pub max_len: u16,
+    /// The least value: 32 bits of a float (types 1, 2) or of an integer (4).
+    pub min: u32,
+    /// The greatest value, likewise.
+    pub max: u32,
+    /// The number of steps (types 1, 2).
+    pub steps: i32,
+}
+
 /// The declarations as the archive has them; `bindings/check` holds them against its sources.
 mod library {
     use super::*;
@@ -275,6 +304,18 @@ mod library {
         pub fn wing_items_begin(body: *const u8, body_len: usize) -> WingWalk;
         pub fn wing_item_step(body: *const u8, body_len: usize, at: usize, left: u16, node_type: u8) -> WingStep;
         pub fn wing_item(body: *const u8, body_len: usize, number: usize) -> WingItem;
+        pub fn wing_write_definition(
+            fields: WingFields,
+            name: *const u8,
+            name_len: usize,
+            long_name: *const u8,
+            long_name_len: usize,
+            items: *const u8,
+            items_len: usize,
+            out: *mut u8,
+            out_len: usize,
+        ) -> WingWritten;
+        pub fn wing_write_anew(body: *const u8, body_len: usize, out: *mut u8, out_len: usize) -> WingWritten;
         pub fn wing_order_int(out: *mut u8, out_len: usize, id: i32, value: i32) -> WingWritten;
         pub fn wing_order_float(out: *mut u8, out_len: usize, id: i32, bits: u32) -> WingWritten;
         pub fn wing_order_string(
@@ -481,6 +522,47 @@ pub fn item(body: &[u8], number: usize) -> WingItem {
     // SAFETY: `body` is borrowed and only read. The call stays within the lengths and keeps no
     // address.
     unsafe { library::wing_item(body.as_ptr(), body.len(), number) }
+}
+
+/// Writes a definition's body (at most 4,096 bytes), the unused bits of its flags 0. Lent to be read: name and
+/// long_name (at most 255 bytes each), and items as they stand in a body: each has two strings (type 5), or the
+/// four bytes of a float and a string (6), and a string is its length in one byte and its bytes. All strings are
+/// in UTF-8. Lent to be written: out.
+///
+/// Refused: 15, 16, 5, 2, 9.
+pub fn write_definition(
+    fields: WingFields,
+    name: &[u8],
+    long_name: &[u8],
+    items: &[u8],
+    out: &mut [u8],
+) -> WingWritten {
+    // SAFETY: `out` is borrowed for this call alone; `name`, `long_name` and `items` are borrowed and
+    // only read. The call stays within the lengths and keeps no address.
+    unsafe {
+        library::wing_write_definition(
+            fields,
+            name.as_ptr(),
+            name.len(),
+            long_name.as_ptr(),
+            long_name.len(),
+            items.as_ptr(),
+            items.len(),
+            out.as_mut_ptr(),
+            out.len(),
+        )
+    }
+}
+
+/// Reads a body and writes its definition anew (at most 4,096 bytes). The bytes are the same exactly if type and
+/// unit in the flags are below 8 each, the flags' unused bits are 0 and nothing follows the last field. Lent to be
+/// read: body; to be written: out.
+///
+/// Refused: 4, 5, 2, 9.
+pub fn write_anew(body: &[u8], out: &mut [u8]) -> WingWritten {
+    // SAFETY: `out` is borrowed for this call alone; `body` is borrowed and only read. The call stays
+    // within the lengths and keeps no address.
+    unsafe { library::wing_write_anew(body.as_ptr(), body.len(), out.as_mut_ptr(), out.len()) }
 }
 
 /// A set order alone (at most 18 bytes). Lent to be written: out.

@@ -29,8 +29,9 @@
 //! # }
 //! ```
 //!
-//! To see each event rather than the last values, there is [`Decoder`]; for what a node is, [`Definition`]. Requests,
-//! set orders without a mirror and meters are functions of this module. [`raw`] has the calls over your own buffers.
+//! To see each event rather than the last values, there is [`Decoder`]; for what a node is, [`Definition`], and
+//! [`Fields`] to write one. Requests, set orders without a mirror and meters are functions of this module. [`raw`] has the
+//! calls over your own buffers.
 //!
 //! No call panics, whatever the bytes. A call that cannot be done answers a [`Refusal`] and has changed nothing. A
 //! [`Decoder`]'s refusals 1 to 5 are of another sort: they say what the console sent, which is taken like an event.
@@ -40,6 +41,7 @@
 mod commands;
 mod decoder;
 mod definition;
+mod fields;
 mod mirror;
 #[path = "ffi.rs"]
 pub mod raw;
@@ -52,6 +54,7 @@ pub use commands::{
 };
 pub use decoder::{Decoder, Event, Events};
 pub use definition::{Definition, Details, Item, Items, NodeType, NodeUnit};
+pub use fields::Fields;
 pub use mirror::{Counts, Mirror, Records};
 pub use refusal::Refusal;
 pub use value::Value;
@@ -64,6 +67,8 @@ pub const PLACE_WIDTH: usize = 264;
 pub const PLACES_MAX: usize = 1024;
 /// The most bytes of a definition's body.
 pub const BODY_LIMIT: usize = 4096;
+/// The most bytes of a definition's name, and of its long name.
+pub const NAME_MAX: usize = 255;
 /// The most bytes of one feed.
 pub const FEED_MAX: usize = 65536;
 /// The most bytes of a string.

@@ -10,7 +10,7 @@ pub struct Refusal(u8);
 impl Refusal {
     /// 1: a string that is not UTF-8.
     pub const STRING: Refusal = Refusal(1);
-    /// 2: a definition's count over 4,096.
+    /// 2: a definition's count over 4,096, or a body to be written that is longer.
     pub const BODY_LONG: Refusal = Refusal(2);
     /// 3: a definition's count 0.
     pub const BODY_EMPTY: Refusal = Refusal(3);
@@ -36,6 +36,10 @@ impl Refusal {
     pub const PACKET: Refusal = Refusal(13);
     /// 14: more than 65,536 bytes, or an item or record number that is not below its count.
     pub const NUMBER: Refusal = Refusal(14);
+    /// 15: a definition's name over 255 bytes.
+    pub const NAME_LONG: Refusal = Refusal(15);
+    /// 16: a type or unit over 7, or item bytes that are not the type's items, as many as the count.
+    pub const FIELDS: Refusal = Refusal(16);
 
     /// The number in the rules' table.
     pub fn number(self) -> u8 {
@@ -46,7 +50,7 @@ impl Refusal {
     pub fn words(self) -> &'static str {
         match self.0 {
             1 => "a string is not UTF-8",
-            2 => "a definition's count is over 4,096",
+            2 => "a definition's count or body is over 4,096",
             3 => "a definition's count is 0",
             4 => "a definition's field goes past the end",
             5 => "a definition's string is not UTF-8",
@@ -59,6 +63,8 @@ impl Refusal {
             12 => "the last meter id is 65,535",
             13 => "the packet does not have 4 to 8,192 bytes",
             14 => "over 65,536 bytes, or an item or record number not below its count",
+            15 => "a definition's name is over 255 bytes",
+            16 => "a type or unit over 7, or item bytes that are not the type's items, as many as the count",
             _ => "a number that the rules do not have",
         }
     }

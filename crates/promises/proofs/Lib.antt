@@ -2,6 +2,7 @@ mod Typed
 mod Lines
 mod Reading
 mod Parses
+mod Bodies
 mod NextCalls
 mod Decodes
 mod Writers

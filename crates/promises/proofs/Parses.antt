@@ -33,6 +33,7 @@ module _ (body : List ℕ) where
   parser-call = record {
     refusals = record { past-end = p .pastEnd; not-utf8 = p .notUtf8; numbers = λ n e. listed n [] (p .numbers n e) };
     taken = (λ e. p .taken .0 (record { definition = definitionIn body; says = e }), λ s. p .said (whole-taken s));
+    same = refl;
   }
 
   b : Beginning body
@@ -65,6 +66,7 @@ module _ (body : List ℕ) where
     said = s .said;
     moved = s .moved;
     stays = s .stays;
+    same = refl;
   }
 
   module _ (number : ℕ) where
@@ -107,4 +109,5 @@ module _ (body : List ℕ) where
       over = item-over;
       given = λ s l. i .given (whole-taken s) l;
       said = λ s l. i .said (whole-taken s) l;
+      same = refl;
     }

@@ -32,6 +32,7 @@ use Rattle.wing_mirror.specs.declared.answer.FeedAnswer.{FeedAnswer}
 use Rattle.wing_mirror.specs.declared.answer.Lookup.{Lookup}
 use Rattle.wing_mirror.specs.declared.answer.RecordRead.{RecordRead}
 use Rattle.wing_mirror.specs.declared.answer.Same.{Same}
+use Rattle.promises.specs.Refusals.{stringWrong, noPlace, tableUnsound, stateUnsound, stringLong, numberOver}
 use Rattle.promises.specs.Lines.{Line, _gives_, by, Answers}
 use Rattle.promises.specs.Wire.{Writes, commandLines}
 
@@ -44,28 +45,28 @@ mirror s t = record { decoder = s; table = t }
 -- a feed: the state, the table, too many bytes
 abbrev pub feedLines : Mirror → List ℕ → List Line
 feedLines m bytes =
-    (not (soundState (m .decoder)) gives 8) ∷ (not (usable full (m .table)) gives 7) ∷ (not (leb (length bytes) 65536) gives 14) ∷ []
+    (not (soundState (m .decoder)) gives stateUnsound) ∷ (not (usable full (m .table)) gives tableUnsound) ∷ (not (leb (length bytes) 65536) gives numberOver) ∷ []
 
 -- a set through the mirror: the table, the string's length, its UTF-8, no place, too short an output
 abbrev pub setLines : ℤ → NodeValue → Table → List ℕ → List Line
 setLines id v t out =
-    (not (usable full t) gives 7) ∷ (tooLong v gives 10) ∷ (notText v gives 1) ∷ (not (fits full (entry id v) t) gives 6) ∷ commandLines (setBytes id v) out
+    (not (usable full t) gives tableUnsound) ∷ (tooLong v gives stringLong) ∷ (notText v gives stringWrong) ∷ (not (fits full (entry id v) t) gives noPlace) ∷ commandLines (setBytes id v) out
 
 -- recall: the table, too short an output
 abbrev pub recallLines : Table → List ℕ → List Line
-recallLines t out = (not (usable full t) gives 7) ∷ commandLines (recallBytes full t) out
+recallLines t out = (not (usable full t) gives tableUnsound) ∷ commandLines (recallBytes full t) out
 
 -- a table that is asked: not usable
 abbrev pub tableLines : Table → List Line
-tableLines t = (not (usable full t) gives 7) ∷ []
+tableLines t = (not (usable full t) gives tableUnsound) ∷ []
 
 -- a record by number: a number that is not below the count as well
 abbrev pub recordLines : Table → ℕ → List Line
-recordLines t number = (not (usable full t) gives 7) ∷ (not (ltb number (t .count)) gives 14) ∷ []
+recordLines t number = (not (usable full t) gives tableUnsound) ∷ (not (ltb number (t .count)) gives numberOver) ∷ []
 
 -- two tables
 abbrev pub sameLines : Table → Table → List Line
-sameLines t u = (not (usable full t) gives 7) ∷ (not (usable full u) gives 7) ∷ []
+sameLines t u = (not (usable full t) gives tableUnsound) ∷ (not (usable full u) gives tableUnsound) ∷ []
 
 -- ---- what is promised
 
@@ -79,7 +80,7 @@ pub record FeedCall (m : Mirror) (bytes : List ℕ) (answer : FeedAnswer) (count
 -- a feed whose state's store is lent: that of the state; a store of another size than a state's is 8, and all is as it was
 pub record LentFeedCall (m : Mirror) (bytes : List ℕ) (answer : FeedAnswer) (counts : Counts) (after : Mirror) : Type 0 where
   pub whole : length (m .decoder .store) ≡ bodyLimit → FeedCall m bytes answer counts after
-  pub other : (length (m .decoder .store) ≡ bodyLimit → ⊥) → (feedResult answer counts ≡ refused 8) × (after ≡ m) × (counts ≡ zeroCounts)
+  pub other : (length (m .decoder .store) ≡ bodyLimit → ⊥) → (feedResult answer counts ≡ refused stateUnsound) × (after ≡ m) × (counts ≡ zeroCounts)
 
 -- a set through the mirror
 pub record SetCall (id : ℤ) (v : NodeValue) (t : Table) (out : List ℕ) (answer : Written) (after : Table) (written : List ℕ) : Type 0 where

@@ -8,8 +8,8 @@ use mathlib.Core.List.{List, [], _∷_}
 use lib.ListN.{drop}
 use Rattle.wing_node.specs.Result.{Result, ok, refused}
 use Rattle.wing_node.specs.Types.{hasItems}
-use Rattle.wing_node.specs.Definition.{itemOf}
-use Rattle.wing_node.specs.Items.{walk}
+use Rattle.wing_node.specs.Definition.{itemOf, definitionOf}
+use Rattle.wing_node.specs.Items.{walk, stepAt, itemNumbered}
 use Rattle.wing_node.specs.Standing.{PastEnd, NotUtf8, Stand, StopsAt, extent}
 use Rattle.wing_node.specs.Answers.{none, parsedResult, itemResult}
 use Rattle.wing_node.specs.InBody.{countIn, allFields, definitionIn, walkIn, itemIn, itemInBody}
@@ -19,6 +19,7 @@ use Rattle.wing_node.specs.declared.definition.Item.{Item}
 use Rattle.wing_node.specs.declared.items.Walk.{Walk}
 use Rattle.wing_node.specs.declared.items.Step.{Step}
 use Rattle.wing_mirror.specs.Rows.{In}
+use Rattle.promises.specs.Refusals.{definitionShort, definitionWrong, numberOver}
 
 -- 01: definition field past the end, 4: some number of fields stand whole and good at the front, and the next one is not whole
 abbrev pub Short : List ℕ → Type 0
@@ -34,14 +35,16 @@ AllStand body = Stand (allFields body) body
 
 -- a call that the parser's refusals decide: 4 and 5, exactly then, and no other number but these
 pub record AsParsed {A : Type 0} (body : List ℕ) (others : List ℕ) (came : Result A) : Type 0 where
-  pub past-end : (came ≡ refused 4) ↔ Short body
-  pub not-utf8 : (came ≡ refused 5) ↔ Unreadable body
-  pub numbers : (n : ℕ) → came ≡ refused n → In n (4 ∷ 5 ∷ others)
+  pub past-end : (came ≡ refused definitionShort) ↔ Short body
+  pub not-utf8 : (came ≡ refused definitionWrong) ↔ Unreadable body
+  pub numbers : (n : ℕ) → came ≡ refused n → In n (definitionShort ∷ definitionWrong ∷ others)
 
 -- from_bytes: 4 or 5, or the definition that the fields say, exactly where all stand
 pub record ParserCall (body : List ℕ) (answer : Parsed) : Type 0 where
   pub refusals : AsParsed body [] (parsedResult body answer)
   pub taken : (parsedResult body answer ≡ ok (definitionIn body)) ↔ AllStand body
+  -- it is the parser that BothWays of wing_node's specs/ speaks of
+  pub same : answer ≡ definitionOf body
 
 -- beginning, by the plain call and by the walker: the parser's 4 or 5, or the walk at the first item with their count; types without items
 -- have count 0
@@ -54,22 +57,24 @@ pub record StepCall (body : List ℕ) (w : Walk) (answer : Step) : Type 0 where
   -- 01: none when no items are left or the type has none
   pub nothing : (itemResult body (answer .item) ≡ ok none) ↔ ((w .left ≡ 0) ⊎ (hasItems (w .kind) ≡ false))
   -- else 4 or 5 as the fields of the item there stand
-  pub past-end : (itemResult body (answer .item) ≡ refused 4) ↔ (Left w × StopsAt PastEnd (itemOf (w .kind)) (drop (w .at) body))
-  pub not-utf8 : (itemResult body (answer .item) ≡ refused 5) ↔ (Left w × StopsAt NotUtf8 (itemOf (w .kind)) (drop (w .at) body))
-  pub numbers : (n : ℕ) → itemResult body (answer .item) ≡ refused n → In n (4 ∷ 5 ∷ [])
+  pub past-end : (itemResult body (answer .item) ≡ refused definitionShort) ↔ (Left w × StopsAt PastEnd (itemOf (w .kind)) (drop (w .at) body))
+  pub not-utf8 : (itemResult body (answer .item) ≡ refused definitionWrong) ↔ (Left w × StopsAt NotUtf8 (itemOf (w .kind)) (drop (w .at) body))
+  pub numbers : (n : ℕ) → itemResult body (answer .item) ≡ refused n → In n (definitionShort ∷ definitionWrong ∷ [])
   -- else the item there, and the walk goes past it
   pub given : IsItem (itemResult body (answer .item)) ↔ (Left w × Stand (itemOf (w .kind)) (drop (w .at) body))
   pub said : IsItem (itemResult body (answer .item)) → itemResult body (answer .item) ≡ ok (itemIn (w .kind) (drop (w .at) body))
   pub moved : IsItem (itemResult body (answer .item)) → answer .next ≡ walk (w .at + extent (itemOf (w .kind)) (drop (w .at) body)) (w .left - 1) (w .kind)
   -- a step that gives none, 4 or 5 leaves the walk as it was
   pub stays : (IsItem (itemResult body (answer .item)) → ⊥) → answer .next ≡ w
+  pub same : answer ≡ stepAt body (w .at) (w .left) (w .kind)
 
 -- item_by_number: the body's 4 or 5, then 14 exactly for a number that is not below the count, else what the item of that number holds
 pub record ItemCall (body : List ℕ) (number : ℕ) (answer : Item) : Type 0 where
-  pub refusals : AsParsed body (14 ∷ []) (itemResult body answer)
-  pub over : (itemResult body answer ≡ refused 14) ↔ (AllStand body × (countIn body ≤ number))
+  pub refusals : AsParsed body (numberOver ∷ []) (itemResult body answer)
+  pub over : (itemResult body answer ≡ refused numberOver) ↔ (AllStand body × (countIn body ≤ number))
   pub given : AllStand body → number < countIn body → IsItem (itemResult body answer)
   pub said : AllStand body → number < countIn body → itemResult body answer ≡ ok (itemInBody body number)
+  pub same : answer ≡ itemNumbered body number
 
 -- over a body whose fields all stand, the walk gives the item of each number in its turn, as many as the count, and then none
 abbrev pub Walks : Type 0

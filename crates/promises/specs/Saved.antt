@@ -11,12 +11,13 @@ use Rattle.wing_wire.specs.declared.write.Written.{Written}
 use Rattle.wing_wire.specs.declared.write.Written.the-variants.{Bytes}
 use Rattle.wing_saved.specs.Saved.{stateBytes, Saves, loadedResult}
 use Rattle.wing_saved.specs.declared.LoadAnswer.{LoadAnswer}
+use Rattle.promises.specs.Refusals.{stateUnsound}
 use Rattle.promises.specs.Lines.{Line, _gives_}
 use Rattle.promises.specs.Wire.{commandLines, Writes}
 
 -- a state as bytes: an unsound state, too short an output
 abbrev pub saveLines : State → List ℕ → List Line
-saveLines s out = (not (soundState s) gives 8) ∷ commandLines (stateBytes s) out
+saveLines s out = (not (soundState s) gives stateUnsound) ∷ commandLines (stateBytes s) out
 
 -- a state as bytes: 8, 9; else its bytes, and they are kept as that state's
 pub record SaveCall (s : State) (out : List ℕ) (answer : Written) (after : List ℕ) : Type 0 where

@@ -38,31 +38,32 @@ use Rattle.wing_wire.specs.declared.meter.MetersRead.{MetersRead}
 use Rattle.wing_wire.specs.declared.meter.MetersRead.the-variants.{Readings}
 use Rattle.wing_mirror.specs.Rows.{In}
 use Rattle.wing_mirror.specs.Machine.{StreamEvent, streamEvent}
+use Rattle.promises.specs.Refusals.{stringWrong, bodyLong, bodyEmpty, stateUnsound, outputShort, stringLong, metersOver, meterIdLast, packetSize, numberOver}
 use Rattle.promises.specs.Lines.{Line, _gives_, sends, Answers}
 
 -- ---- 01's lines, call by call, in the order in which they apply
 
 -- console bytes: an unsound state, too many bytes
 abbrev pub nextLines : State → List ℕ → List Line
-nextLines s bytes = (not (soundState s) gives 8) ∷ (not (leb (length bytes) 65536) gives 14) ∷ []
+nextLines s bytes = (not (soundState s) gives stateUnsound) ∷ (not (leb (length bytes) 65536) gives numberOver) ∷ []
 
 -- a command of given bytes: an output too short for the whole
 abbrev pub commandLines : List ℕ → List ℕ → List Line
-commandLines bytes out = (ltb (length out) (length bytes) gives 9) ∷ []
+commandLines bytes out = (ltb (length out) (length bytes) gives outputShort) ∷ []
 
 -- a set order of a string: over 256 bytes, not UTF-8, too short an output
 abbrev pub stringLines : ℤ → List ℕ → List ℕ → List Line
-stringLines id s out = (not (leb (length s) 256) gives 10) ∷ (not (utf8 s) gives 1) ∷ commandLines (setBytes id (string s)) out
+stringLines id s out = (not (leb (length s) 256) gives stringLong) ∷ (not (utf8 s) gives stringWrong) ∷ commandLines (setBytes id (string s)) out
 
 -- a meter request: over 64 meters, no id left, too short an output
 abbrev pub meterLines : ℕ → ℕ → List Meter → ℕ → List ℕ → List Line
 meterLines port last ms count out =
-    (not (leb count 64) gives 11) ∷ (eqb last 65535 gives 12) ∷ commandLines (meterRequest port (last + 1) (take count ms)) out
+    (not (leb count 64) gives metersOver) ∷ (eqb last 65535 gives meterIdLast) ∷ commandLines (meterRequest port (last + 1) (take count ms)) out
 
 -- a meter packet: outside 4 to 8,192 bytes, too few places for its readings
 abbrev pub packetLines : List ℕ → List ℤ → List Line
 packetLines p out =
-    (ltb (length p) 4 gives 13) ∷ (ltb 8192 (length p) gives 13) ∷ (ltb (length out) (length (readings (drop 4 p))) gives 9) ∷ []
+    (ltb (length p) 4 gives packetSize) ∷ (ltb 8192 (length p) gives packetSize) ∷ (ltb (length out) (length (readings (drop 4 p))) gives outputShort) ∷ []
 
 -- ---- what is promised
 
@@ -84,7 +85,7 @@ pub record NextCall (s : State) (bytes : List ℕ) (reply : Reply) : Type 0 wher
   -- demand 1: 8, 14, and then nothing is taken and the state is as it was
   pub sent-back : (n : ℕ) → sends (nextLines s bytes) ≡ refused n → reply ≡ refusedNext n s
   -- else the decoder's own refusals are 1, 2 and 3, each with its token taken; when they come, specs/Tokens of the wire says
-  pub refusals : sends (nextLines s bytes) ≡ ok tt → (n : ℕ) → reply .answer ≡ AnswerRefused n → In n (1 ∷ 2 ∷ 3 ∷ []) × (reply .state .control .token ≡ Between)
+  pub refusals : sends (nextLines s bytes) ≡ ok tt → (n : ℕ) → reply .answer ≡ AnswerRefused n → In n (stringWrong ∷ bodyLong ∷ bodyEmpty ∷ []) × (reply .state .control .token ≡ Between)
   -- what stands beside the answer
   pub beside : Beside reply
   -- 01: it stops after the unit that completes an event or refusal: no fewer bytes would have given it

@@ -4,6 +4,7 @@
 ghost use mathlib.Core.Path.{_≡_};
 ghost use mathlib.Core.List.{map};
 ghost use Rattle.wing_node.specs.Written.{ReadsBack};
+ghost use Rattle.wing_node.specs.BothWays.{BothWays};
 ghost use Rattle.wing_wire.specs.RoundTrip.{RoundTrip, RoundTripPieces};
 ghost use Rattle.wing_wire.specs.Repeated.{UntilMore};
 ghost use Rattle.wing_wire.specs.Tokens.{Tokens};
@@ -58,6 +59,13 @@ pub fn demand_2_in_pieces()
 // the numbers and bytes that they hold, and their items with both parts of each, in order.
 pub fn demand_2_definitions()
     ensures { λ _. ⌜ ReadsBack ⌝ }
+{}
+
+// Demand 2, both ways (02): for all eight types what the writer writes is read as the fields that were given, with the names' bytes and every item; and
+// a body of at most 4,096 bytes that the parser takes, written anew from the parser's answer, has the same bytes exactly when the type and unit bits of its
+// flags are below 8 each, its unused flag bits are 0 and no bytes follow its last field.
+pub fn demand_2_both_ways()
+    ensures { λ _. ⌜ BothWays ⌝ }
 {}
 
 // Demand 3. 01: feed runs next until "more". From a sound state with at most 65,536 bytes next calls, each on what the one before

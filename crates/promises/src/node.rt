@@ -1,10 +1,13 @@
-// The calls on strings, values, definitions and their items, each with what is promised of it as its contract. There is nothing here but the call.
+// The calls on strings, values, definitions and their items, each with what is promised of it as its contract. There is nothing here but the call
+// (and, in to_bytes, a field that is read for the proof alone).
 ghost use mathlib.Core.Path.{_≡_};
 ghost use Rattle.wing_node.specs.Items.{walk};
 ghost use Rattle.wing_node.specs.Utf8.{Octets, Decides};
 ghost use Rattle.wing_node.specs.Value.{nodeValue, intIn, stringIn};
 ghost use Rattle.wing_node.specs.Answers.{begunResult, startResult, stringResult};
+ghost use Rattle.wing_node.specs.Writer.{lent};
 ghost use Rattle.promises.specs.Node.{ParserCall, BeginCall, StepCall, ItemCall};
+ghost use Rattle.promises.specs.Writer.{WriterCall, AnewCall};
 use wing_node::definition::Item;
 use wing_node::definition::Parsed;
 use wing_node::items::Begun;
@@ -14,6 +17,8 @@ use wing_node::node_type::NodeType;
 use wing_node::value::StringRead;
 use wing_node::value::Value;
 use wing_node::walker::Start;
+use wing_node::writer::BodyWritten;
+use wing_node::writer::Fields;
 
 // RFC 3629's grammar, both ways.
 pub fn is_utf8(s: &[u8]) -> bool
@@ -44,6 +49,29 @@ pub fn item_by_number(body: &[u8], number: usize) -> Item
     ensures { λ r. ⌜ ItemCall (now (body .entry)) number r ⌝ }
 {
     wing_node::items::item_by_number(body, number)
+}
+
+// The writer: 15, 16, 5, 2, 9; what is written reads back as what was given.
+pub fn to_bytes(
+    d: Fields,
+    name: &[u8],
+    long_name: &[u8],
+    items: &[u8],
+    out: &mut [u8],
+) -> BodyWritten
+    ensures { λ r. ⌜ WriterCall d (lent (now (name .entry)) (now («long_name» .entry)) (now (items .entry))) (now (out .entry)) r (now (out .exit)) ⌝ }
+{
+    // Where a field is read, the proof is told that all are within their types.
+    let _steps = d.steps;
+    wing_node::writer::to_bytes(d, name, long_name, items, out)
+}
+
+// A body read and written anew: the same bytes exactly when the type and unit bits of its flags are below 8 each, its unused flag bits are 0 and no bytes
+// follow its last field.
+pub fn write_anew(body: &[u8], out: &mut [u8]) -> BodyWritten
+    ensures { λ r. ⌜ AnewCall (now (body .entry)) (now (out .entry)) r (now (out .exit)) ⌝ }
+{
+    wing_node::anew::write_anew(body, out)
 }
 
 // The walker's begin and step, for callers that keep plain numbers.

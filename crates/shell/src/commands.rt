@@ -1,11 +1,15 @@
-// Commands, each written into an output of a given length, and meter packets: what was written, and whether the output
-// is as it was past it.
+// Commands and definitions, each written into an output of a given length, and meter packets: what was written, and
+// whether the output is as it was past it.
 use crate::forms::Asked;
+use crate::forms::Numbers;
 use crate::read;
 use crate::show;
 use crate::show::Log;
 use crate::show::Said;
+use wing_node::anew;
 use wing_node::field;
+use wing_node::writer;
+use wing_node::writer::BodyWritten;
 use wing_wire::meter;
 use wing_wire::meter::Meter;
 use wing_wire::request;
@@ -84,8 +88,9 @@ fn other_meter(letter: u8, named: usize) -> u16 {
 }
 
 fn ask_meters(a: Asked, items: &[u8], out: &mut [u8]) -> meter::Requested {
-    let meters = meters_of(items, other_meter(a.letter, a.fifth));
-    meter::request_meter(out, meters, a.fourth, half(a.second), half(a.third))
+    let n = a.numbers;
+    let meters = meters_of(items, other_meter(a.letter, n[4]));
+    meter::request_meter(out, meters, n[3], half(a.second), half(a.third))
 }
 
 // One call of the writer that the letter names, with the two numbers after the room.
@@ -102,12 +107,46 @@ fn written(letter: u8, a: Asked, bytes: &[u8], out: &mut [u8]) -> Written {
     }
 }
 
+// The limits are handed over as float bits and as integers: the writer takes those that the type has.
+fn fields(n: Numbers) -> writer::Fields {
+    writer::Fields {
+        parent_id: int(n[0]),
+        id: int(n[1]),
+        index: half(n[2]),
+        node_type: (n[3] % 256) as u8,
+        unit: (n[4] % 256) as u8,
+        read_only: n[5] > 0,
+        min_float: word(n[6]),
+        max_float: word(n[7]),
+        min_int: int(n[6]),
+        max_int: int(n[7]),
+        steps: int(n[8]),
+        count: half(n[9]),
+        max_len: half(n[10]),
+    }
+}
+
+fn define(a: Asked, bytes: &[u8], out: &mut [u8]) -> BodyWritten {
+    let n = a.numbers;
+    let name = read::part(bytes, 0, n[11]);
+    let long_name = read::part(bytes, n[11], n[12]);
+    let items = read::part(bytes, n[12], n[13]);
+    writer::to_bytes(fields(n), name, long_name, items, out)
+}
+
 // What a call wrote: the meter id, 0 where there is none, and how many bytes, twice: those told, and where the rest begins.
 // Or the refusal's number.
 pub fn of_written(w: Written, good: u8, bad: u8) -> Said {
     match w {
         Written::Bytes(len) => show::three(good, 0, len, len),
         Written::Refused(why) => show::one(bad, why as usize),
+    }
+}
+
+fn of_body(w: BodyWritten, good: u8, bad: u8) -> Said {
+    match w {
+        BodyWritten::Bytes(len) => show::three(good, 0, len, len),
+        BodyWritten::Refused(why) => show::one(bad, why as usize),
     }
 }
 
@@ -126,26 +165,32 @@ fn of_read(r: meter::MetersRead) -> Said {
 }
 
 fn call(a: Asked, bytes: &[u8], out: &mut [u8]) -> Said {
-    if a.letter == b'm' || a.letter == b'n' {
-        return of_requested(ask_meters(a, bytes, out));
+    let letter = a.letter;
+    match letter {
+        b'm' | b'n' => of_requested(ask_meters(a, bytes, out)),
+        b'D' => of_body(define(a, bytes, out), b'W', b'R'),
+        b'A' => of_body(anew::write_anew(bytes, out), b'O', b'?'),
+        _ => of_written(written(letter, a, bytes, out), b'w', b'q'),
     }
-    of_written(written(a.letter, a, bytes, out), b'w', b'q')
 }
 
-// The first of the numbers is the room.
-fn into(log: &mut Log, a: Asked, bytes: &[u8], out: &mut [u8]) -> usize {
-    let room = read::at_most(a.first, out.len());
+// A body written anew that has the same bytes is answered by a word.
+fn into(log: &mut Log, most: usize, a: Asked, bytes: &[u8], out: &mut [u8]) -> usize {
+    let room = read::at_most(most, out.len());
     let s = call(a, bytes, &mut out[0..room]);
+    if s.letter == b'O' && read::same(read::part(out, 0, s.second), bytes) {
+        return read::lay(log, 0, b"same");
+    }
     show::say(log, 0, s, read::part(out, 0, room))
 }
 
 // A suffix has one byte or none.
-pub fn order(log: &mut Log, a: Asked, bytes: &[u8]) -> usize {
+pub fn order(log: &mut Log, room: usize, a: Asked, bytes: &[u8]) -> usize {
     if a.letter == b't' && 1 < bytes.len() {
         return 0;
     }
     let mut out = [show::MARK; ROOM];
-    into(log, a, bytes, &mut out)
+    into(log, room, a, bytes, &mut out)
 }
 
 // So many readings, and whether the output is as it was past them.

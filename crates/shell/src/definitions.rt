@@ -10,32 +10,6 @@ use wing_node::items;
 use wing_node::node_type;
 use wing_node::walker;
 
-fn type_number(t: node_type::NodeType) -> usize {
-    match t {
-        node_type::NodeType::Node => 0,
-        node_type::NodeType::LinearFloat => 1,
-        node_type::NodeType::LogarithmicFloat => 2,
-        node_type::NodeType::FaderLevel => 3,
-        node_type::NodeType::Integer => 4,
-        node_type::NodeType::StringEnum => 5,
-        node_type::NodeType::FloatEnum => 6,
-        node_type::NodeType::String => 7,
-    }
-}
-
-fn unit_number(u: node_type::NodeUnit) -> usize {
-    match u {
-        node_type::NodeUnit::None => 0,
-        node_type::NodeUnit::Db => 1,
-        node_type::NodeUnit::Percent => 2,
-        node_type::NodeUnit::Milliseconds => 3,
-        node_type::NodeUnit::Hertz => 4,
-        node_type::NodeUnit::Meters => 5,
-        node_type::NodeUnit::Seconds => 6,
-        node_type::NodeUnit::Octaves => 7,
-    }
-}
-
 // A string of the body: its place and its length as one number.
 fn string(s: definition::Span) -> usize {
     s.start % 0x8000_0000 * 0x1_0000_0000 + s.len as usize
@@ -163,8 +137,8 @@ fn last_fields(d: definition::Definition) -> Said {
     let u = d.unit;
     details(
         more,
-        type_number(t),
-        unit_number(u),
+        node_type::type_number(t) as usize,
+        node_type::unit_number(u) as usize,
         show::flag(d.read_only),
     )
 }

@@ -15,11 +15,11 @@ pub type Bytes = [u8; BYTES];
 // The most sizes of a list.
 pub const COUNT: usize = 64;
 
-pub type Sizes = [usize; COUNT];
+pub type Numbers = [usize; COUNT];
 
 // A line that has the form of an order: the part that answers it (0 for a line out of form), the order's letter there, whether
-// the answer's sum is asked, the numbers that its words spell, each in the place of its word, the last of them, and the
-// sizes of a list. Its bytes stand in the buffer lent, from a place up to another.
+// the answer's sum is asked, the first three and the last of the numbers of its words, and all of them, each in the place of
+// its word, or the sizes of a list with their count. Its bytes stand in the buffer lent, from a place up to another.
 pub struct Asked {
     pub part: u8,
     pub letter: u8,
@@ -27,11 +27,9 @@ pub struct Asked {
     pub first: usize,
     pub second: usize,
     pub third: usize,
-    pub fourth: usize,
-    pub fifth: usize,
     pub last: usize,
     pub count: usize,
-    pub sizes: Sizes,
+    pub numbers: Numbers,
     pub from: usize,
     pub to: usize,
 }
@@ -45,11 +43,9 @@ fn unread(held: usize) -> Asked {
         first: 0,
         second: 0,
         third: 0,
-        fourth: 0,
-        fifth: 0,
         last: 0,
         count: 0,
-        sizes: [0; COUNT],
+        numbers: [0; COUNT],
         from: held,
         to: held,
     }
@@ -66,7 +62,7 @@ fn hex_number(word: &[u8], digits: usize) -> usize {
 // A word that spells a number, by its letter in the table of limits or here.
 fn number(word: &[u8], letter: u8) -> usize {
     let limits =
-        b"g2|n27|o255|e263|t512|p1026|k4096|a4200|r16384|w65535|m270864|l851968|d4294967295";
+        b"f1|g2|n27|o255|e263|t512|p1026|k4096|a4200|r16384|w65535|m270864|l851968|d4294967295";
     match letter {
         b'i' => read::signed(word),
         b'x' => hex_number(word, 8),
@@ -84,42 +80,34 @@ fn with_number(mut a: Asked, place: usize, n: usize) -> Asked {
         0 => a.first = n,
         1 => a.second = n,
         2 => a.third = n,
-        3 => a.fourth = n,
-        _ => a.fifth = n,
+        _ => {}
     }
     a.last = n;
+    if place < COUNT {
+        a.numbers[place] = n;
+    } else {
+        a.part = 0;
+    }
     if n == read::NONE {
         a.part = 0;
     }
     a
 }
 
-// A size out of form is 0.
-fn with_size(mut a: Asked, n: usize) -> Asked {
-    let k = a.count;
-    if n == 0 {
-        a.part = 0;
-    }
-    if k < COUNT {
-        a.sizes[k] = n;
-        a.count = k + 1;
-    } else {
-        a.part = 0;
-    }
-    a
-}
-
-// A list of sizes with commas between. One size more than there is room for is out of form.
+// A list of sizes with commas between. One size more than there is room for is out of form, and so is 0.
 fn with_list(mut a: Asked, word: &[u8]) -> Asked {
     let mut at = 0;
-    let mut turns = COUNT + 1;
-    while turns > 0 && at <= word.len() {
+    let mut k = 0;
+    while k <= COUNT && at <= word.len() {
         let end = read::word_end(word, at, b',');
-        let n = read::unsigned(read::part(word, at, end), 10, 0xffff);
-        a = with_size(a, n % read::NONE);
+        a = with_number(a, k, read::unsigned(read::part(word, at, end), 10, 0xffff));
+        if a.last == 0 {
+            a.part = 0;
+        }
         at = read::after(end);
-        turns -= 1;
+        k += 1;
     }
+    a.count = k;
     a
 }
 
@@ -139,20 +127,21 @@ fn product(len: usize, times: usize) -> usize {
     len % 0x1_0000 * (times % 0x1_0000_0000)
 }
 
-// The bytes of a hex word, some times over.
+// The bytes of a hex word, some times over, after those of the words before it.
 fn with_bytes(mut a: Asked, word: &[u8], bytes: &mut Bytes, times: usize) -> Asked {
-    let end = read::pairs(word, bytes, a.from);
-    let len = read::less(end, a.from);
+    let end = read::pairs(word, bytes, a.to);
+    let len = read::less(end, a.to);
     let all = product(len, times);
     if end == read::NONE || MOST < all {
         a.part = 0;
     } else if all > 0 {
-        a.to = repeat(bytes, a.from, end, read::less(all, len));
+        a.to = repeat(bytes, a.to, end, read::less(all, len));
     }
     a
 }
 
-// One word more in its place, by its letter in the table.
+// One word more in its place, by its letter in the table. The number of a hex word is where its bytes end, from the first
+// byte of the order on.
 fn with_word(mut a: Asked, word: &[u8], letter: u8, place: usize, bytes: &mut Bytes) -> Asked {
     if letter == b'+' && read::same(word, b"+") {
         a.to = a.from;
@@ -160,7 +149,11 @@ fn with_word(mut a: Asked, word: &[u8], letter: u8, place: usize, bytes: &mut By
         return a;
     }
     match letter {
-        b'+' | b'h' => with_bytes(a, word, bytes, 1),
+        b'+' => with_bytes(a, word, bytes, 1),
+        b'h' => {
+            a = with_bytes(a, word, bytes, 1);
+            with_number(a, place, read::less(a.to, a.from))
+        }
         b'*' => with_bytes(a, word, bytes, a.last),
         b',' => with_list(a, word),
         _ => with_number(a, place, number(word, letter)),
@@ -216,10 +209,10 @@ fn by_table(line: &[u8], table: &[u8], bytes: &mut Bytes, held: usize) -> Asked 
     a
 }
 
-// A line has its most bytes, and an order to the mirror no sum, which stands before an order. Of an order's two letters the
-// first is the part that answers it, a capital one to the mirror. Of the words h is hex, + hex or the bytes held, * hex as
-// many times over as the number before it says, `,` a list, x, z and y are hex numbers of eight, four and two digits, i is
-// signed, and every other letter a number up to a limit.
+// A line has its most bytes. Of an order's two letters the first is the part that answers it, a capital one where the order
+// has no sum, which stands before an order. Of the words h is hex, + hex or the bytes held, * hex as many times over as the
+// number before it says, `,` a list, x, z and y are hex numbers of eight, four and two digits, i is signed, and every other
+// letter a number up to a limit.
 pub fn order(line: &[u8], bytes: &mut Bytes, held: usize) -> Asked {
     let mut from = 0;
     if read::is_front(b"sum ", line) {
@@ -234,7 +227,7 @@ ssstream:+ sppieces:w+ slpiecelist:,+ suunits:h sestate:nd* scsplits:h snlent:h 
 dddefinition:+ dccuts:h diitem:dh dsstep:wwwh dwwalk:h \
 vuutf8:h vfutf8s:h vsstreams:h vggetters:gh vlgetstring:wh pvpacket:a+ \
 cisetint:rii cfsetfloat:rix cssetstring:rih ctformat:riyh cdaskdefinition:ri caaskdata:ri \
-cmaskmeters:rwwoh cnaskmetersfill:rwwozh ckkeepalive:lww",
+cmaskmeters:rwwoh cnaskmetersfill:rwwozh ckkeepalive:lww DDdefine:iiwoofxxiwwhhhr AAagain:h",
         bytes,
         held,
     );

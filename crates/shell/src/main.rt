@@ -35,21 +35,24 @@ struct Input {
     more: bool,
 }
 
-// An order with no answer but its text, or the text's sum.
+// An order with no answer but its text, or the text's sum. A definition's room is the last of its numbers, or 4,096 for one
+// written anew.
 fn text(part: u8, k: Kept, memory: &[u8], a: Asked, bytes: &[u8], log: &mut Log) -> usize {
     let len = match part {
         b'Q' => mirror::query(a.letter, k, memory, a, log),
         b's' => streams::order(log, a.letter, a, bytes),
         b'd' => definitions::order(log, a.letter, a, bytes),
         b'v' => values::order(log, a.letter, a.first, bytes),
-        b'c' => commands::order(log, a, bytes),
+        b'c' => commands::order(log, a.first, a, bytes),
+        b'D' => commands::order(log, a.last, a, bytes),
+        b'A' => commands::order(log, 4096, a, bytes),
         b'p' => commands::packet(log, a.first, bytes),
         _ => 0,
     };
     show::summed(log, len, a.summed)
 }
 
-// Every order but a feed. Capital letters are orders to the mirror.
+// Every order but a feed.
 fn order(part: u8, k: Kept, memory: &mut Memory, a: Asked, bytes: &[u8], log: &mut Log) -> Kept {
     match part {
         b'M' => mirror::change(k, memory, a, bytes, log),

@@ -24,7 +24,7 @@ struct Pieces {
     second: usize,
     size: usize,
     count: usize,
-    sizes: forms::Sizes,
+    sizes: forms::Numbers,
     start: usize,
 }
 
@@ -218,7 +218,7 @@ pub fn stream(log: &mut Log, text: usize, bytes: &[u8], size: usize) -> usize {
 // In one call, which by 01 has at most 65,536 bytes, in pieces of one size, or by a list.
 fn in_pieces(log: &mut Log, a: Asked, bytes: &[u8]) -> usize {
     let mut c = sized(bytes.len(), false);
-    let sizes = a.sizes;
+    let sizes = a.numbers;
     c.sizes = sizes;
     c.count = a.count;
     if a.letter == b'p' {

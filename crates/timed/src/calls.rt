@@ -1,7 +1,11 @@
 // The libraries' calls as bench/ times them: slices and numbers alone, since no enum crosses the border to Rust.
 use wing_node::definition;
 use wing_node::field::of_i32;
+use wing_node::field::to_i32;
 use wing_node::utf8;
+use wing_node::writer;
+use wing_node::writer::BodyWritten;
+use wing_node::writer::Fields;
 use wing_wire::meter;
 use wing_wire::reader;
 use wing_wire::set;
@@ -108,6 +112,50 @@ pub extern "C" fn port_from_bytes(body: &[u8]) -> u32 {
         definition::Parsed::Good(d) => of_i32(d.id),
         definition::Parsed::Refused(_) => 0,
     }
+}
+
+fn body_length(w: BodyWritten) -> usize {
+    match w {
+        BodyWritten::Bytes(n) => n,
+        BodyWritten::Refused(_) => 0,
+    }
+}
+
+// The length of a definition's body that was written; 0 for one that is refused. Limits are 32 bits, of floats or of integers.
+#[no_mangle]
+pub extern "C" fn port_to_bytes(
+    parent_id: i32,
+    id: i32,
+    index: u16,
+    node_type: u8,
+    unit: u8,
+    read_only: bool,
+    min: u32,
+    max: u32,
+    steps: i32,
+    count: u16,
+    max_len: u16,
+    name: &[u8],
+    long_name: &[u8],
+    items: &[u8],
+    out: &mut [u8],
+) -> usize {
+    let d = Fields {
+        parent_id: parent_id,
+        id: id,
+        index: index,
+        node_type: node_type,
+        unit: unit,
+        read_only: read_only,
+        min_float: min,
+        max_float: max,
+        min_int: to_i32(min),
+        max_int: to_i32(max),
+        steps: steps,
+        count: count,
+        max_len: max_len,
+    };
+    body_length(writer::to_bytes(d, name, long_name, items, out))
 }
 
 fn length(w: Written) -> usize {

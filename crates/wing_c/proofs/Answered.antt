@@ -1,4 +1,4 @@
--- What the parser and the item calls answer is such an answer: a refusal's number is not 0, details are those of the type, and an integer of a
+-- What the parser, the item calls and the writers answer is such an answer: a refusal's number is not 0, details are those of the type, and an integer of a
 -- body has 32 bits.
 use Prim.Native.Nat.{ℕ, zero, suc, _-_, _≤_, _<_, _^_}
 use mathlib.Core.Path.{_≡_, refl}
@@ -8,11 +8,14 @@ use native.Mathlib.Nat.{pow-le-pow-right}
 use lib.Dec.{eqb, leb}
 use lib.ListN.{take, getD, length, length-take}
 use borrow.Author.Tests.{eqb-false}
+use Rattle.wing_node.specs.Bool.{if}
 use Rattle.wing_node.specs.Field.{big}
 use Rattle.wing_node.specs.Cursor.{number, from, fault, valueOf, readAt, reads, start, cursor, after}
 use Rattle.wing_node.specs.Types.{hasItems}
 use Rattle.wing_node.specs.Definition.{FieldName, header, added, named, past, itemsOf, itemFrom, itemAt, kindFrom, detailsFrom, detailsAt, definitionOf}
 use Rattle.wing_node.specs.Items.{beginFrom, beginOf, stepAt, numberedFrom, numberedIn, itemNumbered}
+use Rattle.wing_node.specs.Writer.{Lent, BodyEffect, lentFault, roomFault, bodyGiven, bodyPut, bodyOfFields}
+use Rattle.wing_node.specs.Anew.{anewFrom, anewOf}
 use Rattle.wing_node.proofs.Branches.{branch}
 use Rattle.wing_node.proofs.Numerals.Numbers.{Digits, digits-take, digits-drop, number-below}
 use Rattle.wing_node.proofs.Numerals.Signs.{signed-in}
@@ -27,7 +30,9 @@ use Rattle.wing_node.specs.declared.items.Walk.{Walk}
 use Rattle.wing_node.specs.declared.items.Begun.{Begun}
 use Rattle.wing_node.specs.declared.items.Begun.the-variants.{Good as WalkBegun, Refused as WalkRefused}
 use Rattle.wing_node.specs.declared.items.Step.{Step}
+use Rattle.wing_node.specs.declared.writer.Fields.{Fields}
 use Rattle.wing_wire.specs.Range.{AreBytes, noBytes, byteThen}
+use Rattle.wing_c.specs.Meanings.{OfBody}
 use Rattle.wing_c.specs.DefinitionMeanings.{OfType, OfParsed, OfBegun, OfItem}
 use Rattle.wing_c.specs.DefinitionMeanings.OfType.{node, linear, logarithmic, fader, integers, strings, floats, text}
 
@@ -113,3 +118,18 @@ numbered-of body n (WalkRefused why) h = h
 pub numbered-answer : (body : List ℕ) (n : ℕ) → AreBytes body → OfItem (itemNumbered body n)
 unfolding itemNumbered
 numbered-answer body n b = numbered-of body n (beginOf body) (begun-answer body b)
+
+put-answer : (fault : ℕ) (body out : List ℕ) → OfBody (bodyPut fault body out .answer)
+put-answer fault body out = branch (λ (e : BodyEffect). OfBody (e .answer)) (eqb fault 0) _ _ (λ _. tt) (λ e. not-zero _ (eqb-false _ _ e))
+
+pub write-answer : (d : Fields) (l : Lent) (out : List ℕ) → OfBody (bodyOfFields d l out .answer)
+unfolding bodyOfFields
+write-answer d l out = put-answer (if (eqb (lentFault d l) 0) (roomFault (bodyGiven d l) out) (lentFault d l)) (bodyGiven d l) out
+
+anew-of : (body out : List ℕ) (p : Parsed) → OfParsed p → OfBody (anewFrom body p out .answer)
+anew-of body out (Good d) h = write-answer _ _ out
+anew-of body out (Refused n) h = h
+
+pub anew-answer : (body out : List ℕ) → AreBytes body → OfBody (anewOf body out .answer)
+unfolding anewOf
+anew-answer body out b = anew-of body out (definitionOf body) (parsed-answer body b)

@@ -3,6 +3,8 @@ use Prim.Native.Nat.{ℕ}
 use mathlib.Core.Path.{_≡_, _∙_, ap}
 use mathlib.Core.List.{List}
 use lib.IntN.{ℤ}
+use Rattle.wing_node.specs.Writer.{BodyEffect, bodyEffect}
+use Rattle.wing_node.specs.declared.writer.BodyWritten.{BodyWritten}
 use Rattle.wing_wire.specs.State.{stateOf}
 use Rattle.wing_wire.specs.Write.{WriteEffect, writeEffect}
 use Rattle.wing_wire.specs.Meter.{RequestEffect, requestEffect, PacketEffect, packetEffect}
@@ -12,8 +14,8 @@ use Rattle.wing_wire.specs.declared.meter.MetersRead.{MetersRead}
 use Rattle.wing_mirror.specs.Mirror.{SetEffect, setEffect, FeedEffect, lentEffect}
 use Rattle.wing_mirror.specs.declared.answer.SetReply.{SetReply}
 use Rattle.wing_mirror.specs.declared.answer.LentFeedReply.{LentFeedReply}
-use Rattle.wing_c.specs.Numbers.{writtenNumbers, setNumbers, requestedNumbers, metersNumbers, feedStatus, fedNumbers}
-use Rattle.wing_c.specs.Written.{command, commandOf, mirrorCommand, mirrorCommandOf, request, requestOf, packet, packetFrom}
+use Rattle.wing_c.specs.Numbers.{writtenNumbers, bodyNumbers, setNumbers, requestedNumbers, metersNumbers, feedStatus, fedNumbers}
+use Rattle.wing_c.specs.Written.{command, commandOf, bodyFrom, mirrorCommand, mirrorCommandOf, request, requestOf, packet, packetFrom}
 use Rattle.wing_c.specs.Kept.{keptFeed, stateAfter, feedFrom}
 use Rattle.wing_c.specs.declared.answers.WingWritten.{WingWritten}
 use Rattle.wing_c.specs.declared.answers.WingSet.{WingSet}
@@ -24,6 +26,10 @@ use Rattle.wing_c.specs.declared.answers.WingMeters.{WingMeters}
 -- a command
 pub command-as : {r : WingWritten} (w : Written) {out : List ℕ} {e : WriteEffect} → r ≡ writtenNumbers w → writeEffect w out ≡ e → command r out ≡ commandOf e
 command-as w {out} p q = ap (λ (x : WingWritten). command x out) p ∙ ap commandOf q
+
+-- a definition written
+pub body-as : {r : WingWritten} (w : BodyWritten) {out : List ℕ} {e : BodyEffect} → r ≡ bodyNumbers w → bodyEffect w out ≡ e → command r out ≡ bodyFrom e
+body-as w {out} p q = ap (λ (x : WingWritten). command x out) p ∙ ap bodyFrom q
 
 -- a set through the mirror
 pub set-as : {r : WingSet} (s : SetReply) {out buffer : List ℕ} {e : SetEffect} → r ≡ setNumbers (s .answer) (s .count) → setEffect s out buffer ≡ e →

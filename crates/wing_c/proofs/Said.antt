@@ -8,6 +8,8 @@ use borrow.Author.Tests.{ne-eqb}
 use Rattle.wing_node.specs.Signed.{signed, unsigned}
 use Rattle.wing_node.proofs.Numerals.Signs.{signed-unsigned}
 use Rattle.wing_node.specs.declared.value.Value.the-variants.{Integer, Float, String}
+use Rattle.wing_node.specs.declared.writer.BodyWritten.{BodyWritten}
+use Rattle.wing_node.specs.declared.writer.BodyWritten.the-variants.{Bytes as BodyBytes, Refused as BodyRefused}
 use Rattle.wing_wire.specs.declared.write.Written.{Written}
 use Rattle.wing_wire.specs.declared.write.Written.the-variants.{Bytes, Refused}
 use Rattle.wing_wire.specs.declared.meter.Requested.{Requested}
@@ -25,9 +27,9 @@ use Rattle.wing_mirror.specs.declared.answer.RecordAnswer.{RecordAnswer}
 use Rattle.wing_mirror.specs.declared.answer.RecordAnswer.the-variants.{Record, Refused as RecordRefused}
 use Rattle.wing_mirror.specs.declared.answer.Same.{Same}
 use Rattle.wing_mirror.specs.declared.answer.Same.the-variants.{Yes, No, Refused as SameRefused}
-use Rattle.wing_c.specs.Numbers.{minus, writtenNumbers, setNumbers, feedStatus, fedNumbers, lookupNumbers, sameNumber, recordNumbers, eventNumbers, requestedNumbers, metersNumbers}
-use Rattle.wing_c.specs.Meanings.{writtenIn, setIn, feedAnswerIn, countsIn, lookupIn, sameIn, valueIn, recordIn, kindIn, answerIn, requestedIn, metersIn}
-use Rattle.wing_c.specs.Meanings.{OfWritten, OfFeed, OfLookup, OfSame, OfRecord, OfNext, OfRequested, OfMeters, NextBeside, NumbersSay}
+use Rattle.wing_c.specs.Numbers.{minus, writtenNumbers, bodyNumbers, setNumbers, feedStatus, fedNumbers, lookupNumbers, sameNumber, recordNumbers, eventNumbers, requestedNumbers, metersNumbers}
+use Rattle.wing_c.specs.Meanings.{writtenIn, bodyIn, setIn, feedAnswerIn, countsIn, lookupIn, sameIn, valueIn, recordIn, kindIn, answerIn, requestedIn, metersIn}
+use Rattle.wing_c.specs.Meanings.{OfWritten, OfBody, OfFeed, OfLookup, OfSame, OfRecord, OfNext, OfRequested, OfMeters, NextBeside, NumbersSay}
 
 -- a refusal's status is below 0, and its number without the sign is the refusal's
 pub below : (n : ℕ) → 1 ≤ n → minus n ≡ negsuc (n - 1)
@@ -40,6 +42,11 @@ written : (w : Written) → OfWritten w → writtenIn (writtenNumbers w) ≡ w
 unfolding writtenIn
 written (Bytes n) h = refl
 written (Refused n) h = rw (below n h) (ap Refused (again n h))
+
+pub body : (w : BodyWritten) → OfBody w → bodyIn (bodyNumbers w) ≡ w
+unfolding bodyIn
+body (BodyBytes n) h = refl
+body (BodyRefused n) h = rw (below n h) (ap BodyRefused (again n h))
 
 set : (w : Written) (count : ℕ) → OfWritten w → setIn (setNumbers w count) ≡ w
 unfolding setIn
@@ -118,6 +125,7 @@ pub numbers-say : NumbersSay
 numbers-say =
     record {
       written = written;
+      body = body;
       set = set;
       set-beside = set-beside;
       feed = feed;
@@ -132,6 +140,7 @@ numbers-say =
       meters = meters;
       refused-zero = λ n. record {
         written = refl;
+        body = refl;
         set = λ count. refl;
         lookup = refl;
         read = λ s. (refl, refl, refl, refl);

@@ -1,10 +1,13 @@
 -- Every definition, item and walk is what its numbers mean: type and unit come back by 01's tables, the details by the type.
 use Prim.Native.Nat.{ℕ}
 use mathlib.Core.Path.{_≡_, refl, _∙_, ap}
+use mathlib.Core.List.{List}
 use lib.IntN.{ℤ}
-use Rattle.wing_node.specs.Types.{typeOf, unitOf}
+use Rattle.wing_node.specs.Types.{typeOf, unitOf, typeNumber, unitNumber}
 use Rattle.wing_node.specs.Definition.{definitionOf}
 use Rattle.wing_node.specs.Items.{beginOf, stepAt, itemNumbered}
+use Rattle.wing_node.specs.Writer.{Lent, lentFault, bodyGiven, bodyOfFields}
+use Rattle.wing_node.specs.Anew.{fieldsOf, lentFrom, anewOf}
 use Rattle.wing_node.proofs.Numerals.Signs.{signed-unsigned}
 use Rattle.wing_node.specs.declared.node_type.NodeType.{NodeType}
 use Rattle.wing_node.specs.declared.node_type.NodeType.the-variants.{Node, LinearFloat, LogarithmicFloat, FaderLevel, Integer, StringEnum, FloatEnum, String}
@@ -20,11 +23,11 @@ use Rattle.wing_node.specs.declared.items.Walk.{Walk}
 use Rattle.wing_node.specs.declared.items.Begun.{Begun}
 use Rattle.wing_node.specs.declared.items.Begun.the-variants.{Good as WalkBegun, Refused as WalkRefused}
 use Rattle.wing_node.specs.declared.items.Step.{Step}
-use Rattle.wing_c.specs.Definitions.{typeNumber, unitNumber, takenNumbers, definitionNumbers, walkNumbers, begunNumbers, itemNumbers, stepNumbers}
-use Rattle.wing_c.specs.DefinitionMeanings.{detailsIn, definitionIn, parsedIn, walkIn, begunIn, itemKindIn, itemIn, stepIn, OfType, OfParsed, OfBegun, OfItem, DefinitionsSay}
+use Rattle.wing_c.specs.Definitions.{takenNumbers, definitionNumbers, walkNumbers, begunNumbers, itemNumbers, stepNumbers, fieldsGiven}
+use Rattle.wing_c.specs.DefinitionMeanings.{detailsIn, definitionIn, fieldsRead, parsedIn, walkIn, begunIn, itemKindIn, itemIn, stepIn, OfType, OfParsed, OfBegun, OfItem, DefinitionsSay}
 use Rattle.wing_c.specs.DefinitionMeanings.OfType.{node, linear, logarithmic, fader, integers, strings, floats, text}
-use Rattle.wing_c.proofs.Said.{below, again}
-use Rattle.wing_c.proofs.Answered.{parsed-answer, begun-answer, step-answer, numbered-answer}
+use Rattle.wing_c.proofs.Said.{below, again, body as body-said}
+use Rattle.wing_c.proofs.Answered.{parsed-answer, begun-answer, step-answer, numbered-answer, write-answer, anew-answer}
 
 types : (t : NodeType) → typeOf (typeNumber t) ≡ t
 unfolding typeOf
@@ -85,6 +88,24 @@ step : (s : Step) → OfItem (s .item) → stepIn (stepNumbers s) ≡ s
 unfolding stepIn
 step s h = rw (item (s .item) h, walk (s .next))
 
+-- a type's own fields come back by its details, and the writer looks at no others
+given : (d : Definition) (t : NodeType) (x : Details) (l : Lent) (out : List ℕ) → d .«node_type» ≡ t → d .details ≡ x → OfType t x →
+    bodyOfFields (fieldsGiven (fieldsRead (takenNumbers d))) l out ≡ bodyOfFields (fieldsOf d) l out
+unfolding bodyOfFields bodyGiven lentFault typeOf
+given d t x l out k e node = rw (k, e) refl
+given d t x l out k e linear = rw (k, e) refl
+given d t x l out k e logarithmic = rw (k, e) refl
+given d t x l out k e fader = rw (k, e) refl
+given d t x l out k e (integers {min} {max} a b) = rw (k, e) (rw (signed-unsigned 31 min a, signed-unsigned 31 max b) refl)
+given d t x l out k e strings = rw (k, e) refl
+given d t x l out k e floats = rw (k, e) refl
+given d t x l out k e text = rw (k, e) refl
+
+given-anew : (body out : List ℕ) (d : Definition) → definitionOf body ≡ Good d → OfParsed (definitionOf body) →
+    bodyOfFields (fieldsGiven (fieldsRead (takenNumbers d))) (lentFrom body d) out ≡ anewOf body out
+unfolding anewOf
+given-anew body out d e h = rw e (given d (d .«node_type») (d .details) (lentFrom body d) out refl refl (rw e at h))
+
 -- every definition, item and walk is what its numbers mean
 pub definitions-say : DefinitionsSay
 definitions-say =
@@ -98,6 +119,9 @@ definitions-say =
       begin-call = λ body b. begun (beginOf body) (begun-answer body b);
       step-call = λ body at left t. step (stepAt body at left t) (step-answer body at left t);
       item-call = λ body n b. item (itemNumbered body n) (numbered-answer body n b);
+      write-call = λ d l out. body-said (bodyOfFields d l out .answer) (write-answer d l out);
+      anew-call = λ body out b. body-said (anewOf body out .answer) (anew-answer body out b);
+      given-back = λ body out d b e. given-anew body out d e (parsed-answer body b);
       refused-zero = λ n. record {
         definition = (refl, refl, refl, refl, refl, refl, refl, refl, refl, refl);
         details = (refl, refl, refl, refl, refl, refl);

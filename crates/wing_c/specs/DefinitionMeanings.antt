@@ -10,6 +10,8 @@ use Rattle.wing_node.specs.Signed.{signed, InBits}
 use Rattle.wing_node.specs.Types.{typeOf, unitOf}
 use Rattle.wing_node.specs.Definition.{definitionOf}
 use Rattle.wing_node.specs.Items.{beginOf, stepAt, itemNumbered}
+use Rattle.wing_node.specs.Writer.{Lent, bodyOfFields}
+use Rattle.wing_node.specs.Anew.{lentFrom, anewOf}
 use Rattle.wing_wire.specs.Range.{AreBytes}
 use Rattle.wing_node.specs.declared.node_type.NodeType.{NodeType}
 use Rattle.wing_node.specs.declared.node_type.NodeType.the-variants.{Node, LinearFloat, LogarithmicFloat, FaderLevel, Integer, StringEnum, FloatEnum, String}
@@ -25,12 +27,15 @@ use Rattle.wing_node.specs.declared.items.Walk.{Walk}
 use Rattle.wing_node.specs.declared.items.Begun.{Begun}
 use Rattle.wing_node.specs.declared.items.Begun.the-variants.{Good as WalkBegun, Refused as WalkRefused}
 use Rattle.wing_node.specs.declared.items.Step.{Step}
-use Rattle.wing_c.specs.Definitions.{definitionNumbers, walkNumbers, begunNumbers, itemNumbers, stepNumbers}
-use Rattle.wing_c.specs.Meanings.{byStatus}
+use Rattle.wing_node.specs.declared.writer.Fields.{Fields}
+use Rattle.wing_c.specs.Numbers.{bodyNumbers}
+use Rattle.wing_c.specs.Definitions.{takenNumbers, definitionNumbers, walkNumbers, begunNumbers, itemNumbers, stepNumbers, fieldsGiven}
+use Rattle.wing_c.specs.Meanings.{byStatus, bodyIn}
 use Rattle.wing_c.specs.declared.definitions.WingDefinition.{WingDefinition}
 use Rattle.wing_c.specs.declared.definitions.WingWalk.{WingWalk}
 use Rattle.wing_c.specs.declared.definitions.WingItem.{WingItem}
 use Rattle.wing_c.specs.declared.definitions.WingStep.{WingStep}
+use Rattle.wing_c.specs.declared.writer.WingFields.{WingFields}
 
 -- ---- what the numbers mean
 
@@ -68,6 +73,23 @@ definitionIn r =
 -- the definition in a body, or a refusal
 unfoldable pub parsedIn : WingDefinition → Parsed
 parsedIn r = byStatus (r .status) Refused (λ _. Good (definitionIn r))
+
+-- a definition that was read as one to be written: the fields of the same names
+abbrev pub fieldsRead : WingDefinition → WingFields
+fieldsRead r =
+    record {
+      «parent_id» = r .«parent_id»;
+      id = r .id;
+      index = r .index;
+      «node_type» = r .«node_type»;
+      unit = r .unit;
+      «read_only» = r .«read_only»;
+      count = r .count;
+      «max_len» = r .«max_len»;
+      min = r .min;
+      max = r .max;
+      steps = r .steps;
+    }
 
 -- a walk: the place in the body reached, the items left, the type
 unfoldable pub walkIn : WingWalk → Walk
@@ -163,5 +185,11 @@ pub record DefinitionsSay : Type 0 where
   pub begin-call : (body : List ℕ) → AreBytes body → begunIn (begunNumbers (beginOf body)) ≡ beginOf body
   pub step-call : (body : List ℕ) (at left : ℕ) (t : NodeType) → stepIn (stepNumbers (stepAt body at left t)) ≡ stepAt body at left t
   pub item-call : (body : List ℕ) (n : ℕ) → AreBytes body → itemIn (itemNumbers (itemNumbered body n)) ≡ itemNumbered body n
+  -- and so is what the writers answer, whatever is given and lent
+  pub write-call : (d : Fields) (l : Lent) (out : List ℕ) → let w = bodyOfFields d l out .answer in bodyIn (bodyNumbers w) ≡ w
+  pub anew-call : (body out : List ℕ) → AreBytes body → let w = anewOf body out .answer in bodyIn (bodyNumbers w) ≡ w
+  -- the fields that were read of a body, given with its names and items, are written as the body is anew: a limit's 32 bits serve both ways
+  pub given-back : (body out : List ℕ) (d : Definition) → AreBytes body → definitionOf body ≡ Good d →
+      bodyOfFields (fieldsGiven (fieldsRead (takenNumbers d))) (lentFrom body d) out ≡ anewOf body out
   pub refused-zero : (n : ℕ) → RefusedZero n
   pub other-zero : OtherZero

@@ -2,11 +2,8 @@
 use Prim.Native.Nat.{ℕ}
 use mathlib.Core.Bool.{false}
 use lib.IntN.{ℤ, pos}
-use Rattle.wing_node.specs.Signed.{unsigned}
-use Rattle.wing_node.specs.declared.node_type.NodeType.{NodeType}
-use Rattle.wing_node.specs.declared.node_type.NodeType.the-variants.{Node, LinearFloat, LogarithmicFloat, FaderLevel, Integer, StringEnum, FloatEnum, String}
-use Rattle.wing_node.specs.declared.node_type.NodeUnit.{NodeUnit}
-use Rattle.wing_node.specs.declared.node_type.NodeUnit.the-variants.{None as NoUnit, Db, Percent, Milliseconds, Hertz, Meters, Seconds, Octaves}
+use Rattle.wing_node.specs.Signed.{signed, unsigned}
+use Rattle.wing_node.specs.Types.{typeNumber, unitNumber}
 use Rattle.wing_node.specs.declared.definition.Details.{Details}
 use Rattle.wing_node.specs.declared.definition.Details.the-variants.{None, Floats, Integers, Items, String as MaxLen}
 use Rattle.wing_node.specs.declared.definition.Item.{Item}
@@ -18,34 +15,14 @@ use Rattle.wing_node.specs.declared.items.Walk.{Walk}
 use Rattle.wing_node.specs.declared.items.Begun.{Begun}
 use Rattle.wing_node.specs.declared.items.Begun.the-variants.{Good as WalkBegun, Refused as WalkRefused}
 use Rattle.wing_node.specs.declared.items.Step.{Step}
+use Rattle.wing_node.specs.declared.writer.Fields.{Fields}
 use Rattle.wing_c.specs.Numbers.{minus}
 use Rattle.wing_c.specs.declared.definitions.WingDefinition.{WingDefinition}
 use Rattle.wing_c.specs.declared.definitions.WingWalk.{WingWalk}
 use Rattle.wing_c.specs.declared.definitions.WingItem.{WingItem}
 use Rattle.wing_c.specs.declared.definitions.WingStep.{WingStep}
 use Rattle.wing_c.specs.declared.definitions.DetailFields.{DetailFields}
-
--- 01: types in order 0 to 7
-abbrev pub typeNumber : NodeType → ℕ
-typeNumber Node = 0
-typeNumber LinearFloat = 1
-typeNumber LogarithmicFloat = 2
-typeNumber FaderLevel = 3
-typeNumber Integer = 4
-typeNumber StringEnum = 5
-typeNumber FloatEnum = 6
-typeNumber String = 7
-
--- the units in libwing's order
-abbrev pub unitNumber : NodeUnit → ℕ
-unitNumber NoUnit = 0
-unitNumber Db = 1
-unitNumber Percent = 2
-unitNumber Milliseconds = 3
-unitNumber Hertz = 4
-unitNumber Meters = 5
-unitNumber Seconds = 6
-unitNumber Octaves = 7
+use Rattle.wing_c.specs.declared.writer.WingFields.{WingFields}
 
 -- what types 1, 2 and 4 add
 abbrev pub limitsAs : ℕ → ℕ → ℤ → DetailFields
@@ -142,3 +119,22 @@ itemNumbers (ItemRefused n) = noItem (minus n)
 -- a step: the item, and the walk after it
 abbrev pub stepNumbers : Step → WingStep
 stepNumbers s = record { item = itemNumbers (s .item); walk = walkNumbers (s .next) }
+
+-- the writer's fields: a limit is 32 bits, of a float and of an integer alike, of which the writer takes its type's
+abbrev pub fieldsGiven : WingFields → Fields
+fieldsGiven f =
+    record {
+      «parent_id» = f .«parent_id»;
+      id = f .id;
+      index = f .index;
+      «node_type» = f .«node_type»;
+      unit = f .unit;
+      «read_only» = f .«read_only»;
+      «min_float» = f .min;
+      «max_float» = f .max;
+      «min_int» = signed 31 (f .min);
+      «max_int» = signed 31 (f .max);
+      steps = f .steps;
+      count = f .count;
+      «max_len» = f .«max_len»;
+    }

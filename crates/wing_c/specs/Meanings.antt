@@ -8,6 +8,8 @@ use Rattle.wing_node.specs.Bool.{if}
 use Rattle.wing_node.specs.Signed.{signed, InBits}
 use Rattle.wing_node.specs.declared.value.Value.{Value}
 use Rattle.wing_node.specs.declared.value.Value.the-variants.{Integer, Float, String}
+use Rattle.wing_node.specs.declared.writer.BodyWritten.{BodyWritten}
+use Rattle.wing_node.specs.declared.writer.BodyWritten.the-variants.{Bytes as BodyBytes, Refused as BodyRefused}
 use Rattle.wing_wire.specs.declared.write.Written.{Written}
 use Rattle.wing_wire.specs.declared.write.Written.the-variants.{Bytes, Refused}
 use Rattle.wing_wire.specs.declared.meter.Requested.{Requested}
@@ -25,7 +27,7 @@ use Rattle.wing_mirror.specs.declared.answer.RecordAnswer.{RecordAnswer}
 use Rattle.wing_mirror.specs.declared.answer.RecordAnswer.the-variants.{Record, Refused as RecordRefused}
 use Rattle.wing_mirror.specs.declared.answer.Same.{Same}
 use Rattle.wing_mirror.specs.declared.answer.Same.the-variants.{Yes, No, Refused as SameRefused}
-use Rattle.wing_c.specs.Numbers.{writtenNumbers, setNumbers, feedStatus, fedNumbers, lookupNumbers, sameNumber, recordNumbers, eventNumbers, requestedNumbers, metersNumbers}
+use Rattle.wing_c.specs.Numbers.{writtenNumbers, bodyNumbers, setNumbers, feedStatus, fedNumbers, lookupNumbers, sameNumber, recordNumbers, eventNumbers, requestedNumbers, metersNumbers}
 use Rattle.wing_c.specs.declared.answers.WingWritten.{WingWritten}
 use Rattle.wing_c.specs.declared.answers.WingSet.{WingSet}
 use Rattle.wing_c.specs.declared.answers.WingFed.{WingFed}
@@ -45,6 +47,10 @@ byStatus (pos n) refused taken = taken n
 -- a command: how many bytes stand at the front of the output
 unfoldable pub writtenIn : WingWritten → Written
 writtenIn r = byStatus (r .status) Refused (λ _. Bytes (r .len))
+
+-- a definition written: how many bytes stand at the front of the output
+unfoldable pub bodyIn : WingWritten → BodyWritten
+bodyIn r = byStatus (r .status) BodyRefused (λ _. BodyBytes (r .len))
 
 -- a set: how many bytes of the output to send
 unfoldable pub setIn : WingSet → Written
@@ -107,6 +113,11 @@ metersIn r = byStatus (r .status) ReadRefused (λ _. Readings (r .id) (r .count)
 abbrev pub OfWritten : Written → Type 0
 OfWritten (Bytes n) = Unit {0}
 OfWritten (Refused n) = 1 ≤ n
+
+-- of a definition written
+abbrev pub OfBody : BodyWritten → Type 0
+OfBody (BodyBytes n) = Unit {0}
+OfBody (BodyRefused n) = 1 ≤ n
 
 -- of a feed
 abbrev pub OfFeed : FeedAnswer → Type 0
@@ -171,6 +182,7 @@ pub record NextBeside (a : Answer) (current : ℤ) (used : ℕ) : Type 0 where
 -- where the status is a refusal, all other fields are 0, but for a count, a record's bytes, an event's node and taken
 pub record RefusedZero (n : ℕ) : Type 0 where
   pub written : writtenNumbers (Refused n) .len ≡ 0
+  pub body : bodyNumbers (BodyRefused n) .len ≡ 0
   pub set : (count : ℕ) → setNumbers (Refused n) count .len ≡ 0
   pub lookup : lookupNumbers (LookupRefused n) .number ≡ 0
   pub read : (s : List ℕ) → let r = recordNumbers (RecordRefused n) s in (r .id ≡ pos 0) × (r .value ≡ 0) × (r .len ≡ 0) × (r .kind ≡ 0)
@@ -194,6 +206,7 @@ pub record OtherZero : Type 0 where
 -- every answer is what its numbers mean
 pub record NumbersSay : Type 0 where
   pub written : (w : Written) → OfWritten w → writtenIn (writtenNumbers w) ≡ w
+  pub body : (w : BodyWritten) → OfBody w → bodyIn (bodyNumbers w) ≡ w
   pub set : (w : Written) (count : ℕ) → OfWritten w → setIn (setNumbers w count) ≡ w
   -- whatever a set answers, the records there are stand beside it
   pub set-beside : (w : Written) (count : ℕ) → setNumbers w count .count ≡ count

@@ -7,6 +7,8 @@ use Rattle.wing_node.specs.Bool.{if}
 use Rattle.wing_node.specs.Signed.{unsigned}
 use Rattle.wing_node.specs.declared.value.Value.{Value}
 use Rattle.wing_node.specs.declared.value.Value.the-variants.{Integer, Float, String}
+use Rattle.wing_node.specs.declared.writer.BodyWritten.{BodyWritten}
+use Rattle.wing_node.specs.declared.writer.BodyWritten.the-variants.{Bytes as BodyBytes, Refused as BodyRefused}
 use Rattle.wing_wire.specs.declared.write.Written.{Written}
 use Rattle.wing_wire.specs.declared.write.Written.the-variants.{Bytes, Refused}
 use Rattle.wing_wire.specs.declared.meter.Requested.{Requested}
@@ -41,6 +43,11 @@ minus n = if (eqb n 0) (pos 0) (negsuc (n - 1))
 abbrev pub writtenNumbers : Written → WingWritten
 writtenNumbers (Bytes n) = record { status = pos 0; len = n }
 writtenNumbers (Refused n) = record { status = minus n; len = 0 }
+
+-- a definition written: 0 and the bytes written
+abbrev pub bodyNumbers : BodyWritten → WingWritten
+bodyNumbers (BodyBytes n) = record { status = pos 0; len = n }
+bodyNumbers (BodyRefused n) = record { status = minus n; len = 0 }
 
 -- a set through the mirror: 0 and the bytes written; the records there are, as many as before a refused set
 abbrev pub setNumbers : Written → ℕ → WingSet

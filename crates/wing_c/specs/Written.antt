@@ -2,16 +2,17 @@
 use Prim.Native.Nat.{ℕ}
 use mathlib.Core.List.{List}
 use lib.IntN.{ℤ}
+use Rattle.wing_node.specs.Writer.{BodyEffect}
 use Rattle.wing_wire.specs.Write.{WriteEffect}
 use Rattle.wing_wire.specs.Meter.{RequestEffect, PacketEffect}
 use Rattle.wing_mirror.specs.Mirror.{SetEffect}
-use Rattle.wing_c.specs.Numbers.{writtenNumbers, setNumbers, requestedNumbers, metersNumbers}
+use Rattle.wing_c.specs.Numbers.{writtenNumbers, bodyNumbers, setNumbers, requestedNumbers, metersNumbers}
 use Rattle.wing_c.specs.declared.answers.WingWritten.{WingWritten}
 use Rattle.wing_c.specs.declared.answers.WingSet.{WingSet}
 use Rattle.wing_c.specs.declared.answers.WingRequested.{WingRequested}
 use Rattle.wing_c.specs.declared.answers.WingMeters.{WingMeters}
 
--- a command: its numbers and the output
+-- a command, or a definition written: its numbers and the output
 pub record Command : Type 0 where
   pub numbers : WingWritten
   pub out : List ℕ
@@ -23,6 +24,10 @@ command r out = record { numbers = r; out = out }
 -- of what the library's call leaves
 abbrev pub commandOf : WriteEffect → Command
 commandOf e = command (writtenNumbers (e .answer)) (e .out)
+
+-- of what the writer of definitions leaves
+abbrev pub bodyFrom : BodyEffect → Command
+bodyFrom e = command (bodyNumbers (e .answer)) (e .out)
 
 -- a set through the mirror: its numbers, the output and the table buffer
 pub record MirrorCommand : Type 0 where

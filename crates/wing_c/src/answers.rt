@@ -1,7 +1,7 @@
 // What crosses the border: an enum cannot, so each answer of the libraries is a struct of numbers here.
 ghost use mathlib.Core.Path.{_≡_};
 ghost use Rattle.wing_mirror.specs.Counts.{zeroCounts};
-ghost use Rattle.wing_c.specs.Numbers.{minus as minusOf, writtenNumbers, setNumbers, feedStatus, fedNumbers, lookupNumbers, sameNumber};
+ghost use Rattle.wing_c.specs.Numbers.{minus as minusOf, writtenNumbers, bodyNumbers, setNumbers, feedStatus, fedNumbers, lookupNumbers, sameNumber};
 ghost use Rattle.wing_c.specs.Numbers.{heldNumbers, recordNumbers, eventAs, noEvent, eventNumbers, requestedNumbers, metersNumbers};
 use wing_mirror::answer::FeedAnswer;
 use wing_mirror::answer::LentFeedReply;
@@ -11,12 +11,13 @@ use wing_mirror::answer::RecordRead;
 use wing_mirror::answer::Same;
 use wing_node::field::of_i32;
 use wing_node::value::Value;
+use wing_node::writer::BodyWritten;
 use wing_wire::meter::MetersRead;
 use wing_wire::meter::Requested;
 use wing_wire::unit::Answer;
 use wing_wire::write::Written;
 
-// A command: 0 and the bytes written.
+// A command or a definition: 0 and the bytes written.
 #[repr(C)]
 pub struct WingWritten {
     pub status: i32,
@@ -106,6 +107,18 @@ pub(crate) fn written(w: Written) -> WingWritten
     match w {
         Written::Bytes(n) => WingWritten { status: 0, len: n },
         Written::Refused(why) => WingWritten {
+            status: minus(why),
+            len: 0,
+        },
+    }
+}
+
+pub(crate) fn body(w: BodyWritten) -> WingWritten
+    ensures { λ r. ⌜ r ≡ bodyNumbers w ⌝ }
+{
+    match w {
+        BodyWritten::Bytes(n) => WingWritten { status: 0, len: n },
+        BodyWritten::Refused(why) => WingWritten {
             status: minus(why),
             len: 0,
         },

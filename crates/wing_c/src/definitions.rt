@@ -3,7 +3,7 @@ ghost use mathlib.Core.Path.{_≡_};
 ghost use Rattle.wing_node.specs.Definition.{definitionOf};
 ghost use Rattle.wing_node.specs.Types.{typeOf};
 ghost use Rattle.wing_node.specs.Items.{beginOf, stepAt, itemNumbered};
-ghost use Rattle.wing_c.specs.Definitions.{typeNumber, unitNumber, limitsAs, listedAs, detailNumbers, takenNumbers, refusedNumbers, definitionNumbers};
+ghost use Rattle.wing_c.specs.Definitions.{limitsAs, listedAs, detailNumbers, takenNumbers, refusedNumbers, definitionNumbers};
 ghost use Rattle.wing_c.specs.Definitions.{walkAs, begunNumbers, noItem, itemNumbers, stepNumbers};
 use crate::answers::minus;
 use wing_node::definition;
@@ -14,9 +14,9 @@ use wing_node::definition::Parsed;
 use wing_node::field::of_i32;
 use wing_node::items;
 use wing_node::items::Begun;
-use wing_node::node_type::NodeType;
-use wing_node::node_type::NodeUnit;
+use wing_node::node_type::type_number;
 use wing_node::node_type::type_of;
+use wing_node::node_type::unit_number;
 
 // A definition: 0, its fields and where its names are. What the type has not is 0. Limits are 32 bits, of floats or of integers.
 #[repr(C)]
@@ -76,37 +76,6 @@ struct DetailFields {
     count: u16,
     first: usize,
     max_len: u16,
-}
-
-// 01: types in order 0 to 7.
-fn type_number(t: NodeType) -> u8
-    ensures { λ r. ⌜ r ≡ typeNumber t ⌝ }
-{
-    match t {
-        NodeType::Node => 0,
-        NodeType::LinearFloat => 1,
-        NodeType::LogarithmicFloat => 2,
-        NodeType::FaderLevel => 3,
-        NodeType::Integer => 4,
-        NodeType::StringEnum => 5,
-        NodeType::FloatEnum => 6,
-        NodeType::String => 7,
-    }
-}
-
-fn unit_number(u: NodeUnit) -> u8
-    ensures { λ r. ⌜ r ≡ unitNumber u ⌝ }
-{
-    match u {
-        NodeUnit::None => 0,
-        NodeUnit::Db => 1,
-        NodeUnit::Percent => 2,
-        NodeUnit::Milliseconds => 3,
-        NodeUnit::Hertz => 4,
-        NodeUnit::Meters => 5,
-        NodeUnit::Seconds => 6,
-        NodeUnit::Octaves => 7,
-    }
 }
 
 fn limits(min: u32, max: u32, steps: i32) -> DetailFields

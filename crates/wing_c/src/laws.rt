@@ -8,7 +8,8 @@ pub fn numbers_say_answers()
     ensures { λ _. ⌜ NumbersSay ⌝ }
 {}
 
-// The same of definitions, items and walks, and of what the calls over a body answer, whatever its bytes are.
+// The same of definitions, items and walks, and of what the calls over a body and the writers answer, whatever the bytes are; and the
+// fields of a definition that was read are written as its body is anew.
 pub fn numbers_say_definitions()
     ensures { λ _. ⌜ DefinitionsSay ⌝ }
 {}

@@ -1,4 +1,4 @@
-// The libraries for C and Rust to call: slices and numbers in, a struct of numbers out. A refusal is its number with a minus sign.
+// The libraries for C and Rust to call: slices and numbers in, a definition's as a struct; a struct of numbers out. A refusal is its number with a minus sign.
 // A mirror is the bytes of a decoder state, a table buffer and its count, all kept by the caller.
 pub mod answers;
 pub mod commands;
@@ -7,3 +7,4 @@ mod kept;
 pub mod laws;
 pub mod mirror;
 pub mod state;
+pub mod writer;

@@ -6,8 +6,13 @@ pub mod InBody
 pub mod Parsing
 pub mod Steps
 pub mod Walks
-pub mod Round
 pub mod Laid
+pub mod Held
+pub mod Lays
+pub mod Checks
+pub mod Given
+pub mod Parts
+pub mod Back
 pub mod Whole
 pub mod Flags
 pub mod Anew

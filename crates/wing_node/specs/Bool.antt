@@ -10,3 +10,8 @@ if false a b = b
 abbrev pub and : Bool → Bool → Bool
 and true b = b
 and false b = false
+
+-- one test or the other
+abbrev pub or : Bool → Bool → Bool
+or true b = true
+or false b = b

@@ -1,15 +1,17 @@
--- 01's worked case: a node definition of 15 bytes with a one-letter name passes, and 14 bytes give 4.
+-- 01's worked case: a node definition of 15 bytes with a one-letter name passes, and 14 bytes give 4. From its fields these bytes are written (02).
 use Prim.Native.Nat.{ℕ}
 use mathlib.Core.Path.{_≡_, refl}
 use mathlib.Core.Bool.{true}
 use mathlib.Core.List.{List, [], _∷_}
 use lib.ListN.{take}
 use lib.IntN.{pos, negsuc}
-use Rattle.wing_node.specs.Digits.{numberFrom, numberIn}
+use Rattle.wing_node.specs.Digits.{numberFrom, numberIn, digitsIn}
 use Rattle.wing_node.specs.Utf8.{holds, begins, firstThat, charLength, charsFrom, utf8}
 use Rattle.wing_node.specs.Types.{typeOf, unitOf}
 use Rattle.wing_node.specs.Cursor.{size, content, right, fault, valueOf, contentAt, readAt, reads, after}
 use Rattle.wing_node.specs.Definition.{definitionOf, detailsAt, times}
+use Rattle.wing_node.specs.Laid.{laid, laidAll}
+use Rattle.wing_node.specs.Writer.{lent, bodyGiven}
 use Rattle.wing_node.specs.declared.node_type.NodeType.the-variants.{Node}
 use Rattle.wing_node.specs.declared.node_type.NodeUnit.the-variants.{Db}
 use Rattle.wing_node.specs.declared.definition.Details.the-variants.{None}
@@ -32,6 +34,25 @@ pub passes : definitionOf fifteen ≡ Good (record {
 })
 unfolding numberFrom numberIn holds begins firstThat charLength charsFrom utf8 typeOf unitOf size content right fault valueOf contentAt readAt reads after definitionOf detailsAt times
 passes = refl
+
+-- 02: from these fields the same bytes are written
+pub written : bodyGiven (record {
+  «parent_id» = pos 1;
+  id = negsuc 1;
+  index = 7;
+  «node_type» = 0;
+  unit = 1;
+  «read_only» = true;
+  «min_float» = 5;
+  «max_float» = 5;
+  «min_int» = pos 5;
+  «max_int» = pos 5;
+  steps = pos 5;
+  count = 0;
+  «max_len» = 5;
+}) (lent (65 ∷ []) [] []) ≡ fifteen
+unfolding digitsIn typeOf laid laidAll bodyGiven
+written = refl
 
 pub short : definitionOf (take 14 fifteen) ≡ Refused 4
 unfolding numberFrom numberIn holds begins firstThat charLength charsFrom utf8 typeOf unitOf size content right fault valueOf contentAt readAt reads after definitionOf detailsAt times

@@ -1,14 +1,12 @@
--- Fields laid in bytes with what they hold, and what fields that were read held.
+-- Fields laid in bytes with what they hold.
 use Prim.Native.Nat.{ℕ}
 use mathlib.Core.Path.{_≡_}
 use mathlib.Core.Bool.{true}
 use mathlib.Core.List.{List, [], _∷_, _++_}
-use lib.ListN.{length, take, drop}
+use lib.ListN.{length}
 use Rattle.wing_node.specs.Utf8.{utf8}
-use Rattle.wing_node.specs.Field.{big, bytesOf}
-use Rattle.wing_node.specs.Cursor.{Field, number, string, content, from, readAt}
-use Rattle.wing_node.specs.declared.cursor.Cursor.{Cursor}
-use Rattle.wing_node.specs.declared.cursor.FieldRead.{FieldRead}
+use Rattle.wing_node.specs.Field.{big}
+use Rattle.wing_node.specs.Cursor.{Field, number, string}
 
 -- the bytes of a field that holds v
 unfoldable pub laid : Field → List ℕ → List ℕ
@@ -35,19 +33,3 @@ pub data FitsAll : List Field → List (List ℕ) → Type 0 where
 unfoldable pub numberOf : Field → List ℕ → ℕ
 numberOf (number w) v = big v
 numberOf string v = length v
-
--- what fields hold in a body
-unfoldable pub contents : List Field → List ℕ → Cursor → List (List ℕ)
-contents [] body c = []
-contents (f ∷ fs) body c = content f (from body c) ∷ contents fs body (readAt f body c .next)
-
--- what a field that was read held, from what the reading says: a number's bytes, a string's place and length
-abbrev pub contentRead : List ℕ → Field → FieldRead → List ℕ
-contentRead body (number w) r = bytesOf w (r .value)
-contentRead body string r = take (r .value) (drop (r .start) body)
-
--- what fields held, told by what was read of them
-abbrev pub contentsRead : List ℕ → List Field → List FieldRead → List (List ℕ)
-contentsRead body [] rs = []
-contentsRead body (f ∷ fs) [] = []
-contentsRead body (f ∷ fs) (r ∷ rs) = contentRead body f r ∷ contentsRead body fs rs

@@ -18,4 +18,7 @@ pub mod Answers
 pub mod InBody
 pub mod Parsing
 pub mod Written
+pub mod Writer
+pub mod Anew
+pub mod BothWays
 pub mod Cases

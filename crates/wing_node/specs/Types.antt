@@ -34,3 +34,25 @@ hasItems Integer = false
 hasItems StringEnum = true
 hasItems FloatEnum = true
 hasItems String = false
+
+-- 01's number of a type
+abbrev pub typeNumber : NodeType → ℕ
+typeNumber Node = 0
+typeNumber LinearFloat = 1
+typeNumber LogarithmicFloat = 2
+typeNumber FaderLevel = 3
+typeNumber Integer = 4
+typeNumber StringEnum = 5
+typeNumber FloatEnum = 6
+typeNumber String = 7
+
+-- the number of a unit
+abbrev pub unitNumber : NodeUnit → ℕ
+unitNumber None = 0
+unitNumber Db = 1
+unitNumber Percent = 2
+unitNumber Milliseconds = 3
+unitNumber Hertz = 4
+unitNumber Meters = 5
+unitNumber Seconds = 6
+unitNumber Octaves = 7

@@ -46,9 +46,13 @@ kindOf bytes = typeOf (numbersOf bytes Flags / 16 % 16)
 abbrev pub namesOf : (FieldName → List ℕ) → List FieldName
 namesOf bytes = header ++ added (kindOf bytes)
 
--- they, one after the other
+-- the fields of these names, one after the other, each with the bytes that it holds
+abbrev pub laidBy : (FieldName → List ℕ) → List FieldName → List ℕ
+laidBy bytes ks = laidAll (map form ks) (map bytes ks)
+
+-- the fields before the items, laid
 abbrev pub frontOf : (FieldName → List ℕ) → List ℕ
-frontOf bytes = laidAll (map form (namesOf bytes)) (map bytes (namesOf bytes))
+frontOf bytes = laidBy bytes (namesOf bytes)
 
 -- 01: types without items have count 0
 abbrev pub countOf : (FieldName → List ℕ) → ℕ

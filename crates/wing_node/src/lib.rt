@@ -1,4 +1,5 @@
 // The node library: what a node's bytes say.
+pub mod anew;
 pub mod cursor;
 pub mod definition;
 pub mod field;
@@ -7,3 +8,4 @@ pub mod node_type;
 pub mod utf8;
 pub mod value;
 pub mod walker;
+pub mod writer;

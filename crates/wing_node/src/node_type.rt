@@ -1,6 +1,6 @@
 // The eight types and the eight units of a node (libwing's NodeType and NodeUnit).
 ghost use mathlib.Core.Path.{_≡_};
-ghost use Rattle.wing_node.specs.Types.{typeOf, unitOf, hasItems};
+ghost use Rattle.wing_node.specs.Types.{typeOf, unitOf, typeNumber, unitNumber, hasItems};
 
 pub enum NodeType {
     Node,
@@ -55,6 +55,37 @@ pub fn unit_of(n: u16) -> NodeUnit
         6 => NodeUnit::Seconds,
         7 => NodeUnit::Octaves,
         _ => NodeUnit::None,
+    }
+}
+
+// 01: types in order 0 to 7.
+pub fn type_number(t: NodeType) -> u8
+    ensures { λ r. ⌜ r ≡ typeNumber t ⌝ }
+{
+    match t {
+        NodeType::Node => 0,
+        NodeType::LinearFloat => 1,
+        NodeType::LogarithmicFloat => 2,
+        NodeType::FaderLevel => 3,
+        NodeType::Integer => 4,
+        NodeType::StringEnum => 5,
+        NodeType::FloatEnum => 6,
+        NodeType::String => 7,
+    }
+}
+
+pub fn unit_number(u: NodeUnit) -> u8
+    ensures { λ r. ⌜ r ≡ unitNumber u ⌝ }
+{
+    match u {
+        NodeUnit::None => 0,
+        NodeUnit::Db => 1,
+        NodeUnit::Percent => 2,
+        NodeUnit::Milliseconds => 3,
+        NodeUnit::Hertz => 4,
+        NodeUnit::Meters => 5,
+        NodeUnit::Seconds => 6,
+        NodeUnit::Octaves => 7,
     }
 }
 

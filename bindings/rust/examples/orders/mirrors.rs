@@ -6,7 +6,7 @@ use whistleloam::{raw, Counts, Decoder, Mirror, Refusal, Value, PLACE_WIDTH};
 const MEMORY: u64 = 1026 * PLACE_WIDTH as u64;
 const UINT32: u64 = u32::MAX as u64;
 /// What an output holds before a call.
-const BEFORE: u8 = 0xaa;
+pub const BEFORE: u8 = 0xaa;
 
 pub struct Held {
     state: Vec<u8>,
@@ -23,7 +23,7 @@ impl Default for Held {
     }
 }
 
-fn refused(why: Refusal) -> String {
+pub fn refused(why: Refusal) -> String {
     format!("refused {}", why.number())
 }
 
@@ -39,14 +39,18 @@ fn record_text((id, value): (i32, Value)) -> String {
     format!("{id},{}", value_text(&value))
 }
 
-/// The bytes that a call says it wrote, and whether those after them are as they were.
-fn sent(out: &[u8], written: Result<usize, Refusal>) -> String {
+/// The bytes that a call says it wrote, after a word, and whether those after them are as they were.
+pub fn output(word: &str, out: &[u8], written: Result<usize, Refusal>) -> String {
     let len = *written.as_ref().unwrap_or(&0);
     let clean = if out[len..].iter().all(|b| *b == BEFORE) { "clean" } else { "dirt" };
     match written {
-        Ok(len) => format!("sent {} {clean}", pairs(&out[..len])),
+        Ok(len) => format!("{word} {} {clean}", pairs(&out[..len])),
         Err(why) => format!("{} {clean}", refused(why)),
     }
+}
+
+fn sent(out: &[u8], written: Result<usize, Refusal>) -> String {
+    output("sent", out, written)
 }
 
 /// 7 where the parts make no mirror; another status would be a fault.

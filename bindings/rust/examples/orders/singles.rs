@@ -1,4 +1,5 @@
 //! Orders that stand alone: streams, definitions, commands, packets.
+use crate::definitions::{again, define};
 use crate::words::{bits, count, hex, int32, plain};
 use whistleloam::{
     is_utf8, raw, read_meters, request_meter, Decoder, Definition, Details, Event, Item, Meter, Refusal, Value,
@@ -18,6 +19,8 @@ pub fn order(name: &str, w: &[&str]) -> Option<String> {
         ("item", 2) => Some(numbered(&hex(w[1])?, count(w[0], UINT32)?)),
         ("walk", 1) => Some(walk(&hex(w[0])?)),
         ("step", 4) => step_order(w),
+        ("define", 15) => define(w),
+        ("again", 1) => Some(again(&hex(w[0])?)),
         ("utf8", 1) => Some(flag(is_utf8(&hex(w[0])?))),
         ("setint", 3) => {
             let (id, value) = (int32(w[1])?, int32(w[2])?);

@@ -1,9 +1,11 @@
-//! The crate against the rules of 01: its byte examples, every refusal, streams cut anywhere, definitions of all types.
+//! The crate against the rules of 01 and 02's first request: byte examples, every refusal, streams cut anywhere, definitions of all
+//! types, read and written.
 mod commands;
 mod decoder;
 mod definition;
 mod mirror;
 mod refused;
+mod written;
 
 use std::path::Path;
 use whistleloam::{raw, request_meter, Decoder, Meter, NodeType, NodeUnit, Refusal, BODY_LIMIT};
@@ -61,6 +63,7 @@ fn constants_are_those_of_the_header() {
         ("PLACE_WIDTH", whistleloam::PLACE_WIDTH),
         ("PLACES_MAX", whistleloam::PLACES_MAX),
         ("BODY_LIMIT", BODY_LIMIT),
+        ("NAME_MAX", whistleloam::NAME_MAX),
         ("FEED_MAX", whistleloam::FEED_MAX),
         ("STRING_MAX", whistleloam::STRING_MAX),
         ("SET_NUMBER_MAX", whistleloam::SET_NUMBER_MAX),
@@ -124,6 +127,8 @@ fn constants_are_those_of_the_header() {
         refused("REFUSED_METER_ID", Refusal::METER_ID),
         refused("REFUSED_PACKET", Refusal::PACKET),
         refused("REFUSED_NUMBER", Refusal::NUMBER),
+        refused("REFUSED_NAME_LONG", Refusal::NAME_LONG),
+        refused("REFUSED_FIELDS", Refusal::FIELDS),
     ];
     let number = |word: &str| match word.strip_prefix("0x") {
         Some(digits) => usize::from_str_radix(digits, 16).ok(),

@@ -1,8 +1,9 @@
-//! Every number of 01's table 'What is sent back', and that what was lent is as it was.
+//! Every number of 01's table 'What is sent back' and of 02's first request, and that what was lent is as it was.
 use crate::hex;
 use whistleloam::raw;
 use whistleloam::{
-    keep_alive_meters, read_meters, request_meter, Decoder, Definition, Meter, Mirror, Refusal, PLACE_WIDTH, STATE_SIZE,
+    keep_alive_meters, read_meters, request_meter, Decoder, Definition, Details, Fields, Meter, Mirror, Refusal,
+    PLACE_WIDTH, STATE_SIZE,
 };
 
 fn first(bytes: &str) -> Result<(), Refusal> {
@@ -14,7 +15,9 @@ fn each_number_has_its_cause() {
     let mut one = Mirror::new(1).unwrap();
     one.set(1, 1).unwrap();
     let meters = [Meter::Monitor; 65];
-    let causes: [Result<(), Refusal>; 14] = [
+    let node = Definition::from_bytes(&hex("00 00 00 00 00 00 00 02 00 00 01 61 00 00 00")).unwrap().fields();
+    let listed = Fields { details: Details::Items(1), ..node };
+    let causes: [Result<(), Refusal>; 16] = [
         first("80 80"),
         first(&("df de 10 01 ".to_string() + &"00 ".repeat(4097))),
         first("df de 00 00 01 02 03 04"),
@@ -29,6 +32,8 @@ fn each_number_has_its_cause() {
         request_meter(&meters[..64], 1, 65535).map(|_| ()),
         read_meters(&[0; 3]).map(|_| ()),
         one.feed(&[0; 65537]).map(|_| ()),
+        node.to_bytes(&"x".repeat(256), "", &[]).map(|_| ()),
+        listed.to_bytes("x", "", &[]).map(|_| ()),
     ];
     for (number, cause) in (1..).zip(causes) {
         let why = cause.expect_err("taken");

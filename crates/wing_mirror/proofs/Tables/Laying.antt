@@ -1,38 +1,24 @@
 -- Bytes laid at a place, one after the other, and a gap that is filled.
-use Prim.Native.Nat.{ℕ, zero, suc, min, _+_, _-_, _≤_, _<_}
+use Prim.Native.Nat.{ℕ, zero, suc, min, _+_, _-_, _≤_}
 use mathlib.Core.Bool.{Bool, true, false, not}
 use mathlib.Core.Path.{_≡_, refl, sym, ap, _∙_}
 use mathlib.Core.List.{List, [], _∷_, _++_, append-assoc}
 use native.Mathlib.Omega.{arith}
-use native.Mathlib.Nat.{add-zero, zero-min, min-zero, suc-min-suc}
-use native.Mathlib.Numerals.{add-one}
+use native.Mathlib.Nat.{zero-min, min-zero, suc-min-suc}
 use borrow.Author.Tests.{le-leb, leb-true}
 use lib.Dec.{leb}
-use lib.ListN.{length, replicate, set, take, drop, getD, length-append, length-take, length-replicate}
-use lib.Seq.{sets, sets-eq, take-suc, length-take-le, take-append-le, take-take, drop-at}
+use lib.ListN.{length, replicate, set, take, drop, length-append, length-take, length-replicate}
+use lib.Seq.{sets, sets-eq, length-take-le, take-append-le, take-take, drop-at}
 use lib.IntN.{ℤ}
 use Rattle.wing_node.specs.Digits.{digitsIn}
 use Rattle.wing_node.specs.Signed.{unsigned}
 use Rattle.wing_node.specs.Value.{NodeValue, string}
 use Rattle.wing_node.specs.Field.{bytesOf, put, putAt}
-use Rattle.wing_node.proofs.Numerals.Numbers.{length-digitsIn}
-use Rattle.wing_node.proofs.Numerals.Placed.{put-whole}
+use Rattle.wing_node.proofs.Numerals.Placed.{field-sets}
 use Rattle.wing_wire.specs.Reader.{over, filled}
 use Rattle.wing_mirror.specs.Entry.{entry}
 use Rattle.wing_mirror.specs.Call.{tooLong}
 use Rattle.wing_mirror.specs.Record.{kindOf, payloadOf, recordOf, laidFrom}
-
-pub sets-append : (vs ws l : List ℕ) (i : ℕ) → sets (sets l i vs) (i + length vs) ws ≡ sets l i (vs ++ ws)
-sets-append [] ws l i = rw (add-zero i)
-sets-append (v ∷ vs) ws l i =
-    let z : i + suc (length vs) ≡ suc i + length vs = omega arith in
-    rw z (sets-append vs ws (set l i v) (suc i))
-
--- a turn of the loop that lays bytes
-pub lay-more : (out src : List ℕ) (at i : ℕ) → i < length src → set (sets out at (take i src)) (at + i) (getD src i 0) ≡ sets out at (take (i + 1) src)
-lay-more out src at i h =
-    let l : length (take i src) ≡ i = length-take-le i src (omega arith) in
-    rw (add-one i, take-suc src i 0 h) ((rw l at (sets-append (take i src) (getD src i 0 ∷ []) out at)))
 
 -- the gap, filled
 pub gap-laid : (b : List ℕ) (from end w : ℕ) (rec : List ℕ) → from ≤ end → end + w ≤ length b → length rec ≡ w →
@@ -44,15 +30,6 @@ gap-laid b from end w rec h f e =
     let lt : length t ≡ from + w = length-take-le (from + w) b (omega arith) in
     sets-eq rec (t ++ u) from (omega (arith, length-append t u)) ∙
     rw (take-append-le from t u (omega arith), take-take from (from + w) b (omega arith), e, drop-at t u (from + w) lt, append-assoc (take from b) rec u)
-
--- what a writer of a field leaves, where there is room
-put-sets : (bs : List ℕ) (at : ℕ) (s x : List ℕ) (r : Bool) → 0 < length bs → length bs ≤ length s - at → put r x ≡ putAt bs at s → x ≡ sets s at bs
-put-sets bs at s x r some h e = ap (λ p. p .bytes) (e ∙ put-whole bs at s some h)
-
-pub field-sets : (w n at : ℕ) (s x : List ℕ) (r : Bool) → 0 < w → w ≤ length s - at → put r x ≡ putAt (bytesOf w n) at s → x ≡ sets s at (bytesOf w n)
-field-sets w n at s x r some h e =
-    let l : length (bytesOf w n) ≡ w = length-digitsIn 256 w n in
-    put-sets (bytesOf w n) at s x r (omega arith) (omega arith) e
 
 sets-cons : (x : ℕ) (d vs : List ℕ) (i : ℕ) → sets (x ∷ d) (suc i) vs ≡ x ∷ sets d i vs
 sets-cons x d [] i = refl

@@ -18,11 +18,11 @@ use Rattle.wing_node.specs.Laid.{laid, laidAll, Fits, FitsAll, empty, mo
 use Rattle.wing_node.specs.Standing.{Whole, extent, beyond, Stand, empty as emptyStand, more as moreStand}
 use Rattle.wing_node.specs.Answers.{valuesBy, detailsBy}
 use Rattle.wing_node.specs.InBody.{numberNamed, bytesNamed, typeIn, countIn, allFields, firstIn, itemIn}
-use Rattle.wing_node.specs.Parsing.{parserSays, numberSays}
+use Rattle.wing_node.specs.Parsing.{parserSays, numberSays, Takes}
 use Rattle.wing_node.specs.Written.{Pair, inRow, pairValues, numbersOf, kindOf, namesOf, frontOf, countOf, listOf, bodyOf, Fit}
 use Rattle.wing_node.specs.declared.node_type.NodeType.{NodeType}
 use Rattle.wing_node.specs.declared.node_type.NodeType.the-variants.{Node, LinearFloat, LogarithmicFloat, FaderLevel, Integer, StringEnum, FloatEnum, String}
-use Rattle.wing_node.proofs.Bodies.Standing.{stand-join, beyond-parts}
+use Rattle.wing_node.proofs.Bodies.Standing.{stand-join, extent-parts, beyond-parts}
 use Rattle.wing_node.proofs.Bodies.InBody.{has, one-name, number-later}
 use Rattle.wing_node.proofs.Bodies.Parsing.{taken, said}
 use Rattle.wing_node.proofs.Bodies.Walks.{by-number, no-count}
@@ -118,21 +118,23 @@ counted StringEnum h = refl
 counted FloatEnum h = refl
 counted String h = h
 
-module _ (bytes : FieldName → List ℕ) (pairs : List Pair) (rest : List ℕ) (fit : Fit bytes pairs) where
+-- fields that fit, and then bytes at whose front the items stand
+module _ (bytes : FieldName → List ℕ) (tail : List ℕ) (fields : FitsAll (map form (namesOf bytes)) (map bytes (namesOf bytes)))
+    (items : Stand (itemsOf (kindOf bytes) (countOf bytes)) tail) where
   abbrev body : List ℕ
-  body = bodyOf bytes pairs rest
+  body = frontOf bytes ++ tail
 
-  abbrev after-front : List ℕ
-  after-front = listOf bytes pairs ++ rest
-
-  same-kind : typeIn body ≡ kindOf bytes
+  pub same-flags : numberNamed header Flags body ≡ numbersOf bytes Flags
   unfolding numberNamed
-  same-kind = ap (λ n. typeOf (n / 16 % 16)) (number-laid bytes (namesOf bytes) Flags after-front refl (fit .fields))
+  same-flags = number-laid bytes (namesOf bytes) Flags tail refl fields
+
+  pub same-kind : typeIn body ≡ kindOf bytes
+  same-kind = ap (λ n. typeOf (n / 16 % 16)) same-flags
 
   same-number : (k : FieldName) → has (namesOf bytes) k ≡ true → numberNamed (namesOf bytes) k body ≡ numbersOf bytes k
-  same-number k h = number-laid bytes (namesOf bytes) k after-front h (fit .fields)
+  same-number k h = number-laid bytes (namesOf bytes) k tail h fields
 
-  same-count : countIn body ≡ countOf bytes
+  pub same-count : countIn body ≡ countOf bytes
   same-count = ap (λ t. numberNamed (header ++ added t) Count body) same-kind ∙ go (hasItems (kindOf bytes)) refl
     where
       go : (b : Bool) → hasItems (kindOf bytes) ≡ b → numberNamed (namesOf bytes) Count body ≡ if b (numbersOf bytes Count) 0
@@ -142,23 +144,36 @@ module _ (bytes : FieldName → List ℕ) (pairs : List Pair) (rest : List ℕ) 
   all-stand : Stand (allFields body) body
   all-stand =
       rw (same-count, same-kind)
-      (stand-join (map form (namesOf bytes)) (itemsOf (kindOf bytes) (countOf bytes)) body (laid-stand after-front (fit .fields))
-      (rw (laid-beyond after-front (fit .fields)) (laid-stand rest (fit .items))))
+      (stand-join (map form (namesOf bytes)) (itemsOf (kindOf bytes) (countOf bytes)) body (laid-stand tail fields) (rw (laid-beyond tail fields) items))
+
+  pub body-taken : Takes body
+  body-taken = taken body .1 all-stand
 
   same-first : firstIn body ≡ length (frontOf bytes)
-  same-first = ap (λ t. extent (map form (header ++ added t)) body) same-kind ∙ laid-extent after-front (fit .fields)
+  same-first = ap (λ t. extent (map form (header ++ added t)) body) same-kind ∙ laid-extent tail fields
+
+  pub same-extent : extent (allFields body) body ≡ length (frontOf bytes) + extent (itemsOf (kindOf bytes) (countOf bytes)) tail
+  same-extent =
+      let items = itemsOf (kindOf bytes) (countOf bytes) in
+      rw (same-count, same-kind) (extent-parts (map form (namesOf bytes)) items body ∙ (λ j. laid-extent tail fields j + extent items (laid-beyond tail fields j)))
 
   values-alike : (v : FieldName → ℕ) (found : FieldName → List ℕ) (first : ℕ) → ((k : FieldName) → has (namesOf bytes) k ≡ true → v k ≡ numbersOf bytes k) →
       ((k : FieldName) → has (namesOf bytes) k ≡ true → found k ≡ bytes k) → valuesBy v found first ≡ valuesBy (numbersOf bytes) bytes first
   values-alike v found first h g =
       rw (h ParentId refl, h Id refl, h Index refl, h Flags refl, g Name refl, g LongName refl, details-alike (kindOf bytes) v (numbersOf bytes) first h)
 
-  pub definition-back : parserSays body ≡ ok (valuesBy (numbersOf bytes) bytes (length (frontOf bytes)))
-  definition-back =
+  pub fields-back : parserSays body ≡ ok (valuesBy (numbersOf bytes) bytes (length (frontOf bytes)))
+  fields-back =
       said body all-stand ∙ ap ok
       (ap (λ t. valuesBy (λ k. numberNamed (header ++ added t) k body) (λ k. bytesNamed (header ++ added t) k body) (firstIn body)) same-kind ∙
-      values-alike _ _ (firstIn body) same-number (λ k h. bytes-laid bytes (namesOf bytes) k after-front h (fit .fields)) ∙
+      values-alike _ _ (firstIn body) same-number (λ k h. bytes-laid bytes (namesOf bytes) k tail h fields) ∙
       ap (valuesBy (numbersOf bytes) bytes) same-first)
+
+  pub item-back : (n : ℕ) → n < countOf bytes → numberSays body n ≡ ok (itemIn (kindOf bytes) (beyond (itemsOf (kindOf bytes) n) tail))
+  item-back n l =
+      let c : n < countIn body = rw same-count l in
+      let d : drop (firstIn body) body ≡ tail = ap (λ m. drop m body) same-first ∙ drop-append-seam (frontOf bytes) tail in
+      by-number body n .said body-taken c ∙ ap ok (rw (d, same-kind))
 
 -- the pair of a number stands where the items of lower numbers end
 record There (f : Field) (s : List ℕ) (p : Pair) : Type 0 where
@@ -214,10 +229,9 @@ item-laid FloatEnum count n pairs rest l h =
 item-laid String count n pairs rest l h = refl
 
 module _ (bytes : FieldName → List ℕ) (pairs : List Pair) (rest : List ℕ) (fit : Fit bytes pairs) where
+  pub definition-back : parserSays (bodyOf bytes pairs rest) ≡ ok (valuesBy (numbersOf bytes) bytes (length (frontOf bytes)))
+  definition-back = fields-back bytes (listOf bytes pairs ++ rest) (fit .fields) (laid-stand rest (fit .items))
+
   pub items-back : (n : ℕ) → n < countOf bytes → numberSays (bodyOf bytes pairs rest) n ≡ ok (pairValues (kindOf bytes) (getD pairs n ([], [])))
   items-back n l =
-      let body = bodyOf bytes pairs rest in
-      let c : n < countIn body = rw (same-count bytes pairs rest fit) l in
-      let d : drop (firstIn body) body ≡ listOf bytes pairs ++ rest = ap (λ m. drop m body) (same-first bytes pairs rest fit) ∙ drop-append-seam (frontOf bytes) (listOf bytes pairs ++ rest) in
-      by-number body n .said (taken body .1 (all-stand bytes pairs rest fit)) c ∙
-      ap ok (rw (d, same-kind bytes pairs rest fit) (item-laid (kindOf bytes) (countOf bytes) n pairs rest l (fit .items)))
+      item-back bytes (listOf bytes pairs ++ rest) (fit .fields) (laid-stand rest (fit .items)) n l ∙ ap ok (item-laid (kindOf bytes) (countOf bytes) n pairs rest l (fit .items))

@@ -4,10 +4,11 @@ use mathlib.Core.Bool.{Bool, true, false}
 use mathlib.Core.List.{List, [], _∷_, _++_, append-assoc}
 use Prim.Native.Nat.{ℕ, suc, _+_, _-_, _^_, _≤_, _<_}
 use native.Mathlib.Omega.{arith}
+use native.Mathlib.Nat.{add-zero}
 use native.Mathlib.Numerals.{add-one}
 use lib.Dec.{ltb}
 use lib.ListN.{length, take, drop, getD, set, length-append, length-drop, take-append-drop}
-use lib.Seq.{drop-cons, sets, sets-eq, drop-at, drop-drop, length-take-le, take-append-seam}
+use lib.Seq.{take-suc, drop-cons, sets, sets-eq, drop-at, drop-drop, length-take-le, take-append-seam}
 use borrow.Author.Tests.{lt-ltb, le-ltb, ltb-false}
 use Rattle.wing_node.specs.Bytes.{placed}
 use Rattle.wing_node.specs.Field.{big, bytesOf, fieldAt, put, putAt}
@@ -93,3 +94,25 @@ put-field w at s b = go (ltb (length s - at) w) refl
         let read : bytesOf w (fieldAt w s at) ≡ take w (drop at s) =
         ap (bytesOf w) (field-whole w s at room) ∙ digits-number 256 w (take w (drop at s)) (length-take-le w (drop at s) (omega (arith, length-drop at s))) (digits-take 256 w (drop at s) (digits-drop 256 at s b)) in
         rw (wide (fieldAt w s at), e, read, ← drop-drop w at s, take-append-drop w (drop at s), take-append-drop at s)
+
+-- bytes laid, and more where they end
+pub sets-append : (vs ws l : List ℕ) (i : ℕ) → sets (sets l i vs) (i + length vs) ws ≡ sets l i (vs ++ ws)
+sets-append [] ws l i = rw (add-zero i)
+sets-append (v ∷ vs) ws l i =
+    let z : i + suc (length vs) ≡ suc i + length vs = omega arith in
+    rw z (sets-append vs ws (set l i v) (suc i))
+
+-- a turn of a loop that lays bytes
+pub lay-more : (out src : List ℕ) (at i : ℕ) → i < length src → set (sets out at (take i src)) (at + i) (getD src i 0) ≡ sets out at (take (i + 1) src)
+lay-more out src at i h =
+    let l : length (take i src) ≡ i = length-take-le i src (omega arith) in
+    rw (add-one i, take-suc src i 0 h) ((rw l at (sets-append (take i src) (getD src i 0 ∷ []) out at)))
+
+-- what a writer of a field leaves, where there is room
+put-sets : (bs : List ℕ) (at : ℕ) (s x : List ℕ) (r : Bool) → 0 < length bs → length bs ≤ length s - at → put r x ≡ putAt bs at s → x ≡ sets s at bs
+put-sets bs at s x r some h e = ap (λ p. p .bytes) (e ∙ put-whole bs at s some h)
+
+pub field-sets : (w n at : ℕ) (s x : List ℕ) (r : Bool) → 0 < w → w ≤ length s - at → put r x ≡ putAt (bytesOf w n) at s → x ≡ sets s at (bytesOf w n)
+field-sets w n at s x r some h e =
+    let l : length (bytesOf w n) ≡ w = length-digitsIn 256 w n in
+    put-sets (bytesOf w n) at s x r (omega arith) (omega arith) e

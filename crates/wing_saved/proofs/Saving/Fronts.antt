@@ -1,14 +1,14 @@
 -- Bytes that begin with others, and bytes laid into a buffer one part after the other.
 use Prim.Native.Nat.{ℕ, suc, _+_, _-_, _≤_, _<_}
 use mathlib.Core.Bool.{true, false}
-use mathlib.Core.Path.{_≡_, refl, _∙_, ap, ap₂, sym}
+use mathlib.Core.Path.{_≡_, refl, _∙_, ap₂, sym}
 use mathlib.Core.List.{List, [], _∷_, _++_, append-nil}
 use native.Mathlib.Omega.{arith}
 use native.Mathlib.Numerals.{add-one}
 use borrow.Author.Tests.{eq-eqb, ne-eqb, eqb-true}
 use lib.Dec.{eqb}
-use lib.ListN.{length, take, drop, getD, set, drop-of-length-le}
-use lib.Seq.{drop-cons, sets, sets-eq, take-suc, length-take-le}
+use lib.ListN.{length, drop, getD, drop-of-length-le}
+use lib.Seq.{drop-cons, sets, sets-eq}
 use Rattle.wing_node.specs.Bool.{and}
 use Rattle.wing_node.proofs.Branches.{and-left, and-right}
 use Rattle.wing_wire.specs.Write.{Laid, writeEffect, writeOf}
@@ -43,13 +43,6 @@ module _ (front s : List ℕ) (i : ℕ) (h : i < length front) (k : i < length s
   -- and one that is another
   pub begins-other : (getD s i 0 ≡ getD front i 0 → ⊥) → begins (drop i front) (drop i s) ≡ false
   begins-other n = begins-at ∙ simp (ne-eqb (getD s i 0) (getD front i 0) n)
-
--- a turn of the loop that lays bytes
-pub lay-more : (out src : List ℕ) (at i : ℕ) → i < length src → set (sets out at (take i src)) (at + i) (getD src i 0) ≡ sets out at (take (i + 1) src)
-lay-more out src at i h =
-    let l : length (take i src) ≡ i = length-take-le i src (omega arith) in
-    let laid : Laid (take i src) at out (sets out at (take i src)) (at + i) = record { bytes = refl; next = omega arith } in
-    rw (add-one i, take-suc src i 0 h) (writer-laws .after laid (getD src i 0 ∷ []))
 
 -- bytes laid over as many leave themselves
 pub laid-same : (s d : List ℕ) → length d ≡ length s → sets d 0 s ≡ s

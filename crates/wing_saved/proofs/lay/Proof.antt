@@ -1,5 +1,5 @@
 -- The invariant: the first i bytes of src stand in out at their place; a turn lays one more (`lay-more`).
-use Rattle.wing_saved.proofs.Saving.Fronts.{lay-more}
+use Rattle.wing_node.proofs.Numerals.Placed.{lay-more}
 use lib.Seq.{sets, take-all}
 use lib.ListN.{length, take, length-set}
 use native.Mathlib.Omega.{arith}

@@ -12,6 +12,7 @@ use lib.ListN.{length, set, take, drop, getD, length-append, length-drop, take-a
 use lib.Seq.{sets, sets-eq, set-out, drop-set-add, take-set-le, take-suc, take-all, take-append-seam}
 use borrow.Author.Tests.{le-ltb, lt-ltb, ne-eqb}
 use Rattle.wing_node.specs.Bool.{if}
+use Rattle.wing_node.proofs.Numerals.Placed.{sets-append}
 use Rattle.wing_wire.specs.declared.write.Written.the-variants.{Bytes, Refused}
 use Rattle.wing_wire.specs.Write.{escaped, Laid, writeEffect, writeOf}
 
@@ -25,12 +26,6 @@ past d at b h = record { bytes = sym (set-out d at b h); next = refl }
 -- nothing laid
 pub nothing : (d : List ℕ) (at : ℕ) → Laid [] at d d at
 nothing d at = record { bytes = refl; next = omega arith }
-
-pub sets-append : (s t d : List ℕ) (at : ℕ) → sets (sets d at s) (at + length s) t ≡ sets d at (s ++ t)
-sets-append [] t d at = rw (add-zero at)
-sets-append (b ∷ s) t d at =
-    let e : at + suc (length s) ≡ suc at + length s = omega arith in
-    rw e (sets-append s t (set d at b) (suc at))
 
 -- the law of composition: two lays, one after the other, are one
 pub then : {s t d e f : List ℕ} {at n m : ℕ} → Laid s at d e n → Laid t n e f m → Laid (s ++ t) at d f m

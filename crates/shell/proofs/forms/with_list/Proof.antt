@@ -1,17 +1,15 @@
--- The turns left fall with every size; no place in the word is used unchecked.
+-- The sizes read are at most one more than there is room for, and every turn comes nearer to that; no place in the word is
+-- used unchecked.
 use borrow.Author.Needs.{needs}
-use Prim.Native.Nat.{_≤_}
+use Prim.Native.Nat.{_≤_, _-_}
 use Rattle.shell.proofs.forms.with_list.Statement.{statement}
 use Rattle.shell.proofs.forms.with_list.Tie as tie
 
 abbrev Inv-loop : tie.InvT-loop
-Inv-loop a₀ word at₀ turns₀ a at turns = 0 ≤ turns
+Inv-loop a₀ word at₀ k₀ a at k = k ≤ 65
 
 abbrev μ-loop : tie.MeasureT-loop
-μ-loop a₀ word at₀ turns₀ a at turns = turns
-
-add-turns : tie.Need-add-turns Inv-loop μ-loop
-add-turns c = search needs
+μ-loop a₀ word at₀ k₀ a at k = 65 - k
 
 loop-holds : tie.Need-loop-holds Inv-loop μ-loop
 loop-holds c = search needs
@@ -25,14 +23,14 @@ part-requires c κs = search needs
 unsigned-requires : tie.Need-unsigned-requires Inv-loop μ-loop
 unsigned-requires c κs = search needs
 
-with-size-requires : tie.Need-with-size-requires Inv-loop μ-loop
-with-size-requires c κs = search needs
+with-number-requires : tie.Need-with-number-requires Inv-loop μ-loop
+with-number-requires c κs = search needs
 
 after-requires : tie.Need-after-requires Inv-loop μ-loop
 after-requires c κs = search needs
 
-sub-turns : tie.Need-sub-turns Inv-loop μ-loop
-sub-turns c = search needs
+add-k : tie.Need-add-k Inv-loop μ-loop
+add-k c = search needs
 
 loop-less : tie.Need-loop-less Inv-loop μ-loop
 loop-less c = search needs
@@ -52,14 +50,13 @@ with-list-spec =
     (tie.spec
     Inv-loop
     μ-loop
-    add-turns
     loop-holds
     word-end-requires
     part-requires
     unsigned-requires
-    with-size-requires
+    with-number-requires
     after-requires
-    sub-turns
+    add-k
     loop-less
     loop-again
     returns

@@ -8,7 +8,7 @@ use native.Mathlib.Omega.{arith}
 use lib.ListN.{set, length-set}
 use lib.Seq.{sets}
 use Rattle.wing_node.specs.Field.{bytesOf}
-use Rattle.wing_mirror.proofs.Tables.Laying.{field-sets}
+use Rattle.wing_node.proofs.Numerals.Placed.{field-sets}
 use borrow.Author.Needs.{needs}
 use Rattle.wing_mirror.proofs.record.lay_number.Statement.{statement}
 use Rattle.wing_mirror.proofs.record.lay_number.Tie as tie

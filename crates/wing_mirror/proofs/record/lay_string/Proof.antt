@@ -4,7 +4,8 @@ use mathlib.Core.Path.{sym}
 use native.Mathlib.Omega.{arith}
 use lib.ListN.{set, length-set, length-take}
 use lib.Seq.{length-take-le}
-use Rattle.wing_mirror.proofs.Tables.Laying.{field-sets, string-laid}
+use Rattle.wing_node.proofs.Numerals.Placed.{field-sets}
+use Rattle.wing_mirror.proofs.Tables.Laying.{string-laid}
 use borrow.Author.Needs.{needs}
 use Rattle.wing_mirror.proofs.record.lay_string.Statement.{statement}
 use Rattle.wing_mirror.proofs.record.lay_string.Tie as tie

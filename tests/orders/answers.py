@@ -1,0 +1,19 @@
+"""The answers of the fixed orders, as text."""
+from orders.words import pairs
+from rules.refusal import Refusal
+
+
+def refused(number):
+    return "refused %d" % number
+
+
+def or_refused(call):
+    try:
+        return call()
+    except Refusal as r:
+        return refused(r.number)
+
+
+def output_text(done, call):
+    """The bytes in the lent output after a word that says what was done, or the refusal; no other byte of it is altered."""
+    return or_refused(lambda: "%s %s" % (done, pairs(call()))) + " clean"
