@@ -27,6 +27,7 @@ use Rattle.wing_node.specs.declared.writer.Fields.{Fields}
 use Rattle.wing_node.specs.declared.writer.BodyWritten.the-variants.{Bytes, Refused}
 use Rattle.wing_node.proofs.Bodies.Back.{writer-gives, texts-decide}
 use Rattle.wing_node.proofs.Bodies.Checks.{exact-decides}
+use Rattle.wing_node.proofs.Bodies.Held.{stand-within}
 use Rattle.wing_node.proofs.Bodies.Anew.{both-ways}
 use Rattle.wing_mirror.specs.Rows.{In}
 use Rattle.promises.specs.Refusals.{definitionShort, definitionWrong, bodyLong, outputShort}
@@ -175,6 +176,7 @@ module _ (body out : List ℕ) (bytes : (i : ℕ) → getD body i 0 < 256) where
     as-it-was = kept-anew (definitionOf body);
     long = long (definitionOf body) refl;
     short = short (definitionOf body) refl;
+    within = stand-within (allFields body) body;
     anew = anew (definitionOf body) refl;
     writer = λ d e. rw e (body-writes (fieldsOf d) (lentFrom body d) out);
   }

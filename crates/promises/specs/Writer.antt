@@ -60,7 +60,8 @@ pub record AnewCall (body out : List ℕ) (answer : BodyWritten) (after : List �
   pub as-it-was : (n : ℕ) → bodyResult answer after ≡ refused n → after ≡ out
   pub long : AllStand body → 4096 < extent (allFields body) body → bodyResult answer after ≡ refused bodyLong
   pub short : AllStand body → extent (allFields body) body ≤ 4096 → length out < extent (allFields body) body → bodyResult answer after ≡ refused outputShort
-  -- 02: a body of at most 4,096 bytes (whose fields take no more) that was read and is written anew has the same bytes exactly when ..
+  -- 02: a body of at most 4,096 bytes, whose fields take no more than it has, that was read and is written anew has the same bytes exactly when ..
+  pub within : AllStand body → extent (allFields body) body ≤ length body
   pub anew : AllStand body → extent (allFields body) body ≤ 4096 → extent (allFields body) body ≤ length out → WrittenAnew body (bodyResult answer after)
   -- it is the writer's call on the fields of the parser's own answer and the bytes that these tell
   pub writer : (d : Definition) → definitionOf body ≡ Good d → BodyWrites (fieldsOf d) (lentFrom body d) out answer after
