@@ -5,13 +5,14 @@
 //   bench crate PART crate|direct|none   the same of a call through the crate
 mod definitions;
 mod inputs;
+mod listing;
 
 use definitions::{definitions, write, Given};
 use inputs::{bodies, capture, orders, strings, values, Order, START, STREAMS};
 use std::collections::HashMap;
 use std::hint::black_box;
 use std::time::Instant;
-use whistleloam::Mirror;
+use whistleloam::{raw, Mirror};
 use wing::{WingConsole, WingNodeData, WingNodeDef, WingResponse};
 
 // A slice goes over the border as its start and its length.
@@ -183,6 +184,52 @@ fn defining(name: &'static str, budget: f64, room: bool) -> Part {
     }
 }
 
+// The records of the map, in a mirror.
+fn listed() -> Mirror {
+    let mut mirror = Mirror::new(1024).unwrap();
+    for (id, value) in listing::map() {
+        match value {
+            listing::Value::Int(x) => mirror.set(id, x),
+            listing::Value::Float(bits) => mirror.set(id, whistleloam::Value::Float(bits)),
+            listing::Value::Text(s) => mirror.set(id, s),
+        }
+        .unwrap();
+    }
+    mirror
+}
+
+// Our own printer stands in libwing's place, over a BTreeMap into a String. The archive's prints a table into one lent output.
+fn printing() -> Part {
+    let (map, table) = (listing::map(), listed().table().to_vec());
+    let mut out = vec![0u8; 65536];
+    let n = raw::print(&table, 1024, &mut out).len;
+    assert_eq!(listing::print(&map).as_bytes(), &out[..n], "print: the two sides print differently");
+    Part {
+        wanted: None,
+        name: "print 1,024 records",
+        budget: 1.0,
+        libwing: Box::new(move || black_box(listing::print(black_box(&map))).len() as u64),
+        port: Box::new(move || raw::print(black_box(&table), 1024, black_box(&mut out)).len as u64),
+    }
+}
+
+// Our own loader makes a BTreeMap anew, the archive's fills one table.
+fn loading_listing() -> Part {
+    let text = listed().print().unwrap();
+    let same = text.clone();
+    let mut table = vec![0u8; 1024 * 264];
+    raw::load(text.as_bytes(), &mut table);
+    let map = listing::load(&text, 1024).unwrap();
+    assert!(table == listed().table() && listing::print(&map) == text, "load: the two sides load differently");
+    Part {
+        wanted: None,
+        name: "load a listing of 1,024 records",
+        budget: 1.0,
+        libwing: Box::new(move || black_box(listing::load(black_box(&text), 1024)).map_or(0, |map| map.len() as u64)),
+        port: Box::new(move || raw::load(black_box(same.as_bytes()), black_box(&mut table)).count as u64),
+    }
+}
+
 fn packets(name: &'static str, readings: usize) -> Part {
     let packet = inputs::packet(readings);
     let mut c = WingConsole::over(&[]);
@@ -244,6 +291,8 @@ fn parts() -> Vec<Part> {
         characters("UTF-8, short mixed (std)", true),
         defining("write definitions (Vec::new)", 1.0, false),
         defining("write definitions (capacity)", 0.0, true),
+        printing(),
+        loading_listing(),
     ]
 }
 

@@ -6,12 +6,12 @@
  * as a pointer and a number of elements (`x`, `x_len`); the pointer is never NULL, not even where the number is 0 (any address will do
  * then). Two buffers that one call gets must not overlap if it writes one of them.
  *
- * Count: how many records a table holds. The caller keeps it: 0 at first, then what the last feed or set gave back.
+ * Count: how many records a table holds. The caller keeps it: 0 at first, then what the last feed, set or load gave back.
  *
  * Status: 0 for a call that was taken (1 where that is said below), or a refusal's number with a minus sign: -9 is refusal 9. Where
  * several refusals apply, the first in the order given at the call is answered. A refused call has changed nothing that was lent, and
- * gives the count back as it was; the one exception are wing_next's own -1 to -3, said there. Where the status is a refusal, all other
- * fields of the answer are 0, but for a count, an event's node and taken, and a step's walk.
+ * gives a count that was lent back as it was; the one exception are wing_next's own -1 to -3, said there. Where the status is a refusal,
+ * all other fields of the answer are 0, but for the count of a set or a feed, an event's node and taken, a step's walk and a load's line.
  *
  * A mirror is three things that the caller keeps: the bytes of a decoder state (WING_STATE_SIZE), a table buffer of 1 to
  * WING_PLACES_MAX places of WING_PLACE_WIDTH bytes each, whatever they hold at first, and the count. No call keeps anything
@@ -48,6 +48,9 @@ extern "C" {
 #define WING_REQUEST_MAX 10
 /* The most bytes of a recall: its own two, and as many for each record as the longest set order has. */
 #define WING_RECALL_MAX(count) (2 + 395 * (size_t)(count))
+/* The most bytes of a listing that is loaded; of one that is printed: its header's, and as many for each record as the longest line has. */
+#define WING_LISTING_MAX 65536
+#define WING_PRINT_MAX(count) (14 + 527 * (size_t)(count))
 /* The most meters of a request, and the most bytes of it; the most bytes of a keep-alive for each id. */
 #define WING_METERS_MAX 64
 #define WING_METER_REQUEST_MAX 212
@@ -112,7 +115,7 @@ extern "C" {
 #define WING_REFUSED_BODY_EMPTY 3          /* a definition's count 0 */
 #define WING_REFUSED_DEFINITION_SHORT 4    /* a definition's field past the end */
 #define WING_REFUSED_DEFINITION_STRING 5   /* a definition's string that is not UTF-8 */
-#define WING_REFUSED_NO_PLACE 6            /* a new node, and no place left */
+#define WING_REFUSED_NO_PLACE 6            /* a new node, and no place left; a listing of more records than places */
 #define WING_REFUSED_TABLE 7               /* the table is not sound, or its places are not 1 to 1,024 */
 #define WING_REFUSED_STATE 8               /* the bytes are no sound state's */
 #define WING_REFUSED_OUTPUT_SHORT 9        /* the output is too short for the whole */
@@ -123,10 +126,12 @@ extern "C" {
 #define WING_REFUSED_NUMBER 14             /* over 65,536 bytes; an item or record number not below its count */
 #define WING_REFUSED_NAME_LONG 15          /* a definition's name over 255 bytes */
 #define WING_REFUSED_FIELDS 16             /* a type or unit over 7; item bytes that are not the type's items, as many as the count */
+#define WING_REFUSED_LINE 17               /* a listing's header or line out of form */
+#define WING_REFUSED_ID_ORDER 18           /* a line's id not above the one before */
 
 /* ---- What comes back ---- */
 
-/* A command, or a definition that was written. */
+/* A command, or a definition or a listing that was written. */
 typedef struct WingWritten {
     int32_t status; /* 0, or a refusal */
     size_t len;     /* how many bytes stand at the front of the output; those after them are as they were */
@@ -176,6 +181,13 @@ typedef struct WingEvent {
     uint8_t kind;   /* WING_KIND_INTEGER to WING_KIND_END */
     size_t taken;   /* how many of the bytes this call took; go on from there */
 } WingEvent;
+
+/* A load. */
+typedef struct WingLoaded {
+    int32_t status; /* 0, or a refusal */
+    size_t count;   /* the records there are now; refused: 0, and the table's own count stays */
+    size_t line;    /* refused: the number of the line that decided, 1 is the header; 0 with 7, 14 and 6, and where the status is 0 */
+} WingLoaded;
 
 /* A meter request. */
 typedef struct WingRequested {
@@ -313,6 +325,19 @@ WingRecord wing_record(const uint8_t *table, size_t table_len, size_t count, siz
 /* 1 if two mirrors are equal, count and records, else 0; the places and the decoders do not matter. Lent to be read: a, b.
  * Refused: 7 (for either). */
 int32_t wing_same(const uint8_t *a, size_t a_len, size_t count_a, const uint8_t *b, size_t b_len, size_t count_b);
+
+/* ---- Listings ---- */
+
+/* Prints the records: a line `id,kind,value`, then one for each in order, its id in decimal, its kind (i, f or s) and its value in decimal,
+ * in eight hex digits or in hex pairs (at most WING_PRINT_MAX(count) bytes, all ASCII). Lent to be read: table; to be written: out.
+ * Refused: 7, 9. */
+WingWritten wing_print(const uint8_t *table, size_t table_len, size_t count, uint8_t *out, size_t out_len);
+
+/* Loads such a listing of at most WING_LISTING_MAX bytes into the places of a table, whatever they hold; the bytes after its records stay as
+ * they were. Go on with the count that comes back and with a fresh decoder state (wing_state_fresh). Printed, the table gives the text
+ * again. Lent to be read: text; to be written: table.
+ * Refused: 7 (by the places alone), 14; then by the first bad line 17, 18, 10, 1; then 6. */
+WingLoaded wing_load(const uint8_t *text, size_t text_len, uint8_t *table, size_t table_len);
 
 /* ---- Definitions ---- */
 

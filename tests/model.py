@@ -4,19 +4,27 @@ The rules are in rules/, the orders of docs/ORDERS.md in orders/.
 
     python3 tests/model.py < crates/shell/stdin                  # the lines that shell prints
     python3 tests/model.py --mirror < samples/capture.bin        # the listing that the program mirror prints
+    target/bin/mirror < samples/capture.bin | python3 tests/model.py --recall      # what the program recall writes
 """
 import sys
 
 from orders import define, node, wire, writers
 from orders.compact import summed
-from orders.mirrors import MirrorOrders, record_text
+from orders.listing import ListingOrders
+from orders.mirrors import MirrorOrders
 from orders.words import OutOfForm, demand, hex_of
 from rules.decoder import CALL_LIMIT
+from rules.listing import BadLine, listing, load
 from rules.mirror import WIDTH, Mirror
+from rules.refusal import Refusal
 
 LINE = 16384        # the longest line that shell reads
 HELD = 70000        # the most bytes that it holds for a later order
 LISTED = 128        # places of the program mirror
+RECALLED = 1024     # places of the program recall
+# What the program recall says of a refusal, by its number.
+CAUSES = {1: "string not UTF-8", 6: "more than 1,024 records", 10: "string over 256 bytes", 14: "text over 65,536 bytes",
+          17: "header or line out of form", 18: "id not above the one before"}
 
 
 class Orders:
@@ -29,7 +37,8 @@ class Orders:
     def __init__(self):
         self.held = b""
         # Orders that have no sum: those to the mirror and to the bytes held, and those of 02.
-        self.unsummed = {**MirrorOrders().table(), **define.TABLE, b"more": ((1,), self.more)}
+        mirrors = MirrorOrders()
+        self.unsummed = {**mirrors.table(), **ListingOrders(mirrors).table(), **define.TABLE, b"more": ((1,), self.more)}
 
     def more(self, word):
         data = self.held + hex_of(word)
@@ -88,14 +97,39 @@ def answers(text):
     return b"".join(orders.answer(line) + b"\n" for line in lines)
 
 
-def listing(data):
+def mirrored(data):
     """What the program mirror prints of its input."""
     mirror = Mirror(bytearray(LISTED * WIDTH))
     for at in range(0, len(data), CALL_LIMIT):
         mirror.feed(data[at:at + CALL_LIMIT])
-    return "".join(line + "\n" for line in ["id,kind,value"] + [record_text(r) for r in mirror.records()]).encode()
+    return listing(mirror.records())
+
+
+def complaint(refusal):
+    """What the program recall says of a listing that is refused, with its line where it has one."""
+    line = "line %d: " % refusal.line if isinstance(refusal, BadLine) else ""
+    return ("recall: %s%d, %s\n" % (line, refusal.number, CAUSES[refusal.number])).encode()
+
+
+def recalled(text):
+    """What the program recall writes, to standard output and to standard error."""
+    mirror = Mirror(bytearray(RECALLED * WIDTH))
+    try:
+        load(mirror, text)
+    except Refusal as r:
+        return b"", complaint(r)
+    return mirror.recall(10**7), b""
+
+
+def main():
+    given = sys.stdin.buffer.read()
+    if sys.argv[1:] == ["--recall"]:
+        out, said = recalled(given)
+        sys.stdout.buffer.write(out)
+        sys.stderr.buffer.write(said)
+    else:
+        sys.stdout.buffer.write(mirrored(given) if sys.argv[1:] == ["--mirror"] else answers(given))
 
 
 if __name__ == "__main__":
-    given = sys.stdin.buffer.read()
-    sys.stdout.buffer.write(listing(given) if sys.argv[1:] == ["--mirror"] else answers(given))
+    main()

@@ -1,6 +1,7 @@
 """Orders to one mirror and its table memory."""
 from orders.answers import or_refused, output_text, refused
 from orders.words import UINT32, count, demand, hex_of, hex_width, int32, pairs
+from rules.listing import record_text
 from rules.mirror import WIDTH, Mirror
 
 MOST_PLACES = 1026
@@ -9,12 +10,6 @@ FEED = 65600            # the most bytes that a repeat order makes
 SET_ROOM = 512
 RECALL_ROOM = 16384
 PEEK = 4096
-
-
-def record_text(record):
-    """A record as the program mirror lists it."""
-    node, (kind, content) = record
-    return "%d,%s,%s" % (node, kind, content if kind == "i" else content.hex())
 
 
 class MirrorOrders:

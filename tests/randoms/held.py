@@ -7,7 +7,8 @@ from rules.numbers import unsigned_bytes
 
 # Orders out of form: they leave the bytes as they are.
 LEAVING = ("packet 4201 +", "pieces 65536 +", "piecelist 0 +", "piecelist 1, +", "stream + ", "sum more 00", "more 0", "units +",
-           "sum units +", "lent +", "feed +", "stream ++", "more +", "sum sum stream +", "definition + +")
+           "sum units +", "lent +", "feed +", "stream ++", "more +", "sum sum stream +", "definition + +", "load +",
+           "lines +", "loads 1 +")
 # Around the most bytes of one call of next, and around the most that are held.
 FULL = (65535, 65536, 65537, 65540, 69999, 70000, 70001, 75000)
 

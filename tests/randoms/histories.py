@@ -1,8 +1,14 @@
-"""Histories of one mirror: feeds and sets, refused ones among them, queries, recalls into a fresh mirror, tables poked."""
+"""Histories of one mirror: feeds, sets and loads, refused ones among them, queries, recalls into a fresh mirror, listings printed
+and loaded, tables poked."""
+from orders.listing import ListingOrders
 from orders.mirrors import RECALL_ROOM, SET_ROOM, MirrorOrders
 from orders.words import UINT32, pairs
-from randoms.source import IDS
+from randoms.listing import Listings
+from randoms.listing import PLACES as LISTED_PLACES
+from randoms.source import IDS, LINE_BYTES
 from rules.command import set_bytes
+from rules.decoder import State
+from rules.listing import TEXT_LIMIT, listing, records_of
 from rules.mirror import WIDTH, record_bytes
 from rules.numbers import signed_bytes, unsigned_bytes
 from rules.utf8 import is_utf8
@@ -19,7 +25,8 @@ class History:
         self.r = source.r
         self.lines = []
         self.orders = MirrorOrders()
-        self.table = self.orders.table()
+        self.table = {**self.orders.table(), **ListingOrders(self.orders).table()}
+        self.listings = Listings(source)
 
     def say(self, line):
         self.lines.append(line)
@@ -121,10 +128,51 @@ class History:
         self.poke(self.mirror.count * WIDTH, record_bytes(self.s.pick(2**31 - 1, self.s.node()), value))
         return self.hand_over(self.mirror.count + 1)
 
+    def load(self):
+        """Taken or refused; a token may be half read before it, and what it left is seen by a feed."""
+        if self.s.chance(0.3):
+            self.say("feed " + self.s.pick("d70000", "8241", "d5", "df", "dfd1", "df0010", "d700000001d3", "dfd500"))
+        self.say(self.listings.loads() if self.s.chance(0.05) else self.listings.load(min(self.mirror.places(), 1024)))
+        self.s.pick(self.feed, self.dump, self.dump, self.print, self.peek, self.query)()
+
+    def print(self):
+        """With room for the whole, exact or one byte less, of a table that is usable or not."""
+        self.say(self.listings.print(len(listing(self.mirror.records() or ()))))
+
+    def dump(self):
+        self.say("dump")
+
+    def mend(self):
+        """A table poked, then a load, which does not look at it."""
+        self.s.pick(self.poke_field, self.poke_count, self.poke_record)()
+        self.load()
+        self.dump()
+
+    def reload(self):
+        """What is printed is loaded, over other records and into other places; 02 wants an equal mirror with a fresh decoder."""
+        before = self.mirror.usable_records()
+        text = listing(before)
+        if len(text) <= TEXT_LIMIT:
+            assert records_of(text) == before, "the model breaks 02: a printed table is loaded as another"
+        self.print()
+        if len(text) > LINE_BYTES:
+            return
+        places = self.s.pick(max(1, len(before)), min(1024, self.mirror.places() + 1), max(len(before) - 1, 0), 1024)
+        if self.s.chance(0.5):
+            self.say("new %d %d %d" % (places, self.s.pick(0, 1, 263), self.s.pick(0, 0xDF, self.r.randrange(256))))
+        for _ in range(self.s.pick(0, 1, 2)):
+            self.s.pick(self.feed, self.set)()
+        taken = self.say(self.s.pick("load ", "lines ") + pairs(text)).startswith("loaded")
+        assert taken == (1 <= self.mirror.places() and len(before) <= self.mirror.places())
+        if taken:
+            assert self.mirror.records() == before, "the model breaks 02: a printed table is loaded as another"
+            assert vars(self.mirror.state) == vars(State()), "the model breaks 02: a decoder that is not fresh"
+        self.dump()
+
     def damage(self):
         """A table poked, then each kind of call, then mostly made good again."""
         undo = self.s.pick(self.poke_field, self.poke_field, self.poke_count, self.poke_record)()
-        for call in self.r.sample((self.feed, self.set, self.set, self.query, self.query, self.query, self.peek), 4):
+        for call in self.r.sample((self.feed, self.set, self.set, self.query, self.query, self.query, self.peek, self.print), 4):
             call()
         if self.s.chance(0.95):
             self.say(undo)
@@ -172,13 +220,15 @@ class History:
             self.feed()
         elif kind < 0.7:
             self.set()
-        elif kind < 0.86:
+        elif kind < 0.83:
             self.query()
+        elif kind < 0.87:
+            self.load()
         else:
             self.pick_rare()
 
     def pick_rare(self):
-        self.r.choice((self.damage, self.damage, self.peek, self.peek, self.repeat))()
+        self.r.choice((self.damage, self.damage, self.peek, self.peek, self.repeat, self.print, self.mend))()
 
     def whole(self):
         """A history from a fresh mirror to a dump."""
@@ -192,9 +242,24 @@ class History:
             self.call()
         if self.is_usable() and self.s.chance(0.5):
             self.rebuild()
+        if self.is_usable() and self.s.chance(0.5):
+            self.reload()
         self.say("dump")
+        return self.lines
+
+    def listed(self):
+        """A short one, of loads mostly."""
+        self.new(self.r.choice(LISTED_PLACES))
+        for _ in range(self.s.pick(1, 2, 3, 5, 8)):
+            self.s.pick(self.load, self.load, self.load, self.feed, self.set, self.print, self.mend)()
+        if self.is_usable():
+            self.reload()
         return self.lines
 
 
 def history(source):
     return History(source).whole()
+
+
+def listed(source):
+    return History(source).listed()

@@ -1,6 +1,6 @@
 """Random lines, a block of them at a time."""
 from randoms.held import held
-from randoms.histories import history
+from randoms.histories import history, listed
 from randoms.odd import ODD, at_limit, changed, limits
 from randoms.single import Single
 
@@ -8,8 +8,10 @@ from randoms.single import Single
 def block(source):
     """Some lines that belong together, or one."""
     single, kind = Single(source), source.r.random()
-    if kind < 0.85:
+    if kind < 0.84:
         return [single.order()]
+    if kind < 0.85:
+        return listed(source)
     if kind < 0.86:
         return history(source)
     if kind < 0.88:

@@ -1,8 +1,9 @@
-"""Orders that stand alone: streams, definitions read and written, commands, packets, getters, UTF-8, states."""
+"""Orders that stand alone: streams, definitions read and written, commands, packets, getters, UTF-8, states, listings."""
 from orders.states import MOST
 from orders.words import UINT32, pairs
 from orders.writers import KEEP_ALIVE_ROOM
 from randoms.define import Definitions
+from randoms.listing import Listings
 from randoms.source import LINE_BYTES
 from rules.command import data_request, definition_request, format_id, keep_alives, meter_request, set_bytes
 from rules.definition import Definition, refusal_of
@@ -67,6 +68,9 @@ class Single:
 
     def again(self):
         return Definitions(self.s).again()
+
+    def listing(self):
+        return Listings(self.s).single()
 
     def utf8(self):
         """A string, or bytes at the edges of the grammar's rows."""
@@ -197,7 +201,7 @@ class Single:
 
     def kinds(self):
         """Some kinds stand more than once, so that they come more often."""
-        return ((self.stream, self.definition, self.define) * 6 + (self.again,) * 5
+        return ((self.stream, self.definition, self.define) * 6 + (self.again,) * 5 + (self.listing,) * 4
                 + (self.pieces, self.set_int, self.set_string, self.ask_meters, self.step) * 3
                 + (self.piece_list, self.utf8, self.set_float, self.packet, self.item, self.walk, self.units, self.lent,
                    self.state, self.summed, self.getters, self.ask_meters_fill) * 2

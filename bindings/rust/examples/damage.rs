@@ -1,7 +1,7 @@
 //! Damaged buffers through the crate and through its raw parts: `damage N SEED`.
 //!
-//! States, tables, streams, definitions to be read and written, packets, saved mirrors and orders, with bytes changed, left out or put
-//! in, each in a heap allocation of exactly its size, so that valgrind sees an access past the end. Every answer must be a value or a refusal that its
+//! States, tables, streams, definitions to be read and written, listings, packets, saved mirrors and orders, with bytes changed, left out or
+//! put in, each in a heap allocation of exactly its size, so that valgrind sees an access past the end. Every answer must be a value or a refusal that its
 //! call may give, and a refused call must have changed nothing. Ends with the totals; status 1 at the first fault.
 use std::process::exit;
 use whistleloam::raw;
@@ -54,7 +54,7 @@ impl Dice {
 #[derive(Default)]
 struct Totals {
     values: u64,
-    refused: [u64; 17],
+    refused: [u64; 19],
 }
 
 impl Totals {
@@ -208,7 +208,11 @@ impl Pool {
         if self.totals.note("recall", sent.status, &[7, 9]) {
             must("recall", out.iter().all(|b| *b == 0xaa));
         }
-        for status in [looked.status, read.status, same, sent.status] {
+        let printed = raw::print(&table, count, &mut out[sent.len..]);
+        if self.totals.note("print", printed.status, &[7, 9]) {
+            must("print", out[sent.len..].iter().all(|b| *b == 0xaa));
+        }
+        for status in [looked.status, read.status, same, sent.status, printed.status] {
             must("table", unsound == (status == -7));
         }
         self.set(&mut table, count, id);
@@ -320,6 +324,44 @@ impl Pool {
         self.totals.note("write_anew", anew.status, &[4, 5, 9]);
     }
 
+    /// Lines doubled, left out or put elsewhere, and bytes changed; into a table that may hold anything. What is loaded is printed again.
+    fn listing(&mut self) {
+        let mirror = &self.mirrors[self.dice.below(self.mirrors.len())];
+        let Ok(text) = mirror.print() else { fault("print", "refused") };
+        let mut lines: Vec<&[u8]> = text.as_bytes().split_inclusive(|b| *b == b'\n').collect();
+        let (from, to) = (self.dice.below(lines.len()), self.dice.below(lines.len()));
+        match self.dice.below(8) {
+            0 => lines.insert(to, lines[from]),
+            1 => lines.swap(from, to),
+            2 => drop(lines.remove(from)),
+            _ => {}
+        }
+        let last = match self.dice.below(16) {
+            0 => format!("2147483647,s,{}\n", "c3".repeat(250 + self.dice.below(9))),
+            1 => format!("2147483647,s,{}\n", "41".repeat(250 + self.dice.below(9))),
+            2 if self.dice.one_in(100) => "\n".repeat(65536),
+            _ => String::new(),
+        };
+        lines.push(last.as_bytes());
+        let text = lines.concat();
+        let text = if self.dice.one_in(2) { text.into_boxed_slice() } else { self.dice.damage(&text, true) };
+        let places = self.mirrors[self.dice.below(self.mirrors.len())].places();
+        let size = if self.dice.one_in(20) { PLACE_WIDTH - 1 } else { places * PLACE_WIDTH + self.dice.below(3) };
+        let before = vec![self.dice.byte(); size].into_boxed_slice();
+        let mut table = before.clone();
+        let loaded = raw::load(&text, &mut table);
+        if self.totals.note("load", loaded.status, &[7, 14, 17, 18, 10, 1, 6]) {
+            must("load", table == before && loaded.count == 0 && loaded.line <= lines.len() + 3);
+            return;
+        }
+        let records = loaded.count * PLACE_WIDTH;
+        must("load", loaded.line == 0 && table[records..] == before[records..]);
+        let mut out = vec![0xaa; text.len()].into_boxed_slice();
+        let printed = raw::print(&table, loaded.count, &mut out);
+        self.totals.note("print after a load", printed.status, &[]);
+        must("print", printed.len == text.len() && out == text);
+    }
+
     fn packet(&mut self) {
         let len = if self.dice.one_in(50) { 8185 + self.dice.below(12) } else { self.dice.below(70) };
         let packet = vec![self.dice.byte(); len].into_boxed_slice();
@@ -366,14 +408,15 @@ impl Pool {
     }
 
     fn one(&mut self) {
-        match self.dice.below(8) {
+        match self.dice.below(9) {
             0 => self.state(),
             1 => self.table(),
             2 => self.stream(),
             3 => self.definition(),
             4 => self.written(),
-            5 => self.packet(),
-            6 => self.saved(),
+            5 => self.listing(),
+            6 => self.packet(),
+            7 => self.saved(),
             _ => self.orders(),
         }
     }
@@ -387,7 +430,7 @@ fn main() {
         pool.one();
     }
     let totals = pool.totals;
-    let each: String = (1..17).map(|n| format!(", {} refused with {n}", totals.refused[n])).collect();
+    let each: String = (1..19).map(|n| format!(", {} refused with {n}", totals.refused[n])).collect();
     println!("{number} damaged buffers: {} answers{each}", totals.values);
     if number >= 20_000 && totals.refused[1..].contains(&0) {
         fault("damage", "a refusal that never came: the buffers are not damaged enough");

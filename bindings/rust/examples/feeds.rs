@@ -1,11 +1,11 @@
-//! `feeds N`: a mirror is fed samples/capture.bin N times, and as often set and recalled into buffers made before, and a definition is
-//! written.
+//! `feeds N`: a mirror is fed samples/capture.bin N times, and as often set, recalled, printed into buffers made before and loaded of what
+//! was printed, and a definition is written.
 //!
 //! These calls allocate nothing, so that under valgrind the number of allocations is the same for every N: `bindings/test`
 //! compares two.
 use std::error::Error;
 use std::path::Path;
-use whistleloam::{Details, Fields, Mirror, NodeType, NodeUnit, Value, SET_MAX};
+use whistleloam::{Details, Fields, Mirror, NodeType, NodeUnit, Value, LINE_MAX, SET_MAX};
 
 const PLACES: usize = 128;
 
@@ -23,6 +23,7 @@ fn main() -> Result<(), Box<dyn Error>> {
         read_only: false,
         details: Details::Items(2),
     };
+    let mut listing = vec![0; 14 + LINE_MAX * PLACES];
     let mut mirror = Mirror::new(PLACES)?;
     let (mut stored, mut sent) = (0, 0);
     for _ in 0..rounds {
@@ -34,6 +35,8 @@ fn main() -> Result<(), Box<dyn Error>> {
             sent += mirror.set_into(*id, value, &mut order)?;
         }
         sent += mirror.recall_into(&mut recall)?;
+        let len = mirror.print_into(&mut listing)?;
+        mirror.load(&listing[..len])?;
         sent += fields.write_into("mute", "Mute", b"\x03off\x00\x02on\x00", &mut order)?;
     }
     println!("{rounds} rounds: {stored} values stored, {sent} bytes to send, {} records", mirror.len());

@@ -9,7 +9,7 @@
 //! borrows say that the memory is there, that it is initialised, and that what is written is borrowed by nobody else.
 #![allow(unsafe_code)]
 
-/// A command, or a definition that was written.
+/// A command, or a definition or a listing that was written.
 #[repr(C)]
 #[derive(Clone, Copy, Debug, PartialEq, Eq)]
 pub struct WingWritten {
@@ -97,6 +97,18 @@ pub struct WingEvent {
     pub kind: u8,
     /// How many of the bytes this call took; go on from there.
     pub taken: usize,
+}
+
+/// A load.
+#[repr(C)]
+#[derive(Clone, Copy, Debug, PartialEq, Eq)]
+pub struct WingLoaded {
+    /// 0, or a refusal.
+    pub status: i32,
+    /// The records there are now; refused: 0, and the table's own count stays.
+    pub count: usize,
+    /// Refused: the number of the line that decided, 1 is the header; 0 with 7, 14 and 6, and where the status is 0.
+    pub line: usize,
 }
 
 /// A meter request.
@@ -300,6 +312,14 @@ mod library {
         pub fn wing_record(table: *const u8, table_len: usize, count: usize, number: usize) -> WingRecord;
         pub fn wing_same(a: *const u8, a_len: usize, count_a: usize, b: *const u8, b_len: usize, count_b: usize)
             -> i32;
+        pub fn wing_print(
+            table: *const u8,
+            table_len: usize,
+            count: usize,
+            out: *mut u8,
+            out_len: usize,
+        ) -> WingWritten;
+        pub fn wing_load(text: *const u8, text_len: usize, table: *mut u8, table_len: usize) -> WingLoaded;
         pub fn wing_definition(body: *const u8, body_len: usize) -> WingDefinition;
         pub fn wing_items_begin(body: *const u8, body_len: usize) -> WingWalk;
         pub fn wing_item_step(body: *const u8, body_len: usize, at: usize, left: u16, node_type: u8) -> WingStep;
@@ -483,6 +503,28 @@ pub fn same(a: &[u8], count_a: usize, b: &[u8], count_b: usize) -> i32 {
     // SAFETY: `a` and `b` are borrowed and only read. The call stays within the lengths and keeps
     // no address.
     unsafe { library::wing_same(a.as_ptr(), a.len(), count_a, b.as_ptr(), b.len(), count_b) }
+}
+
+/// Prints the records: a line `id,kind,value`, then one for each in order, its id in decimal, its kind (i, f or s)
+/// and its value in decimal, in eight hex digits or in hex pairs (at most 14 bytes, and 527 for each record, all
+/// ASCII). Lent to be read: table; to be written: out.
+///
+/// Refused: 7, 9.
+pub fn print(table: &[u8], count: usize, out: &mut [u8]) -> WingWritten {
+    // SAFETY: `out` is borrowed for this call alone; `table` is borrowed and only read. The call
+    // stays within the lengths and keeps no address.
+    unsafe { library::wing_print(table.as_ptr(), table.len(), count, out.as_mut_ptr(), out.len()) }
+}
+
+/// Loads such a listing of at most 65,536 bytes into the places of a table, whatever they hold; the bytes after its
+/// records stay as they were. Go on with the count that comes back and with a fresh decoder state ([`state_fresh`]).
+/// Printed, the table gives the text again. Lent to be read: text; to be written: table.
+///
+/// Refused: 7 (by the places alone), 14; then by the first bad line 17, 18, 10, 1; then 6.
+pub fn load(text: &[u8], table: &mut [u8]) -> WingLoaded {
+    // SAFETY: `table` is borrowed for this call alone; `text` is borrowed and only read. The call
+    // stays within the lengths and keeps no address.
+    unsafe { library::wing_load(text.as_ptr(), text.len(), table.as_mut_ptr(), table.len()) }
 }
 
 /// The fields of a definition's body, and where its names stand in it. Lent to be read: body.

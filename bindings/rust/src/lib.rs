@@ -2,9 +2,10 @@
 //!
 //! A console sends node readings down one connection. A [`Mirror`] takes these bytes as they come, broken off
 //! anywhere, and keeps the last value of each node; [`Mirror::set`] stores a value and gives the bytes to send;
-//! [`Mirror::recall`] gives the bytes that set a console to everything the mirror holds. The work is done by calls of
-//! a library that is proved against rules a person can read (README.md of the repository says what is proved);
-//! this crate hands slices over and turns the answers into Rust's types. Sockets, timers and threads are the box's.
+//! [`Mirror::recall`] gives the bytes that set a console to everything the mirror holds; [`Mirror::print`] lists it as a
+//! text, and [`Mirror::load`] takes such a text. The work is done by calls of a library that is proved against rules a
+//! person can read (README.md of the repository says what is proved); this crate hands slices over and turns the answers
+//! into Rust's types. Sockets, timers and threads are the box's.
 //!
 //! ```
 //! use whistleloam::{Mirror, Value};
@@ -56,7 +57,7 @@ pub use decoder::{Decoder, Event, Events};
 pub use definition::{Definition, Details, Item, Items, NodeType, NodeUnit};
 pub use fields::Fields;
 pub use mirror::{Counts, Mirror, Records};
-pub use refusal::Refusal;
+pub use refusal::{LoadRefusal, Refusal};
 pub use value::Value;
 
 /// The bytes of a decoder state.
@@ -77,6 +78,10 @@ pub const STRING_MAX: usize = 256;
 pub const SET_MAX: usize = 395;
 /// The most bytes of a set order for a number.
 pub const SET_NUMBER_MAX: usize = 18;
+/// The most bytes of a listing that is loaded.
+pub const LISTING_MAX: usize = 65536;
+/// The most bytes of a listing's line: of one with an id of 11 characters and a string of 256 bytes.
+pub const LINE_MAX: usize = 527;
 /// The most bytes of a definition or data request.
 pub const REQUEST_MAX: usize = 10;
 /// The most meters of one request.

@@ -1,5 +1,5 @@
 use crate::raw;
-use crate::{Refusal, Value, PLACES_MAX, PLACE_WIDTH, SET_MAX, STATE_SIZE};
+use crate::{LoadRefusal, Refusal, Value, LINE_MAX, PLACES_MAX, PLACE_WIDTH, SET_MAX, STATE_SIZE};
 use std::fmt;
 
 /// The last value of each node: a decoder state, a table of places and the number of records in it.
@@ -33,15 +33,23 @@ pub struct Counts {
 /// A fresh decoder state, made by the library.
 pub(crate) fn fresh_state() -> Box<[u8]> {
     let mut state = vec![0; STATE_SIZE].into_boxed_slice();
-    let written = raw::state_fresh(&mut state);
+    lay_fresh(&mut state);
+    state
+}
+
+/// The same where another stood.
+fn lay_fresh(state: &mut [u8]) {
+    let written = raw::state_fresh(state);
     // The one refusal is 9, for an output that is too short. An archive with longer states would be another library.
     assert_eq!(
         (written.status, written.len),
         (0, STATE_SIZE),
         "libwing_c.a has states of another size than this crate"
     );
-    state
 }
+
+/// The bytes of a listing's header.
+const HEADER: usize = 14;
 
 /// The value of a kind 0 to 2; a string's bytes stand at the front of `text`.
 pub(crate) fn value_of(kind: u8, bits: u32, len: u16, text: &[u8]) -> Result<Value, Refusal> {
@@ -126,6 +134,58 @@ impl Mirror {
         let written = raw::recall(&self.table, self.count, out);
         Refusal::check(written.status)?;
         Ok(written.len)
+    }
+
+    /// The listing of the mirror, to be kept, read or mailed: a line `id,kind,value`, then one for each record in order.
+    /// [`load`](Mirror::load) makes an equal mirror of one of at most 65,536 bytes.
+    ///
+    /// ```
+    /// use whistleloam::{Mirror, Refusal};
+    ///
+    /// let mut mirror = Mirror::new(128)?;
+    /// mirror.set(1, 5)?;
+    /// mirror.set(-2, 1.0)?;
+    /// mirror.set(2, "AB")?;
+    /// let text = mirror.print()?;
+    /// assert_eq!(text, "id,kind,value\n-2,f,3f800000\n1,i,5\n2,s,4142\n");
+    ///
+    /// let mut other = Mirror::new(3)?;
+    /// assert_eq!(other.load(&text)?, 3);
+    /// assert!(other == mirror && other.print()? == text);
+    ///
+    /// // The third line is not after the second.
+    /// let why = other.load("id,kind,value\n7,i,1\n7,i,2\n").unwrap_err();
+    /// assert_eq!((why.refusal(), why.line()), (Refusal::ID_ORDER, Some(3)));
+    /// assert!(other == mirror);
+    /// # Ok::<(), Refusal>(())
+    /// ```
+    pub fn print(&self) -> Result<String, Refusal> {
+        let mut out = vec![0; HEADER + LINE_MAX * self.count];
+        let len = self.print_into(&mut out)?;
+        out.truncate(len);
+        // The library writes ASCII; Rust's own test stands in for `unsafe`.
+        String::from_utf8(out).map_err(|_| Refusal::STRING)
+    }
+
+    /// The same into an output of yours, of 14 bytes and up to 527 for each record; how many bytes of it the listing has.
+    /// It allocates nothing. Refused: 9.
+    pub fn print_into(&self, out: &mut [u8]) -> Result<usize, Refusal> {
+        let written = raw::print(&self.table, self.count, out);
+        Refusal::check(written.status)?;
+        Ok(written.len)
+    }
+
+    /// Loads a listing of at most 65,536 bytes, as [`print`](Mirror::print) gives it: its records take the place of all that
+    /// were here, and the decoder is a fresh one. How many records there are. It allocates nothing.
+    ///
+    /// A text that is refused changes nothing, and says which line decided. Refused: 14; then by the first bad line 17, a
+    /// header or line out of form, 18, an id not above the one before, 10, 1; then 6, more records than places.
+    pub fn load(&mut self, text: impl AsRef<[u8]>) -> Result<usize, LoadRefusal> {
+        let loaded = raw::load(text.as_ref(), &mut self.table);
+        LoadRefusal::check(&loaded)?;
+        self.count = loaded.count;
+        lay_fresh(&mut self.state);
+        Ok(loaded.count)
     }
 
     /// The number of a node's record, if it has one.

@@ -1,3 +1,4 @@
+use crate::raw;
 use std::fmt;
 
 /// Why a call was refused: a number of the rules' table 'What is sent back'.
@@ -18,7 +19,7 @@ impl Refusal {
     pub const DEFINITION_SHORT: Refusal = Refusal(4);
     /// 5: a definition's string that is not UTF-8.
     pub const DEFINITION_STRING: Refusal = Refusal(5);
-    /// 6: a new node, and no place left.
+    /// 6: a new node, and no place left, or a listing of more records than places.
     pub const NO_PLACE: Refusal = Refusal(6);
     /// 7: a table that is not sound, or whose places are not 1 to 1,024.
     pub const TABLE: Refusal = Refusal(7);
@@ -40,6 +41,10 @@ impl Refusal {
     pub const NAME_LONG: Refusal = Refusal(15);
     /// 16: a type or unit over 7, or item bytes that are not the type's items, as many as the count.
     pub const FIELDS: Refusal = Refusal(16);
+    /// 17: a listing's header or line out of form.
+    pub const LINE: Refusal = Refusal(17);
+    /// 18: a line's id that is not above the one before.
+    pub const ID_ORDER: Refusal = Refusal(18);
 
     /// The number in the rules' table.
     pub fn number(self) -> u8 {
@@ -54,7 +59,7 @@ impl Refusal {
             3 => "a definition's count is 0",
             4 => "a definition's field goes past the end",
             5 => "a definition's string is not UTF-8",
-            6 => "a new node, and no place left",
+            6 => "a new node, and no place left, or more records than places",
             7 => "the table is not sound or its places are not 1 to 1,024",
             8 => "the state is not sound",
             9 => "the output is too short for the whole",
@@ -65,6 +70,8 @@ impl Refusal {
             14 => "over 65,536 bytes, or an item or record number not below its count",
             15 => "a definition's name is over 255 bytes",
             16 => "a type or unit over 7, or item bytes that are not the type's items, as many as the count",
+            17 => "a listing's header or line is out of form",
+            18 => "a line's id is not above the one before",
             _ => "a number that the rules do not have",
         }
     }
@@ -92,3 +99,53 @@ impl fmt::Debug for Refusal {
 }
 
 impl std::error::Error for Refusal {}
+
+/// Why a listing was not loaded, and which of its lines decided.
+#[derive(Clone, Copy, PartialEq, Eq, Hash)]
+pub struct LoadRefusal {
+    why: Refusal,
+    line: usize,
+}
+
+impl LoadRefusal {
+    /// The refusal: 7, 14, 17, 18, 10, 1 or 6.
+    pub fn refusal(self) -> Refusal {
+        self.why
+    }
+
+    /// The number of the line that decided; the header is line 1. None with 7, 14 and 6, which are about no line.
+    pub fn line(self) -> Option<usize> {
+        (self.line > 0).then_some(self.line)
+    }
+
+    /// An answer of [`raw::load`](crate::raw::load): the refusal of one with a status below 0.
+    pub fn check(loaded: &raw::WingLoaded) -> Result<(), LoadRefusal> {
+        let line = loaded.line;
+        Refusal::check(loaded.status).map(|_| ()).map_err(|why| LoadRefusal { why, line })
+    }
+}
+
+/// Where the line does not matter.
+impl From<LoadRefusal> for Refusal {
+    fn from(refused: LoadRefusal) -> Refusal {
+        refused.why
+    }
+}
+
+impl fmt::Display for LoadRefusal {
+    fn fmt(&self, f: &mut fmt::Formatter) -> fmt::Result {
+        if let Some(line) = self.line() {
+            write!(f, "line {line}: ")?;
+        }
+        fmt::Display::fmt(&self.why, f)
+    }
+}
+
+/// The same words.
+impl fmt::Debug for LoadRefusal {
+    fn fmt(&self, f: &mut fmt::Formatter) -> fmt::Result {
+        fmt::Display::fmt(self, f)
+    }
+}
+
+impl std::error::Error for LoadRefusal {}

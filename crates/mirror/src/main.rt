@@ -1,16 +1,18 @@
 // Reads standard input to its end into a mirror of 128 places, and prints its records.
 // A program has no exit status here: one that fails says so on standard error.
-mod line;
-mod listing;
-
 use libc::STDERR_FILENO;
 use libc::STDIN_FILENO;
+use libc::STDOUT_FILENO;
 use wing_mirror::answer;
 use wing_mirror::feed;
 use wing_wire::state::State;
+use wing_wire::write::Written;
 
 // 128 places of 264 bytes.
 const TABLE: usize = 33792;
+
+// The header of 14 bytes, and at most 527 for each of 128 records.
+const LISTING: usize = 67470;
 
 // A mirror while its input is read: more says that the input may go on, whole that all of it so far is in the mirror.
 pub struct Mirror {
@@ -60,6 +62,24 @@ fn take_all(table: &mut [u8]) -> Mirror {
     m
 }
 
+// Whether all n bytes were written; none where there are not so many.
+fn write_front(bytes: &[u8], n: usize) -> bool {
+    if n <= bytes.len() {
+        return io::write_all(STDOUT_FILENO, &bytes[0..n]);
+    }
+    false
+}
+
+// The listing goes out in one write where the system takes it so.
+fn print(table: &[u8], count: usize) -> bool {
+    let mut out = [0u8; LISTING];
+    let w = wing_listing::print::print(table, count, &mut out);
+    match w {
+        Written::Bytes(n) => write_front(&out, n),
+        Written::Refused(_) => false,
+    }
+}
+
 fn complain(text: &[u8]) {
     io::write_all(STDERR_FILENO, text);
 }
@@ -72,7 +92,7 @@ fn main() {
         complain(b"mirror: standard input was not read to its end\n");
         return;
     }
-    if !listing::print(&table, m.count) {
+    if !print(&table, m.count) {
         complain(b"mirror: the listing was not written to its end\n");
     }
 }

@@ -8,3 +8,4 @@ mod Decodes
 mod Writers
 mod Savers
 mod Calls
+mod Listings

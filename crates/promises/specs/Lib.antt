@@ -5,3 +5,4 @@ pub mod Writer
 pub mod Wire
 pub mod Mirror
 pub mod Saved
+pub mod Listing

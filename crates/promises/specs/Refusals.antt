@@ -21,7 +21,7 @@ definitionShort = 4
 abbrev pub definitionWrong : ℕ
 definitionWrong = 5
 
--- new node, no place left
+-- new node, no place left; 02: a listing with more records than places
 abbrev pub noPlace : ℕ
 noPlace = 6
 
@@ -53,7 +53,7 @@ meterIdLast = 12
 abbrev pub packetSize : ℕ
 packetSize = 13
 
--- feed or next over 65,536 bytes; item or record number not below its count
+-- feed or next over 65,536 bytes; item or record number not below its count; 02: a listing over 65,536 bytes
 abbrev pub numberOver : ℕ
 numberOver = 14
 
@@ -64,3 +64,11 @@ nameLong = 15
 -- 02: a type or unit over 7; item bytes that aren't exactly the given count of the type's items; a count above 0 or item bytes with a type that has none
 abbrev pub fieldsUnfit : ℕ
 fieldsUnfit = 16
+
+-- 02: a listing's header or line out of form
+abbrev pub lineWrong : ℕ
+lineWrong = 17
+
+-- 02: an id in a listing not above the one before
+abbrev pub idNotAbove : ℕ
+idNotAbove = 18

@@ -1,5 +1,5 @@
 // The three demands. What is promised of a call is the contract of a function of the same name that does nothing but the call
-// (node.rt, wire.rt, saved.rt, mirror.rt), so that it hangs on the code. What is promised of whole streams and histories is the contract of a
+// (node.rt, wire.rt, saved.rt, mirror.rt, listing.rt), so that it hangs on the code. What is promised of whole streams and histories is the contract of a
 // function with an empty body, here. The gate prints a 'proved' line for each.
 ghost use mathlib.Core.Path.{_≡_};
 ghost use mathlib.Core.List.{map};
@@ -10,12 +10,15 @@ ghost use Rattle.wing_wire.specs.Repeated.{UntilMore};
 ghost use Rattle.wing_wire.specs.Tokens.{Tokens};
 ghost use Rattle.wing_wire.specs.Cases.{Case, cases};
 ghost use Rattle.wing_saved.specs.Saved.{SavedLaws};
+ghost use Rattle.wing_listing.specs.BothWays.{BothWays as ListedBothWays};
+ghost use Rattle.wing_listing.specs.Cases.{Case as ListedCase, cases as listedCases};
 ghost use Rattle.wing_mirror.specs.Record.{full};
 ghost use Rattle.wing_mirror.specs.History.{Agreement, Equality, Rebuilding, Histories};
 ghost use Rattle.promises.specs.Node.{Walks};
 ghost use Rattle.promises.specs.Wire.{withEvent, PiecesJoin};
 ghost use Rattle.promises.specs.Mirror.{UnplacedStays};
 
+pub mod listing;
 pub mod mirror;
 pub mod node;
 pub mod saved;
@@ -102,7 +105,20 @@ pub fn saved_states()
     ensures { λ _. ⌜ SavedLaws ⌝ }
 {}
 
+// Listings both ways (02): a text is taken exactly if it is the listing of entries that a table takes, else it is sent back for its first bad line: the header, or the
+// first line that is not printed of any entry or whose entry is wrong there; loading a table printed in at most 65,536 bytes, into 1 to 1,024 places and
+// at least as many as it has records, gives an equal mirror with a fresh decoder, whatever the memory held; and printing what was loaded gives the text again,
+// for every text that loads.
+pub fn listing_both_ways()
+    ensures { λ _. ⌜ ListedBothWays ⌝ }
+{}
+
 // The cases that 01 marks #: what the definitions give in each is what 01 wants.
 pub fn marked_cases()
     ensures { λ _. ⌜ (map (λ (c : Case). c .got) cases ≡ map (λ (c : Case). c .wanted) cases) ⌝ }
+{}
+
+// 01's example of a listing, and the boundary lines that 02 names: what the definitions give in each is what is wanted.
+pub fn listing_cases()
+    ensures { λ _. ⌜ (map (λ (c : ListedCase). c .got) listedCases ≡ map (λ (c : ListedCase). c .wanted) listedCases) ⌝ }
 {}

@@ -227,7 +227,8 @@ ssstream:+ sppieces:w+ slpiecelist:,+ suunits:h sestate:nd* scsplits:h snlent:h 
 dddefinition:+ dccuts:h diitem:dh dsstep:wwwh dwwalk:h \
 vuutf8:h vfutf8s:h vsstreams:h vggetters:gh vlgetstring:wh pvpacket:a+ \
 cisetint:rii cfsetfloat:rix cssetstring:rih ctformat:riyh cdaskdefinition:ri caaskdata:ri \
-cmaskmeters:rwwoh cnaskmetersfill:rwwozh ckkeepalive:lww DDdefine:iiwoofxxiwwhhhr AAagain:h",
+cmaskmeters:rwwoh cnaskmetersfill:rwwozh ckkeepalive:lww DDdefine:iiwoofxxiwwhhhr AAagain:h \
+L?load:h L?loads:d* LJlines:h TPprint:r",
         bytes,
         held,
     );

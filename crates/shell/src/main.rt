@@ -2,6 +2,7 @@
 mod commands;
 mod definitions;
 mod forms;
+mod listings;
 mod mirror;
 mod read;
 mod show;
@@ -46,13 +47,14 @@ fn text(part: u8, k: Kept, memory: &[u8], a: Asked, bytes: &[u8], log: &mut Log)
         b'c' => commands::order(log, a.first, a, bytes),
         b'D' => commands::order(log, a.last, a, bytes),
         b'A' => commands::order(log, 4096, a, bytes),
+        b'T' => listings::print(log, k, memory, a.first),
         b'p' => commands::packet(log, a.first, bytes),
         _ => 0,
     };
     show::summed(log, len, a.summed)
 }
 
-// Every order but a feed.
+// Every order but a feed and a load.
 fn order(part: u8, k: Kept, memory: &mut Memory, a: Asked, bytes: &[u8], log: &mut Log) -> Kept {
     match part {
         b'M' => mirror::change(k, memory, a, bytes, log),
@@ -64,6 +66,9 @@ fn order(part: u8, k: Kept, memory: &mut Memory, a: Asked, bytes: &[u8], log: &m
 fn turn(mut t: Session, memory: &mut Memory, a: Asked, bytes: &[u8], log: &mut Log) -> Session {
     if a.part == b'F' {
         return mirror::feed(t.state, t.kept, memory, bytes, log);
+    }
+    if a.part == b'L' {
+        return listings::load(t, memory, a.letter, bytes, log);
     }
     let kept = order(a.part, t.kept, memory, a, bytes, log);
     t.kept = kept;

@@ -38,7 +38,7 @@ pub struct Kept {
     pub len: usize,
 }
 
-// The decoder's state stands apart, since feeds alone go through it.
+// The decoder's state stands apart, since feeds and loads alone go through it.
 pub struct Session {
     pub state: State,
     pub kept: Kept,

@@ -171,7 +171,7 @@ pub fn say(log: &mut Log, at: usize, s: Said, source: &[u8]) -> usize {
 p pending=B|n pending=none|t token=between|c token=number T left=U value=H|\
 j token=string left=U of U|k token=body left=U of U stored=U|o store=Q|wDXZ|qrRZ|mDH:|vH-Y|yHsXY|\
 Ffed U U U U U U|Nplaces U|Ccount U|Hheld U|Ppoked|Tsent NQ V|Rrefused U V|DU records T|IS,i,S|BS,f,H|\
-GS,s,X|Aat U|LQ|Wwrote NQ V|Oother NQ|E?|#W|X? W",
+GS,s,X|Aat U|LQ|Wwrote NQ V|Oother NQ|Kloaded U|Jrefused U line U|Vprinted NQ V|E?|#W|X? W",
         s.letter,
     );
     let values = [s.first, s.second, s.third, s.fourth, s.fifth, s.sixth];

@@ -68,7 +68,7 @@ of-type StringEnum body c first b = strings
 of-type FloatEnum body c first b = floats
 of-type String body c first b = text
 
-not-zero : (n : ℕ) → (n ≡ 0 → ⊥) → 1 ≤ n
+pub not-zero : (n : ℕ) → (n ≡ 0 → ⊥) → 1 ≤ n
 not-zero zero h = absurd (h refl)
 not-zero (suc n) h = omega arith
 

@@ -14,14 +14,17 @@ use Rattle.wing_wire.specs.declared.meter.MetersRead.{MetersRead}
 use Rattle.wing_mirror.specs.Mirror.{SetEffect, setEffect, FeedEffect, lentEffect}
 use Rattle.wing_mirror.specs.declared.answer.SetReply.{SetReply}
 use Rattle.wing_mirror.specs.declared.answer.LentFeedReply.{LentFeedReply}
-use Rattle.wing_c.specs.Numbers.{writtenNumbers, bodyNumbers, setNumbers, requestedNumbers, metersNumbers, feedStatus, fedNumbers}
-use Rattle.wing_c.specs.Written.{command, commandOf, bodyFrom, mirrorCommand, mirrorCommandOf, request, requestOf, packet, packetFrom}
+use Rattle.wing_listing.specs.Calls.{LoadEffect, loadEffect}
+use Rattle.wing_listing.specs.declared.answer.LoadReply.{LoadReply}
+use Rattle.wing_c.specs.Numbers.{writtenNumbers, bodyNumbers, setNumbers, requestedNumbers, metersNumbers, loadedNumbers, feedStatus, fedNumbers}
+use Rattle.wing_c.specs.Written.{command, commandOf, bodyFrom, mirrorCommand, mirrorCommandOf, request, requestOf, packet, packetFrom, tableLoad, tableLoadOf}
 use Rattle.wing_c.specs.Kept.{keptFeed, stateAfter, feedFrom}
 use Rattle.wing_c.specs.declared.answers.WingWritten.{WingWritten}
 use Rattle.wing_c.specs.declared.answers.WingSet.{WingSet}
 use Rattle.wing_c.specs.declared.answers.WingFed.{WingFed}
 use Rattle.wing_c.specs.declared.answers.WingRequested.{WingRequested}
 use Rattle.wing_c.specs.declared.answers.WingMeters.{WingMeters}
+use Rattle.wing_c.specs.declared.answers.WingLoaded.{WingLoaded}
 
 -- a command
 pub command-as : {r : WingWritten} (w : Written) {out : List ℕ} {e : WriteEffect} → r ≡ writtenNumbers w → writeEffect w out ≡ e → command r out ≡ commandOf e
@@ -44,6 +47,11 @@ request-as w {out} p q = ap (λ (x : WingRequested). request x out) p ∙ ap req
 -- a meter packet
 pub packet-as : {r : WingMeters} (w : MetersRead) {out : List ℤ} {e : PacketEffect} → r ≡ metersNumbers w → packetEffect w out ≡ e → packet r out ≡ packetFrom e
 packet-as w {out} p q = ap (λ (x : WingMeters). packet x out) p ∙ ap packetFrom q
+
+-- a load
+pub load-as : {r : WingLoaded} (a : LoadReply) {buffer : List ℕ} {e : LoadEffect} → r ≡ loadedNumbers (a .answer) → loadEffect a buffer ≡ e →
+    tableLoad r buffer ≡ tableLoadOf e
+load-as a {buffer} p q = ap (λ (x : WingLoaded). tableLoad x buffer) p ∙ ap tableLoadOf q
 
 -- a feed
 pub feed-as : {r : WingFed} (f : LentFeedReply) (before : List ℕ) {store state buffer : List ℕ} {e : FeedEffect} →

@@ -3,6 +3,7 @@ mod Effects
 mod Loads
 mod Keeps
 mod Pairs
+mod Listed
 pub mod Said
 mod Answered
 pub mod SaidDefinitions

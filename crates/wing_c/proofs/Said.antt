@@ -27,9 +27,13 @@ use Rattle.wing_mirror.specs.declared.answer.RecordAnswer.{RecordAnswer}
 use Rattle.wing_mirror.specs.declared.answer.RecordAnswer.the-variants.{Record, Refused as RecordRefused}
 use Rattle.wing_mirror.specs.declared.answer.Same.{Same}
 use Rattle.wing_mirror.specs.declared.answer.Same.the-variants.{Yes, No, Refused as SameRefused}
-use Rattle.wing_c.specs.Numbers.{minus, writtenNumbers, bodyNumbers, setNumbers, feedStatus, fedNumbers, lookupNumbers, sameNumber, recordNumbers, eventNumbers, requestedNumbers, metersNumbers}
-use Rattle.wing_c.specs.Meanings.{writtenIn, bodyIn, setIn, feedAnswerIn, countsIn, lookupIn, sameIn, valueIn, recordIn, kindIn, answerIn, requestedIn, metersIn}
-use Rattle.wing_c.specs.Meanings.{OfWritten, OfBody, OfFeed, OfLookup, OfSame, OfRecord, OfNext, OfRequested, OfMeters, NextBeside, NumbersSay}
+use Rattle.wing_listing.specs.Calls.{loadOf}
+use Rattle.wing_listing.specs.declared.answer.Loaded.{Loaded}
+use Rattle.wing_listing.specs.declared.answer.Loaded.the-variants.{Records, Refused as LoadRefused}
+use Rattle.wing_c.specs.Numbers.{minus, writtenNumbers, bodyNumbers, setNumbers, feedStatus, fedNumbers, lookupNumbers, sameNumber, recordNumbers, eventNumbers, requestedNumbers, metersNumbers, loadedNumbers}
+use Rattle.wing_c.specs.Meanings.{writtenIn, bodyIn, setIn, feedAnswerIn, countsIn, lookupIn, sameIn, valueIn, recordIn, kindIn, answerIn, requestedIn, metersIn, loadedIn}
+use Rattle.wing_c.specs.Meanings.{OfWritten, OfBody, OfFeed, OfLookup, OfSame, OfRecord, OfNext, OfRequested, OfMeters, OfLoaded, NextBeside, NumbersSay}
+use Rattle.wing_c.proofs.Listed.{load-told}
 
 -- a refusal's status is below 0, and its number without the sign is the refusal's
 pub below : (n : ℕ) → 1 ≤ n → minus n ≡ negsuc (n - 1)
@@ -120,6 +124,11 @@ unfolding metersIn
 meters (Readings id n) h = refl
 meters (ReadRefused n) h = rw (below n h) (ap ReadRefused (again n h))
 
+load : (a : Loaded) → OfLoaded a → loadedIn (loadedNumbers a) ≡ a
+unfolding loadedIn
+load (Records n) h = refl
+load (LoadRefused n line) h = rw (below n h) (ap (λ (x : ℕ). LoadRefused x line) (again n h))
+
 -- every answer is what its numbers mean
 pub numbers-say : NumbersSay
 numbers-say =
@@ -138,6 +147,9 @@ numbers-say =
       next-beside = next-beside;
       requested = requested;
       meters = meters;
+      load = load;
+      load-call = λ text memory. load (loadOf text memory .reply .answer) (load-told text memory .answer);
+      load-fresh = λ text memory. load-told text memory .fresh;
       refused-zero = λ n. record {
         written = refl;
         body = refl;
@@ -147,6 +159,7 @@ numbers-say =
         next = λ node taken. (refl, refl, refl);
         requested = (refl, refl);
         meters = (refl, refl);
+        load = λ line. refl;
       };
       other-zero = record {
         none = refl;
@@ -159,5 +172,6 @@ numbers-say =
         next-string = λ n node taken. refl;
         next-body = λ n node taken. refl;
         next-end = λ node taken. (refl, refl);
+        loaded = λ n. refl;
       };
     }

@@ -6,6 +6,7 @@ use lib.Dec.{eqb}
 use lib.IntN.{ℤ, pos, negsuc}
 use Rattle.wing_node.specs.Bool.{if}
 use Rattle.wing_node.specs.Signed.{signed, InBits}
+use Rattle.wing_wire.specs.State.{freshState}
 use Rattle.wing_node.specs.declared.value.Value.{Value}
 use Rattle.wing_node.specs.declared.value.Value.the-variants.{Integer, Float, String}
 use Rattle.wing_node.specs.declared.writer.BodyWritten.{BodyWritten}
@@ -27,7 +28,10 @@ use Rattle.wing_mirror.specs.declared.answer.RecordAnswer.{RecordAnswer}
 use Rattle.wing_mirror.specs.declared.answer.RecordAnswer.the-variants.{Record, Refused as RecordRefused}
 use Rattle.wing_mirror.specs.declared.answer.Same.{Same}
 use Rattle.wing_mirror.specs.declared.answer.Same.the-variants.{Yes, No, Refused as SameRefused}
-use Rattle.wing_c.specs.Numbers.{writtenNumbers, bodyNumbers, setNumbers, feedStatus, fedNumbers, lookupNumbers, sameNumber, recordNumbers, eventNumbers, requestedNumbers, metersNumbers}
+use Rattle.wing_listing.specs.Calls.{loadOf}
+use Rattle.wing_listing.specs.declared.answer.Loaded.{Loaded}
+use Rattle.wing_listing.specs.declared.answer.Loaded.the-variants.{Records, Refused as LoadRefused}
+use Rattle.wing_c.specs.Numbers.{writtenNumbers, bodyNumbers, setNumbers, feedStatus, fedNumbers, lookupNumbers, sameNumber, recordNumbers, eventNumbers, requestedNumbers, metersNumbers, loadedNumbers}
 use Rattle.wing_c.specs.declared.answers.WingWritten.{WingWritten}
 use Rattle.wing_c.specs.declared.answers.WingSet.{WingSet}
 use Rattle.wing_c.specs.declared.answers.WingFed.{WingFed}
@@ -36,6 +40,7 @@ use Rattle.wing_c.specs.declared.answers.WingRecord.{WingRecord}
 use Rattle.wing_c.specs.declared.answers.WingEvent.{WingEvent}
 use Rattle.wing_c.specs.declared.answers.WingRequested.{WingRequested}
 use Rattle.wing_c.specs.declared.answers.WingMeters.{WingMeters}
+use Rattle.wing_c.specs.declared.answers.WingLoaded.{WingLoaded}
 
 -- ---- what the numbers mean
 
@@ -44,7 +49,7 @@ abbrev pub byStatus : {A : Type 0} → ℤ → (ℕ → A) → (ℕ → A) → A
 byStatus (negsuc n) refused taken = refused (suc n)
 byStatus (pos n) refused taken = taken n
 
--- a command: how many bytes stand at the front of the output
+-- a command or a listing: how many bytes stand at the front of the output
 unfoldable pub writtenIn : WingWritten → Written
 writtenIn r = byStatus (r .status) Refused (λ _. Bytes (r .len))
 
@@ -107,9 +112,13 @@ requestedIn r = byStatus (r .status) RequestRefused (λ _. RequestWritten (r .le
 unfoldable pub metersIn : WingMeters → MetersRead
 metersIn r = byStatus (r .status) ReadRefused (λ _. Readings (r .id) (r .count))
 
+-- a load: how many records the table has now; or a refusal, and the number of the line that it is about
+unfoldable pub loadedIn : WingLoaded → Loaded
+loadedIn r = byStatus (r .status) (λ n. LoadRefused n (r .line)) (λ _. Records (r .count))
+
 -- ---- which answers there are: a refusal's number is 1 or more, an integer has 32 bits
 
--- of a command
+-- of a command or a listing
 abbrev pub OfWritten : Written → Type 0
 OfWritten (Bytes n) = Unit {0}
 OfWritten (Refused n) = 1 ≤ n
@@ -167,6 +176,11 @@ abbrev pub OfMeters : MetersRead → Type 0
 OfMeters (Readings id n) = Unit {0}
 OfMeters (ReadRefused n) = 1 ≤ n
 
+-- of a load
+abbrev pub OfLoaded : Loaded → Type 0
+OfLoaded (Records n) = Unit {0}
+OfLoaded (LoadRefused n line) = 1 ≤ n
+
 -- ---- what holds of them
 
 -- what stands beside the answer of a feed: the six counts and the records there are
@@ -179,7 +193,7 @@ pub record NextBeside (a : Answer) (current : ℤ) (used : ℕ) : Type 0 where
   pub node : eventNumbers a current used .node ≡ current
   pub taken : eventNumbers a current used .taken ≡ used
 
--- where the status is a refusal, all other fields are 0, but for a count, a record's bytes, an event's node and taken
+-- where the status is a refusal, all other fields are 0, but for the count of a set or a feed, a record's bytes, an event's node and taken, a load's line
 pub record RefusedZero (n : ℕ) : Type 0 where
   pub written : writtenNumbers (Refused n) .len ≡ 0
   pub body : bodyNumbers (BodyRefused n) .len ≡ 0
@@ -189,8 +203,9 @@ pub record RefusedZero (n : ℕ) : Type 0 where
   pub next : (node : ℤ) (taken : ℕ) → let r = eventNumbers (NextRefused n) node taken in (r .value ≡ 0) × (r .len ≡ 0) × (r .kind ≡ 0)
   pub requested : (requestedNumbers (RequestRefused n) .id ≡ 0) × (requestedNumbers (RequestRefused n) .len ≡ 0)
   pub meters : (metersNumbers (ReadRefused n) .id ≡ 0) × (metersNumbers (ReadRefused n) .count ≡ 0)
+  pub load : (line : ℕ) → loadedNumbers (LoadRefused n line) .count ≡ 0
 
--- what a case has not is 0: a lookup of none its number, a number its length, a string or a body its value, an end both
+-- what a case has not is 0: a lookup of none its number, a number its length, a string or a body its value, an end both, a load that is taken its line
 pub record OtherZero : Type 0 where
   pub none : lookupNumbers None .number ≡ 0
   pub integer : (id x : ℤ) (s : List ℕ) → recordNumbers (Record id (Integer x)) s .len ≡ 0
@@ -202,6 +217,7 @@ pub record OtherZero : Type 0 where
   pub next-string : (n : ℕ) (node : ℤ) (taken : ℕ) → eventNumbers (StringAt n) node taken .value ≡ 0
   pub next-body : (n : ℕ) (node : ℤ) (taken : ℕ) → eventNumbers (Body n) node taken .value ≡ 0
   pub next-end : (node : ℤ) (taken : ℕ) → let r = eventNumbers End node taken in (r .value ≡ 0) × (r .len ≡ 0)
+  pub loaded : (n : ℕ) → loadedNumbers (Records n) .line ≡ 0
 
 -- every answer is what its numbers mean
 pub record NumbersSay : Type 0 where
@@ -221,5 +237,10 @@ pub record NumbersSay : Type 0 where
   pub next-beside : (a : Answer) (node : ℤ) (taken : ℕ) → NextBeside a node taken
   pub requested : (r : Requested) → OfRequested r → requestedIn (requestedNumbers r) ≡ r
   pub meters : (m : MetersRead) → OfMeters m → metersIn (metersNumbers m) ≡ m
+  pub load : (a : Loaded) → OfLoaded a → loadedIn (loadedNumbers a) ≡ a
+  -- what a load answers is read back from its numbers, whatever the text and the table memory are; the state beside it, which is not among
+  -- them, is always a fresh one
+  pub load-call : (text memory : List ℕ) → let a = loadOf text memory .reply .answer in loadedIn (loadedNumbers a) ≡ a
+  pub load-fresh : (text memory : List ℕ) → loadOf text memory .reply .state ≡ freshState
   pub refused-zero : (n : ℕ) → RefusedZero n
   pub other-zero : OtherZero

@@ -26,6 +26,8 @@ use Rattle.wing_mirror.specs.declared.answer.RecordAnswer.{RecordAnswer}
 use Rattle.wing_mirror.specs.declared.answer.RecordAnswer.the-variants.{Record, Refused as RecordRefused}
 use Rattle.wing_mirror.specs.declared.answer.Same.{Same}
 use Rattle.wing_mirror.specs.declared.answer.Same.the-variants.{Yes, No, Refused as SameRefused}
+use Rattle.wing_listing.specs.declared.answer.Loaded.{Loaded}
+use Rattle.wing_listing.specs.declared.answer.Loaded.the-variants.{Records, Refused as LoadRefused}
 use Rattle.wing_c.specs.declared.answers.WingWritten.{WingWritten}
 use Rattle.wing_c.specs.declared.answers.WingSet.{WingSet}
 use Rattle.wing_c.specs.declared.answers.WingFed.{WingFed}
@@ -34,12 +36,13 @@ use Rattle.wing_c.specs.declared.answers.WingRecord.{WingRecord}
 use Rattle.wing_c.specs.declared.answers.WingEvent.{WingEvent}
 use Rattle.wing_c.specs.declared.answers.WingRequested.{WingRequested}
 use Rattle.wing_c.specs.declared.answers.WingMeters.{WingMeters}
+use Rattle.wing_c.specs.declared.answers.WingLoaded.{WingLoaded}
 
 -- a refusal's number with a minus sign
 abbrev pub minus : ℕ → ℤ
 minus n = if (eqb n 0) (pos 0) (negsuc (n - 1))
 
--- a command: 0 and the bytes written
+-- a command or a listing: 0 and the bytes written
 abbrev pub writtenNumbers : Written → WingWritten
 writtenNumbers (Bytes n) = record { status = pos 0; len = n }
 writtenNumbers (Refused n) = record { status = minus n; len = 0 }
@@ -123,3 +126,8 @@ requestedNumbers (RequestRefused n) = record { status = minus n; id = 0; len = 0
 abbrev pub metersNumbers : MetersRead → WingMeters
 metersNumbers (Readings id n) = record { status = pos 0; id = id; count = n }
 metersNumbers (ReadRefused n) = record { status = minus n; id = 0; count = 0 }
+
+-- a load: 0 and the records there are; or a refusal and the line that it is about
+abbrev pub loadedNumbers : Loaded → WingLoaded
+loadedNumbers (Records n) = record { status = pos 0; count = n; line = 0 }
+loadedNumbers (LoadRefused n line) = record { status = minus n; count = 0; line = line }

@@ -6,13 +6,15 @@ use Rattle.wing_node.specs.Writer.{BodyEffect}
 use Rattle.wing_wire.specs.Write.{WriteEffect}
 use Rattle.wing_wire.specs.Meter.{RequestEffect, PacketEffect}
 use Rattle.wing_mirror.specs.Mirror.{SetEffect}
-use Rattle.wing_c.specs.Numbers.{writtenNumbers, bodyNumbers, setNumbers, requestedNumbers, metersNumbers}
+use Rattle.wing_listing.specs.Calls.{LoadEffect}
+use Rattle.wing_c.specs.Numbers.{writtenNumbers, bodyNumbers, setNumbers, requestedNumbers, metersNumbers, loadedNumbers}
 use Rattle.wing_c.specs.declared.answers.WingWritten.{WingWritten}
 use Rattle.wing_c.specs.declared.answers.WingSet.{WingSet}
 use Rattle.wing_c.specs.declared.answers.WingRequested.{WingRequested}
 use Rattle.wing_c.specs.declared.answers.WingMeters.{WingMeters}
+use Rattle.wing_c.specs.declared.answers.WingLoaded.{WingLoaded}
 
--- a command, or a definition written: its numbers and the output
+-- a command, a definition written, or a listing: its numbers and the output
 pub record Command : Type 0 where
   pub numbers : WingWritten
   pub out : List ℕ
@@ -68,3 +70,16 @@ packet r out = record { numbers = r; out = out }
 -- of what the library's call leaves
 abbrev pub packetFrom : PacketEffect → Packet
 packetFrom e = packet (metersNumbers (e .answer)) (e .out)
+
+-- a load: its numbers and the table buffer
+pub record TableLoad : Type 0 where
+  pub numbers : WingLoaded
+  pub table : List ℕ
+
+-- numbers and a table buffer
+abbrev pub tableLoad : WingLoaded → List ℕ → TableLoad
+tableLoad r buffer = record { numbers = r; table = buffer }
+
+-- of what the library's call leaves; the state beside its answer is always a fresh one (`load-fresh` in Meanings)
+abbrev pub tableLoadOf : LoadEffect → TableLoad
+tableLoadOf e = tableLoad (loadedNumbers (e .reply .answer)) (e .memory)

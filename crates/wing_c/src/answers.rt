@@ -2,7 +2,8 @@
 ghost use mathlib.Core.Path.{_≡_};
 ghost use Rattle.wing_mirror.specs.Counts.{zeroCounts};
 ghost use Rattle.wing_c.specs.Numbers.{minus as minusOf, writtenNumbers, bodyNumbers, setNumbers, feedStatus, fedNumbers, lookupNumbers, sameNumber};
-ghost use Rattle.wing_c.specs.Numbers.{heldNumbers, recordNumbers, eventAs, noEvent, eventNumbers, requestedNumbers, metersNumbers};
+ghost use Rattle.wing_c.specs.Numbers.{heldNumbers, recordNumbers, eventAs, noEvent, eventNumbers, requestedNumbers, metersNumbers, loadedNumbers};
+use wing_listing::answer::Loaded;
 use wing_mirror::answer::FeedAnswer;
 use wing_mirror::answer::LentFeedReply;
 use wing_mirror::answer::Lookup;
@@ -17,7 +18,7 @@ use wing_wire::meter::Requested;
 use wing_wire::unit::Answer;
 use wing_wire::write::Written;
 
-// A command or a definition: 0 and the bytes written.
+// A command, a definition or a listing: 0 and the bytes written.
 #[repr(C)]
 pub struct WingWritten {
     pub status: i32,
@@ -89,6 +90,14 @@ pub struct WingMeters {
     pub status: i32,
     pub id: u16,
     pub count: usize,
+}
+
+// A load: 0 and the records there are now; or a refusal and the line that it is about, 0 for none.
+#[repr(C)]
+pub struct WingLoaded {
+    pub status: i32,
+    pub count: usize,
+    pub line: usize,
 }
 
 // A refusal's number with a minus sign.
@@ -333,6 +342,23 @@ pub(crate) fn meters(r: MetersRead) -> WingMeters
             status: minus(why),
             id: 0,
             count: 0,
+        },
+    }
+}
+
+pub(crate) fn loaded(a: Loaded) -> WingLoaded
+    ensures { λ r. ⌜ r ≡ loadedNumbers a ⌝ }
+{
+    match a {
+        Loaded::Records(n) => WingLoaded {
+            status: 0,
+            count: n,
+            line: 0,
+        },
+        Loaded::Refused { why, line } => WingLoaded {
+            status: minus(why),
+            count: 0,
+            line: line,
         },
     }
 }

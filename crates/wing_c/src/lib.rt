@@ -5,6 +5,7 @@ pub mod commands;
 pub mod definitions;
 mod kept;
 pub mod laws;
+pub mod listing;
 pub mod mirror;
 pub mod state;
 pub mod writer;

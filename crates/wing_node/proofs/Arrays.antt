@@ -1,5 +1,5 @@
 -- Writes into an array, one element after the other, and into one of zeros.
-use mathlib.Core.Path.{_≡_, _∙_, ap, sym}
+use mathlib.Core.Path.{_≡_, refl, _∙_, ap, sym}
 use mathlib.Core.List.{List, [], _∷_, _++_, append-assoc, append-nil}
 use Prim.Native.Nat.{ℕ, zero, suc, _+_, _-_, _/_, _%_, _≤_, _<_}
 use native.Mathlib.Omega.{arith}
@@ -59,13 +59,12 @@ pub placed-zeros : (m : ℕ) (s : List ℕ) → placed (replicate m 0) 0 s ≡ s
 unfolding placed
 placed-zeros m s = let e : 0 + length s ≡ length s = omega arith in rw (e, drop-replicate (length s) m)
 
--- a minus sign at the start of zeros, and a text after it
-pub placed-after : (m a : ℕ) (s : List ℕ) → 0 < m → placed (set (replicate m 0) 0 a) 1 s ≡ (a ∷ s) ++ replicate (m - length (a ∷ s)) 0
+-- a byte at a place, and a text after it
+pub placed-cons : (d : List ℕ) (at a : ℕ) (s : List ℕ) → at < length d → placed (set d at a) (at + 1) s ≡ placed d at (a ∷ s)
 unfolding placed
-placed-after zero a s h = absurd (omega arith)
-placed-after (suc m) a s h =
-    let e : 1 + length s ≡ suc (length s) = omega arith in
-    rw (e, suc-sub-suc m (length s), drop-replicate (length s) m)
+placed-cons d at a s h =
+    let e : at + 1 + length s ≡ at + length (a ∷ s) = omega arith in
+    rw (e, drop-set-lt (at + length (a ∷ s)) d at a (omega arith), add-one at, take-suc-set d at a h) (append-assoc (take at d) (a ∷ []) (s ++ drop (at + length (a ∷ s)) d))
 
 -- the first n of m bytes, and zeros
 pub zeroed-first : (m n : ℕ) (d : List ℕ) → length d ≡ m → zeroed d n ≡ take n d ++ replicate (m - length (take n d)) 0

@@ -4,9 +4,11 @@ ghost use Prim.Native.Nat.{_+_, _≤_};
 ghost use lib.ListN.{length, take};
 ghost use lib.IntN.{natAbs};
 ghost use Rattle.wing_node.specs.Bytes.{placed, zeroed};
+ghost use Rattle.wing_node.specs.Field.{putAt};
 ghost use Rattle.wing_node.specs.Decimal.{digits, lastDigits};
 ghost use Rattle.wing_node.specs.Decimal.{decimal as decimalOf};
 ghost use Rattle.wing_node.specs.Value.{nodeValue, intIn, stringIn, answerOf, some};
+use crate::field::left;
 
 // A node's value. A string's bytes stand beside it, in an array of 256; the number is its length.
 pub enum Value {
@@ -78,22 +80,33 @@ fn zero_from(from: usize, out: &mut [u8])
 fn decimal(x: i32) -> StringRead
     ensures { λ r. ⌜ r ≡ answerOf (some (decimalOf x)) ⌝ }
 {
-    let n = magnitude(x);
-    let k = places(n);
     let mut bytes = [0u8; 256];
-    if x < 0 {
-        bytes[0] = 0x2d;
-        put_digits(n, 1, k, &mut bytes);
-        return StringRead {
-            answer: StringAnswer::String(k as u16 + 1),
-            bytes,
-        };
-    }
-    put_digits(n, 0, k, &mut bytes);
+    let k = put_decimal(&mut bytes, 0, x);
     StringRead {
         answer: StringAnswer::String(k as u16),
         bytes,
     }
+}
+
+// How many bytes the decimal of x has: they stand in out from a place on, and out is as it was where fewer are left there.
+pub fn put_decimal(out: &mut [u8], at: usize, x: i32) -> usize
+    ensures { λ r. ⌜ (r ≡ length (decimalOf x)) × (now (out .exit) ≡ putAt (decimalOf x) at (now (out .entry)) .bytes) ⌝ }
+{
+    let n = magnitude(x);
+    let k = places(n);
+    let room = left(out, at);
+    if x < 0 {
+        if k < room {
+            out[at] = 0x2d;
+            put_digits(n, at + 1, k, out);
+            return k + 1;
+        }
+        return k + 1;
+    }
+    if k <= room {
+        put_digits(n, at, k, out);
+    }
+    k
 }
 
 // x without its sign; that of the least i32 is no i32, so by its bits.

@@ -1,8 +1,9 @@
 //! Orders of docs/ORDERS.md, answered by this crate: a line each from standard input, a line each to standard output.
 //!
 //! All of the parts 'Mirror' and 'Document 02'; of the others those that the crate has calls for, without `sum` and held bytes.
-//! `bindings/histories` holds the answers against the model of 01 and of 02's first request. Where two of the crate's ways to one answer differ, a `!` stands in it.
+//! `bindings/histories` holds the answers against the model of 01 and of 02's first two requests. Where two of the crate's ways to one answer differ, a `!` stands in it.
 mod definitions;
+mod listings;
 mod mirrors;
 mod singles;
 mod words;
@@ -17,7 +18,7 @@ fn order(held: &mut Held, line: &[u8]) -> Option<String> {
     let text = std::str::from_utf8(line).ok()?;
     let all: Vec<&str> = text.split(' ').collect();
     let (name, given) = all.split_first()?;
-    held.order(name, given).or_else(|| singles::order(name, given))
+    held.order(name, given).or_else(|| held.listing(name, given)).or_else(|| singles::order(name, given))
 }
 
 fn answer(held: &mut Held, line: &[u8]) -> Vec<u8> {

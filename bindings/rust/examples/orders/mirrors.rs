@@ -9,9 +9,9 @@ const UINT32: u64 = u32::MAX as u64;
 pub const BEFORE: u8 = 0xaa;
 
 pub struct Held {
-    state: Vec<u8>,
-    table: Vec<u8>,
-    count: usize,
+    pub state: Vec<u8>,
+    pub table: Vec<u8>,
+    pub count: usize,
     fill: u8,
     /// The mirror of the last dump, and its text.
     last: Option<(Mirror, String)>,
@@ -54,7 +54,7 @@ fn sent(out: &[u8], written: Result<usize, Refusal>) -> String {
 }
 
 /// 7 where the parts make no mirror; another status would be a fault.
-fn only_7(status: i32) -> Refusal {
+pub fn only_7(status: i32) -> Refusal {
     Refusal::check(status).expect_err("a table that makes no mirror was taken")
 }
 
@@ -94,7 +94,7 @@ impl Held {
         Some(format!("places {places}"))
     }
 
-    fn mirror(&self) -> Result<Mirror, Refusal> {
+    pub fn mirror(&self) -> Result<Mirror, Refusal> {
         Mirror::from_parts(&self.state, self.table.clone(), self.count)
     }
 

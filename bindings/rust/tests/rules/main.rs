@@ -1,8 +1,9 @@
-//! The crate against the rules of 01 and 02's first request: byte examples, every refusal, streams cut anywhere, definitions of all
-//! types, read and written.
+//! The crate against the rules of 01 and 02's first two requests: byte examples, every refusal, streams cut anywhere, definitions of all
+//! types, read and written, listings printed and loaded.
 mod commands;
 mod decoder;
 mod definition;
+mod listing;
 mod mirror;
 mod refused;
 mod written;
@@ -66,6 +67,7 @@ fn constants_are_those_of_the_header() {
         ("NAME_MAX", whistleloam::NAME_MAX),
         ("FEED_MAX", whistleloam::FEED_MAX),
         ("STRING_MAX", whistleloam::STRING_MAX),
+        ("LISTING_MAX", whistleloam::LISTING_MAX),
         ("SET_NUMBER_MAX", whistleloam::SET_NUMBER_MAX),
         ("SET_STRING_MAX", whistleloam::SET_MAX),
         ("REQUEST_MAX", whistleloam::REQUEST_MAX),
@@ -129,6 +131,8 @@ fn constants_are_those_of_the_header() {
         refused("REFUSED_NUMBER", Refusal::NUMBER),
         refused("REFUSED_NAME_LONG", Refusal::NAME_LONG),
         refused("REFUSED_FIELDS", Refusal::FIELDS),
+        refused("REFUSED_LINE", Refusal::LINE),
+        refused("REFUSED_ID_ORDER", Refusal::ID_ORDER),
     ];
     let number = |word: &str| match word.strip_prefix("0x") {
         Some(digits) => usize::from_str_radix(digits, 16).ok(),
@@ -150,7 +154,7 @@ fn constants_are_those_of_the_header() {
     assert_eq!(names, defined);
 }
 
-/// The longest orders, requests, keep-alives and packets have as many bytes as the constants say.
+/// The longest orders, lines, requests, keep-alives and packets have as many bytes as the constants say.
 #[test]
 fn the_longest_have_the_greatest_lengths() {
     use whistleloam::*;
@@ -159,6 +163,9 @@ fn the_longest_have_the_greatest_lengths() {
     assert_eq!(set_float(df, f32::from_bits(df as u32)).len(), SET_NUMBER_MAX);
     // U+07df is df 9f.
     assert_eq!(set_string(df, &"\u{7df}".repeat(STRING_MAX / 2)).unwrap().len(), SET_MAX);
+    let mut one = Mirror::new(1).unwrap();
+    one.set(i32::MIN, "x".repeat(STRING_MAX)).unwrap();
+    assert_eq!(one.print().unwrap().len(), "id,kind,value\n".len() + LINE_MAX);
     assert_eq!((request_node_data(df).len(), request_node_definition(df).len()), (REQUEST_MAX, REQUEST_MAX));
     assert_eq!(request_meter(&[Meter::Fx(0xdf); METERS_MAX], 0xdfdf, 0xdfde).unwrap().1.len(), METER_REQUEST_MAX);
     // The bytes of one id, dfdf: the last of the keep-alives to come first.

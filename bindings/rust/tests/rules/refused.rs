@@ -1,4 +1,4 @@
-//! Every number of 01's table 'What is sent back' and of 02's first request, and that what was lent is as it was.
+//! Every number of 01's table 'What is sent back' and of 02's first two requests, and that what was lent is as it was.
 use crate::hex;
 use whistleloam::raw;
 use whistleloam::{
@@ -17,7 +17,8 @@ fn each_number_has_its_cause() {
     let meters = [Meter::Monitor; 65];
     let node = Definition::from_bytes(&hex("00 00 00 00 00 00 00 02 00 00 01 61 00 00 00")).unwrap().fields();
     let listed = Fields { details: Details::Items(1), ..node };
-    let causes: [Result<(), Refusal>; 16] = [
+    let load = |text: &str| Mirror::new(2).unwrap().load(text).map(|_| ()).map_err(Refusal::from);
+    let causes: [Result<(), Refusal>; 18] = [
         first("80 80"),
         first(&("df de 10 01 ".to_string() + &"00 ".repeat(4097))),
         first("df de 00 00 01 02 03 04"),
@@ -34,6 +35,8 @@ fn each_number_has_its_cause() {
         one.feed(&[0; 65537]).map(|_| ()),
         node.to_bytes(&"x".repeat(256), "", &[]).map(|_| ()),
         listed.to_bytes("x", "", &[]).map(|_| ()),
+        load("id,kind,value\n1,i,05\n"),
+        load("id,kind,value\n1,i,5\n1,i,5\n"),
     ];
     for (number, cause) in (1..).zip(causes) {
         let why = cause.expect_err("taken");
@@ -64,6 +67,7 @@ fn a_damaged_table_is_7_at_every_call_and_nothing_is_written() {
         assert_eq!(raw::set_float(&mut t, 1, &mut out, 1, 5).status, -7);
         assert_eq!(raw::set_string(&mut t, 1, &mut out, 1, &[0x80; 300]).status, -7);
         assert_eq!(raw::recall(&t, 1, &mut out).status, -7);
+        assert_eq!(raw::print(&t, 1, &mut out).status, -7);
         assert_eq!(raw::lookup(&t, 1, 1).status, -7);
         assert_eq!(raw::record(&t, 1, 9).status, -7);
         assert_eq!(raw::same(&t, 1, &table(8, 0), 1), -7);
@@ -87,6 +91,8 @@ fn beside_a_refusal_all_fields_are_0() {
     assert_eq!((definition.status, definition.id, definition.index, definition.read_only), (-4, 0, 0, false));
     let step = raw::item_step(&[1], 0, 3, 5);
     assert_eq!((step.item.status, step.item.len, step.walk.at, step.walk.left, step.walk.node_type), (-4, 0, 0, 3, 5));
+    let loaded = raw::load(b"id,kind,value\n?", &mut t);
+    assert_eq!((loaded.status, loaded.count, loaded.line), (-17, 0, 2));
     let requested = raw::request_meter(&mut [], &[], 9, 9);
     assert_eq!((requested.status, requested.id, requested.len), (-9, 0, 0));
 }

@@ -55,7 +55,7 @@ rows-bytes w (suc n) a b h k =
     (bytes-append (take w a) (take w b) (take (w * n) (drop w a)) (take (w * n) (drop w b)) (la ∙ sym lb)
     ∙ ap (λ (t : Bool). if (sameBytes (take w a) (take w b)) t false) (rows-bytes w n (drop w a) (drop w b) (omega (arith, length-drop w a)) (omega (arith, length-drop w b))))
 
-bytes-true : (x y : List ℕ) → sameBytes x y ≡ true → x ≡ y
+pub bytes-true : (x y : List ℕ) → sameBytes x y ≡ true → x ≡ y
 unfolding sameBytes
 bytes-true [] [] h = refl
 bytes-true [] (b ∷ y) h = absurd (false≢true h)
@@ -63,7 +63,7 @@ bytes-true (a ∷ x) [] h = absurd (false≢true h)
 bytes-true (a ∷ x) (b ∷ y) h =
     ap₂ {C = List ℕ} (λ p q. p ∷ q) (eqb-true a b (if-both (eqb a b) (sameBytes x y) h .0)) (bytes-true x y (if-both (eqb a b) (sameBytes x y) h .1))
 
-bytes-refl : (x : List ℕ) → sameBytes x x ≡ true
+pub bytes-refl : (x : List ℕ) → sameBytes x x ≡ true
 unfolding sameBytes
 bytes-refl [] = refl
 bytes-refl (a ∷ x) = rw (eq-eqb a a refl, bytes-refl x)

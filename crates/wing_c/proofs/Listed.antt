@@ -1,0 +1,75 @@
+-- What a load answers is such an answer: a refusal's number is not 0. The state beside it is fresh.
+use Prim.Native.Nat.{ℕ, zero, suc, _/_, _≤_}
+use mathlib.Core.Path.{_≡_, refl}
+use mathlib.Core.List.{List, [], _∷_}
+use native.Mathlib.Omega.{arith}
+use lib.Dec.{eqb, leb}
+use lib.IntN.{ℤ}
+use lib.ListN.{length}
+use borrow.Author.Tests.{eqb-false}
+use Rattle.wing_node.proofs.Branches.{branch}
+use Rattle.wing_wire.specs.State.{freshState}
+use Rattle.wing_mirror.specs.Rows.{Found, found, nothing}
+use Rattle.wing_mirror.specs.Entry.{Entry}
+use Rattle.wing_mirror.specs.Record.{width}
+use Rattle.wing_mirror.specs.Table.{placesAllowed}
+use Rattle.wing_mirror.specs.Query.{sameBytes}
+use Rattle.wing_listing.specs.Parts.{newline, parted}
+use Rattle.wing_listing.specs.Listing.{header}
+use Rattle.wing_listing.specs.Reading.{Reading, good, bad, after, entrySaid, idSaid, lineFault, linesFrom, afterHeader, readingOf}
+use Rattle.wing_listing.specs.Calls.{LoadEffect, loadEntries, loadRead, loadOf}
+use Rattle.wing_c.specs.Meanings.{OfLoaded}
+use Rattle.wing_c.proofs.Answered.{not-zero}
+
+-- of a text
+abbrev OfReading : Reading → Type 0
+OfReading (good es) = Unit {0}
+OfReading (bad why line) = 1 ≤ why
+
+after-reading : (e : Entry) (r : Reading) → OfReading r → OfReading (after e r)
+unfolding after
+after-reading e (good es) h = tt
+after-reading e (bad why line) h = h
+
+lines-reading : (n : ℕ) (before : Found ℤ) (ls : List (List ℕ)) → OfReading (linesFrom n before ls)
+unfolding linesFrom
+lines-reading n before [] = tt
+lines-reading n before (rest ∷ []) = branch OfReading (eqb (length rest) 0) _ _ (λ _. tt) (λ _. omega arith)
+lines-reading n before (line ∷ next ∷ lines) =
+    branch OfReading (eqb (lineFault before line) 0) _ _
+    (λ _. after-reading (entrySaid line) _ (lines-reading (suc n) (found (idSaid line)) (next ∷ lines))) (λ e. not-zero _ (eqb-false _ _ e))
+
+header-reading : (ls : List (List ℕ)) → OfReading (afterHeader ls)
+unfolding afterHeader
+header-reading [] = omega arith
+header-reading (rest ∷ []) = omega arith
+header-reading (line ∷ next ∷ lines) =
+    branch OfReading (sameBytes line header) _ _ (λ _. lines-reading 2 nothing (next ∷ lines)) (λ _. omega arith)
+
+text-reading : (text : List ℕ) → OfReading (readingOf text)
+unfolding readingOf
+text-reading text = header-reading (parted newline text)
+
+-- of what a load leaves
+pub record Told (e : LoadEffect) : Type 0 where
+  pub answer : OfLoaded (e .reply .answer)
+  pub fresh : e .reply .state ≡ freshState
+
+entries-told : (es : List Entry) (memory : List ℕ) → Told (loadEntries es memory)
+unfolding loadEntries
+entries-told es memory =
+    branch Told (leb (length es) (length memory / width)) _ _ (λ _. record { answer = tt; fresh = refl })
+    (λ _. record { answer = omega arith; fresh = refl })
+
+read-told : (r : Reading) (memory : List ℕ) → OfReading r → Told (loadRead r memory)
+unfolding loadRead
+read-told (good es) memory h = entries-told es memory
+read-told (bad why line) memory h = record { answer = h; fresh = refl }
+
+pub load-told : (text memory : List ℕ) → Told (loadOf text memory)
+unfolding loadOf
+load-told text memory =
+    branch Told (placesAllowed (length memory / width)) _ _
+    (λ _.
+    branch Told (leb (length text) 65536) _ _ (λ _. read-told (readingOf text) memory (text-reading text))
+    (λ _. record { answer = omega arith; fresh = refl })) (λ _. record { answer = omega arith; fresh = refl })

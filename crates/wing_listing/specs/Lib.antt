@@ -1,0 +1,11 @@
+pub mod Parts
+pub mod Integers
+pub mod Hex
+pub mod Listing
+pub mod Reading
+pub mod Calls
+pub mod Answers
+pub mod Steps
+pub mod FirstBad
+pub mod BothWays
+pub mod Cases
