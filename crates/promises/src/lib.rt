@@ -13,6 +13,7 @@ ghost use Rattle.wing_saved.specs.Saved.{SavedLaws};
 ghost use Rattle.wing_listing.specs.BothWays.{BothWays as ListedBothWays};
 ghost use Rattle.wing_listing.specs.Cases.{Case as ListedCase, cases as listedCases};
 ghost use Rattle.wing_mirror.specs.Record.{full};
+ghost use Rattle.wing_mirror.specs.HighEnd.{SearchReads};
 ghost use Rattle.wing_mirror.specs.History.{Agreement, Equality, Rebuilding, Histories};
 ghost use Rattle.promises.specs.Node.{Walks};
 ghost use Rattle.promises.specs.Wire.{withEvent, PiecesJoin};
@@ -111,6 +112,12 @@ pub fn saved_states()
 // for every text that loads.
 pub fn listing_both_ways()
     ensures { λ _. ⌜ ListedBothWays ⌝ }
+{}
+
+// The search for a node's record (02), whose place and finding lookup answers: in every table that is taken it reads the ids above the one asked, and one
+// more if any is not above it.
+pub fn search_reads()
+    ensures { λ _. ⌜ SearchReads full ⌝ }
 {}
 
 // The cases that 01 marks #: what the definitions give in each is what 01 wants.

@@ -12,3 +12,4 @@ pub mod Ids
 pub mod Full
 pub mod Entries
 pub mod Lookups
+pub mod Searches

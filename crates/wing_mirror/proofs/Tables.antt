@@ -6,6 +6,7 @@ pub mod Moves
 pub mod Laying
 pub mod Placing
 pub mod Finds
+pub mod HighEnd
 pub mod Numbers
 pub mod Tests
 pub mod Images

@@ -10,6 +10,7 @@ pub mod Answers
 pub mod Lookups
 pub mod Puts
 pub mod Order
+pub mod HighEnd
 pub mod Counts
 pub mod Call
 pub mod Mirror

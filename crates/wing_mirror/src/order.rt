@@ -6,12 +6,32 @@ ghost use Rattle.wing_mirror.specs.Rows.{row as rowOf, records, nextAbov
 ghost use Rattle.wing_mirror.specs.Record.{keyOf};
 ghost use Rattle.wing_mirror.specs.Table.{table as tableOf};
 ghost use Rattle.wing_mirror.specs.Order.{positionOf, InOrder};
+ghost use Rattle.wing_mirror.specs.HighEnd.{countedOf};
 use crate::record;
 
 // How many records have a lower key, and whether the next has this one.
 pub struct Position {
     pub number: usize,
     pub found: bool,
+}
+
+// A position, and how many keys were read to find it.
+pub struct Counted {
+    pub position: Position,
+    pub reads: usize,
+}
+
+fn stopped(number: usize, found: bool, reads: usize) -> Counted
+    ensures { λ r. ⌜ r ≡ record { position = record { number = number; found = found }; reads = reads } ⌝ }
+{
+    let position = Position {
+        number: number,
+        found: found,
+    };
+    Counted {
+        position: position,
+        reads: reads,
+    }
 }
 
 // The places of a buffer for records of a width.
@@ -39,32 +59,36 @@ fn key_at(table: &[u8], width: usize, number: usize) -> u32
     record::key(row(table, width, number))
 }
 
-// From the high end, down to the first key that is not above `key`: where ids come in rising order, the first test answers.
+// 02: from the high end, down to the first key that is not above `key`, and how many keys are read: where ids come in rising order, one.
+fn search_down(table: &[u8], width: usize, count: usize, key: u32) -> Counted
+    requires { ⌜ InOrder width (tableOf (now table) count) ⌝ }
+    ensures { λ r. ⌜ r ≡ countedOf keyOf key (records width count (now (table .entry))) ⌝ }
+{
+    let mut i = count;
+    let mut found = false;
+    let mut reads = 0;
+    while i > 0 {
+        let last = key_at(table, width, i - 1);
+        reads += 1;
+        if last < key {
+            return stopped(i, found, reads);
+        }
+        i -= 1;
+        found = last == key;
+        if last <= key {
+            return stopped(i, found, reads);
+        }
+    }
+    stopped(i, found, reads)
+}
+
+// Where a key stands; callers have no use for the count.
 pub(crate) fn search(table: &[u8], width: usize, count: usize, key: u32) -> Position
     requires { ⌜ InOrder width (tableOf (now table) count) ⌝ }
     ensures { λ r. ⌜ r ≡ positionOf keyOf key (records width count (now (table .entry))) ⌝ }
 {
-    let mut i = count;
-    while i > 0 {
-        let last = key_at(table, width, i - 1);
-        if last <= key {
-            if last == key {
-                return Position {
-                    number: i - 1,
-                    found: true,
-                };
-            }
-            return Position {
-                number: i,
-                found: false,
-            };
-        }
-        i -= 1;
-    }
-    Position {
-        number: 0,
-        found: false,
-    }
+    let counted = search_down(table, width, count, key);
+    counted.position
 }
 
 // The record after that of a number, if there is one, has a higher key.

@@ -30,7 +30,7 @@ module _ {A : Type 0} (key : A → ℕ) where
   holds-last k [] x h = rw h
   holds-last k (y ∷ xs) x h = ap (λ (t : Bool). if (eqb (key y) k) true t) (holds-last k xs x h)
 
-  last-above : (y : A) (xs : List A) (x : A) → rising key (y ∷ (xs ++ (x ∷ []))) ≡ true → key y < key x
+  pub last-above : (y : A) (xs : List A) (x : A) → rising key (y ∷ (xs ++ (x ∷ []))) ≡ true → key y < key x
   last-above y [] x r = ltb-true (key y) (key x) (unfold over in rising-head key y (x ∷ []) r)
   last-above y (z ∷ xs) x r =
       let l : key y < key z = ltb-true (key y) (key z) (unfold over in rising-head key y (z ∷ (xs ++ (x ∷ []))) r) in
@@ -68,15 +68,15 @@ rows-last w zero b h = absurd (omega arith)
 rows-last w (suc i) b h = let z : suc i - 1 ≡ i = omega arith in rw z (rows-snoc w i b)
 
 -- a record's number and whether it has the key
-abbrev position : ℕ → Bool → Position
+abbrev pub position : ℕ → Bool → Position
 position number found = record { number = number; found = found }
 
 -- a turn of the search: the last of i records has a higher key, a lower one or the one asked
 module _ (w : ℕ) (key : List ℕ → ℕ) (k i : ℕ) (b : List ℕ) (some : 0 < i) where
-  abbrev front : List (List ℕ)
+  abbrev pub front : List (List ℕ)
   front = records w (i - 1) b
 
-  abbrev last : List ℕ
+  abbrev pub last : List ℕ
   last = row w (i - 1) b
 
   abbrev rs : List (List ℕ)
