@@ -75,7 +75,7 @@ fn search_down(table: &[u8], width: usize, count: usize, key: u32) -> Counted
         }
         i -= 1;
         found = last == key;
-        if last <= key {
+        if found {
             return stopped(i, found, reads);
         }
     }

@@ -5,7 +5,7 @@ use mathlib.Core.Bool.{true, false}
 use mathlib.Core.Path.{_≡_, refl, sym, _∙_}
 use native.Mathlib.Omega.{arith}
 use borrow.Author.Needs.{needs}
-use borrow.Author.Tests.{eq-eqb, ne-eqb}
+use borrow.Author.Tests.{eq-eqb, ne-eqb, eqb-true, eqb-false}
 use Rattle.wing_mirror.specs.Rows.{records, rising}
 use Rattle.wing_mirror.specs.Record.{keyOf}
 use Rattle.wing_mirror.specs.HighEnd.{countedOf}
@@ -63,7 +63,7 @@ returns-2 c =
     let a = c .before .before .before .before .before .before .before .args in
     let l = c .before .before .before .before .before .loop in
     let k = c .before .before .before .key-at in
-    let e : k .result ≡ a .key = omega arith in
+    let e : k .result ≡ a .key = omega (arith, eqb-true) in
     rw (eq-eqb (k .result) (a .key) e) at (c .stopped2 .ensures)
     ∙ sym (l .inv .1 ∙ stops-there (a .width) keyOf (a .key) (l .i) (l .reads) (a .table .now) (c .before .before .before .before .loop-test .taken) (l .inv .2) (sym (k .ensures) ∙ e))
 
@@ -76,7 +76,7 @@ loop-again c =
     let l = c .before .before .before .before .loop in
     let k = c .before .before .key-at in
     let some = c .before .before .before .loop-test .taken in
-    let h : a .key < k .result = omega arith in (
+    let h : a .key < k .result = omega (arith, eqb-false) in (
       omega arith,
       l .inv .1 ∙ goes-down (a .width) keyOf (a .key) (l .i) (l .reads) (a .table .now) some (rw (k .ensures) at h),
       fewer (a .width) keyOf (a .key) (l .i) (a .table .now) some (l .inv .2),
