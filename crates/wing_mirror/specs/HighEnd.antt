@@ -23,12 +23,12 @@ unfoldable pub aboveAndOne : {A : Type 0} → (A → Bool) → List A → ℕ
 aboveAndOne above xs = length (filter above xs) + if (every above xs) 0 1
 
 module _ {A : Type 0} (key : A → ℕ) where
-  -- the keys read one after the other, up to the first that is not above k
+  -- how many keys are read, one after the other down to the first that is not above k
   unfoldable pub readInTurn : ℕ → List A → ℕ
   readInTurn k [] = 0
   readInTurn k (x ∷ xs) = if (ltb k (key x)) (suc (readInTurn k xs)) 1
 
-  -- 02: begin at the last one and go down
+  -- 02: a search begins at the last one
   unfoldable pub reads : ℕ → List A → ℕ
   reads k xs = readInTurn k (reverse xs)
 

@@ -45,6 +45,12 @@ module _ {A : Type 0} (p : A → Bool) where
       go true ih h = ap (λ (l : List A). x ∷ l) (ih h)
       go false ih h = cc
 
+  -- where none passes, nothing is left
+  pub filter-none : (xs : List A) → All (λ (x : A). p x ≡ false) xs → filter p xs ≡ []
+  unfolding filter
+  filter-none [] h = refl
+  filter-none (x ∷ xs) h = filter-out x xs (h .0) ∙ filter-none xs (h .1)
+
   -- all that is left passes
   pub every-filter : (xs : List A) → every p (filter p xs) ≡ true
   unfolding filter every
@@ -98,6 +104,12 @@ module _ {A : Type 0} (p : A → Bool) where
       go : (t : Bool) → All P (filter p xs) → All P (if t (x ∷ filter p xs) (filter p xs))
       go true ih = (h .0, ih)
       go false ih = ih
+
+-- two tests that agree on all elements
+pub filter-same : {A : Type 0} (p q : A → Bool) (xs : List A) → All (λ (x : A). p x ≡ q x) xs → filter p xs ≡ filter q xs
+unfolding filter
+filter-same p q [] h = refl
+filter-same p q (x ∷ xs) h = rw (h .0, filter-same p q xs (h .1))
 
 -- the image filtered is the image of those whose images pass
 pub filter-map : {A B : Type 0} (p : B → Bool) (f : A → B) (xs : List A) → filter p (map f xs) ≡ map f (filter (λ (x : A). p (f x)) xs)

@@ -73,10 +73,10 @@ position number found = record { number = number; found = found }
 
 -- a turn of the search: the last of i records has a higher key, a lower one or the one asked
 module _ (w : ℕ) (key : List ℕ → ℕ) (k i : ℕ) (b : List ℕ) (some : 0 < i) where
-  abbrev pub front : List (List ℕ)
+  abbrev front : List (List ℕ)
   front = records w (i - 1) b
 
-  abbrev pub last : List ℕ
+  abbrev last : List ℕ
   last = row w (i - 1) b
 
   abbrev rs : List (List ℕ)

@@ -6,7 +6,7 @@ use mathlib.Core.List.{List, [], _∷_, _++_, map, reverse, reverse-cons, revers
 use native.Mathlib.Omega.{arith}
 use borrow.Author.Tests.{lt-ltb, le-ltb, ltb-false}
 use lib.Dec.{ltb}
-use lib.ListN.{length, length-append}
+use lib.ListN.{length, length-append, length-map}
 use Rattle.wing_node.specs.Bool.{if}
 use Rattle.wing_mirror.specs.Rows.{row, records, rising, All}
 use Rattle.wing_mirror.specs.Table.{every}
@@ -17,51 +17,30 @@ use Rattle.wing_mirror.specs.declared.order.Position.{Position}
 use Rattle.wing_mirror.specs.declared.order.Counted.{Counted}
 use Rattle.wing_mirror.proofs.Tables.Ordered.{rising-tail}
 use Rattle.wing_mirror.proofs.Tables.Finds.{last-above, rising-front, rows-last, position, down, stops, hits, none-left}
-use Rattle.wing_mirror.proofs.Lists.Filtered.{filter-out, filter-append}
+use Rattle.wing_mirror.proofs.Tables.Images.{every-map, every-last}
+use Rattle.wing_mirror.proofs.Lists.Filtered.{filter-append, filter-none, filter-same, filter-map}
 
 module _ {A : Type 0} (above : A → Bool) where
-  every-last : (xs : List A) (x : A) → above x ≡ true → every above (xs ++ (x ∷ [])) ≡ every above xs
-  unfolding every
-  every-last [] x h = rw h
-  every-last (y ∷ xs) x h = ap (λ (t : Bool). if (above y) t false) (every-last xs x h)
-
   -- one more above, after others
   one-above : (xs : List A) (x : A) → above x ≡ true → aboveAndOne above (xs ++ (x ∷ [])) ≡ suc (aboveAndOne above xs)
   unfolding aboveAndOne filter
   one-above xs x h =
       let l : length (filter above (xs ++ (x ∷ []))) ≡ length (filter above xs) + 1 =
       ap length (filter-append above xs (x ∷ [])) ∙ length-append (filter above xs) (filter above (x ∷ [])) ∙ rw h in
-      rw (every-last xs x h) (omega arith)
-
-  filter-none : (xs : List A) → All (λ (x : A). above x ≡ false) xs → filter above xs ≡ []
-  unfolding filter
-  filter-none [] a = refl
-  filter-none (x ∷ xs) a = filter-out above x xs (a .0) ∙ filter-none xs (a .1)
+      rw (every-last above xs x h) (omega arith)
 
   -- some, and none of them above
   none-above : (x : A) (xs : List A) → All (λ (x : A). above x ≡ false) (x ∷ xs) → aboveAndOne above (x ∷ xs) ≡ 1
   unfolding aboveAndOne every
-  none-above x xs a = rw (filter-none (x ∷ xs) a, a .0)
+  none-above x xs a = rw (filter-none above (x ∷ xs) a, a .0)
 
 -- where an element is above exactly if its image is, as many of the images are
-module _ {A B : Type 0} (p : A → Bool) (q : B → Bool) (f : A → B) where
-  length-map : (xs : List A) → All (λ (x : A). p x ≡ q (f x)) xs → length (filter p xs) ≡ length (filter q (map f xs))
-  unfolding filter
-  length-map [] a = refl
-  length-map (x ∷ xs) a = rw (a .0) (go (q (f x)) (length-map xs (a .1)))
-    where
-      go : (t : Bool) → length (filter p xs) ≡ length (filter q (map f xs)) → length (if t (x ∷ filter p xs) (filter p xs)) ≡ length (if t (f x ∷ filter q (map f xs)) (filter q (map f xs)))
-      go true ih = ap suc ih
-      go false ih = ih
-
-  every-map : (xs : List A) → All (λ (x : A). p x ≡ q (f x)) xs → every p xs ≡ every q (map f xs)
-  unfolding every
-  every-map [] a = refl
-  every-map (x ∷ xs) a = rw (a .0, every-map xs (a .1))
-
-  pub above-map : (xs : List A) → All (λ (x : A). p x ≡ q (f x)) xs → aboveAndOne p xs ≡ aboveAndOne q (map f xs)
-  unfolding aboveAndOne
-  above-map xs a = ap₂ (λ (n : ℕ) (t : Bool). n + if t 0 1) (length-map xs a) (every-map xs a)
+pub above-map : {A B : Type 0} (p : A → Bool) (q : B → Bool) (f : A → B) (xs : List A) → All (λ (x : A). p x ≡ q (f x)) xs → aboveAndOne p xs ≡ aboveAndOne q (map f xs)
+unfolding aboveAndOne
+above-map {A} p q f xs a =
+    let r : A → Bool = λ x. q (f x) in
+    let m : length (filter q (map f xs)) ≡ length (filter r xs) = ap length (filter-map q f xs) ∙ length-map (filter r xs) f in
+    ap₂ (λ (n : ℕ) (t : Bool). n + if t 0 1) (ap length (filter-same p r xs a) ∙ sym m) (every-map p q f xs a)
 
 module _ {A : Type 0} (key : A → ℕ) (k : ℕ) where
   abbrev above : A → Bool

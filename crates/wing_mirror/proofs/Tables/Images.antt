@@ -1,8 +1,9 @@
 -- Ordered lists under a map that keeps the keys; what all elements of a list share.
 use Prim.Native.Nat.{ℕ}
-use mathlib.Core.Bool.{Bool, true}
-use mathlib.Core.Path.{_≡_, refl, sym, _∙_}
+use mathlib.Core.Bool.{Bool, true, false}
+use mathlib.Core.Path.{_≡_, refl, sym, _∙_, ap}
 use mathlib.Core.List.{List, [], _∷_, _++_, map}
+use Rattle.wing_node.specs.Bool.{if}
 use Rattle.wing_mirror.specs.Rows.{holds, over, rising, insert, All}
 use Rattle.wing_mirror.specs.Table.{every}
 use Rattle.wing_mirror.proofs.Tables.Ordered.{Cmp, cmp, low, same, high, insert-low, insert-same, insert-high}
@@ -57,7 +58,18 @@ unfolding every
 every-all p [] h = refl
 every-all p (x ∷ xs) h = rw (h .0, every-all p xs (h .1))
 
+-- the same test of the images
+pub every-map : {A B : Type 0} (p : A → Bool) (q : B → Bool) (f : A → B) (xs : List A) → All (λ (x : A). p x ≡ q (f x)) xs → every p xs ≡ every q (map f xs)
+unfolding every
+every-map p q f [] h = refl
+every-map p q f (x ∷ xs) h = rw (h .0, every-map p q f xs (h .1))
+
 -- one element more at the end
+pub every-last : {A : Type 0} (p : A → Bool) (xs : List A) (x : A) → p x ≡ true → every p (xs ++ (x ∷ [])) ≡ every p xs
+unfolding every
+every-last p [] x h = rw h
+every-last p (y ∷ xs) x h = ap (λ (t : Bool). if (p y) t false) (every-last p xs x h)
+
 pub all-last : {A : Type 0} (P : A → Type 0) (xs : List A) (x : A) → All P xs → P x → All P (xs ++ (x ∷ []))
 all-last P [] x h p = (p, tt)
 all-last P (y ∷ xs) x h p = (h .0, all-last P xs x (h .1) p)
