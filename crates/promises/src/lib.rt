@@ -1,6 +1,6 @@
 // The three demands. What is promised of a call is the contract of a function of the same name that does nothing but the call
-// (node.rt, wire.rt, saved.rt, mirror.rt, listing.rt), so that it hangs on the code. What is promised of whole streams and histories is the contract of a
-// function with an empty body, here. The gate prints a 'proved' line for each.
+// (node.rt, wire.rt, saved.rt, mirror.rt, listing.rt), so that it hangs on the code. What is promised of whole streams and histories, and of the search's count, which no
+// call answers, is the contract of a function with an empty body, here. The gate prints a 'proved' line for each.
 ghost use mathlib.Core.Path.{_≡_};
 ghost use mathlib.Core.List.{map};
 ghost use Rattle.wing_node.specs.Written.{ReadsBack};
@@ -114,8 +114,8 @@ pub fn listing_both_ways()
     ensures { λ _. ⌜ ListedBothWays ⌝ }
 {}
 
-// The search for a node's record (02), whose place and finding lookup answers: in every table that is taken it reads the ids above the one asked, and one
-// more if any is not above it.
+// The search for a node's record (02): in every usable table it reads the ids above the one asked, and one more if any is not above it. The contract of
+// the mirror's private order::search_down equates the code's count with what this is about.
 pub fn search_reads()
     ensures { λ _. ⌜ SearchReads full ⌝ }
 {}

@@ -10,10 +10,10 @@ use lib.Signed.{ltZ}
 use Rattle.wing_node.specs.Bool.{if}
 use Rattle.wing_node.specs.Signed.{InBits}
 use Rattle.wing_wire.specs.Range.{AreBytes}
-use Rattle.wing_mirror.specs.Rows.{Table, found, nothing}
+use Rattle.wing_mirror.specs.Rows.{Table}
 use Rattle.wing_mirror.specs.Entry.{rankOf, ids}
 use Rattle.wing_mirror.specs.Layout.{Layout}
-use Rattle.wing_mirror.specs.Table.{every, rows, usable, lookupOf}
+use Rattle.wing_mirror.specs.Table.{every, rows, usable}
 use Rattle.wing_mirror.specs.Lists.{filter}
 use Rattle.wing_mirror.specs.Order.{positionOf}
 use Rattle.wing_mirror.specs.declared.order.Counted.{Counted}
@@ -23,12 +23,12 @@ unfoldable pub aboveAndOne : {A : Type 0} → (A → Bool) → List A → ℕ
 aboveAndOne above xs = length (filter above xs) + if (every above xs) 0 1
 
 module _ {A : Type 0} (key : A → ℕ) where
-  -- how many keys are read, one after the other down to the first that is not above k
+  -- how many keys are read, one after the other down to the first that is not above k, that one too
   unfoldable pub readInTurn : ℕ → List A → ℕ
   readInTurn k [] = 0
   readInTurn k (x ∷ xs) = if (ltb k (key x)) (suc (readInTurn k xs)) 1
 
-  -- 02: a search begins at the last one
+  -- 02: how many keys a search reads that begins at the last one
   unfoldable pub reads : ℕ → List A → ℕ
   reads k xs = readInTurn k (reverse xs)
 
@@ -39,14 +39,8 @@ countedOf key k rs = record { position = positionOf key k rs; reads = reads key 
 module _ (L : Layout) where
   open Layout L using (keyOf, entryIn)
 
-  -- the search for an id's record
-  abbrev pub searched : Table → ℤ → Counted
-  searched t id = countedOf keyOf (rankOf id) (rows L t)
-
-  -- of any usable table; bytes are below 256 and ids have 32 bits, as their types say
-  pub record SearchReads : Type 0 where
-    -- its place and finding are what lookup answers
-    pub answers : (t : Table) (id : ℤ) → lookupOf L id t ≡ if (searched t id .position .found) (found (searched t id .position .number)) nothing
-    -- 02: the ids above the one asked, and one more if any is not above it
-    pub counts : (t : Table) (id : ℤ) → AreBytes (t .buffer) → InBits 31 id → usable L t ≡ true →
-        searched t id .reads ≡ aboveAndOne (λ (i : ℤ). ltZ id i) (ids (map entryIn (rows L t)))
+  -- 02: in a usable table the search for an id's record reads the ids above the one asked, and one more if any is not above it; bytes are below 256
+  -- and ids have 32 bits, as their types say
+  abbrev pub SearchReads : Type 0
+  SearchReads = (t : Table) (id : ℤ) → AreBytes (t .buffer) → InBits 31 id → usable L t ≡ true →
+      countedOf keyOf (rankOf id) (rows L t) .reads ≡ aboveAndOne (λ (i : ℤ). ltZ id i) (ids (map entryIn (rows L t)))

@@ -59,7 +59,7 @@ fn key_at(table: &[u8], width: usize, number: usize) -> u32
     record::key(row(table, width, number))
 }
 
-// 02: from the high end, down to the first key that is not above `key`, and how many keys are read: where ids come in rising order, one.
+// 02: from the high end, down to the first key that is not above `key`, and how many keys are read: where ids come in rising order, at most one.
 fn search_down(table: &[u8], width: usize, count: usize, key: u32) -> Counted
     requires { ⌜ InOrder width (tableOf (now table) count) ⌝ }
     ensures { λ r. ⌜ r ≡ countedOf keyOf key (records width count (now (table .entry))) ⌝ }
@@ -73,6 +73,7 @@ fn search_down(table: &[u8], width: usize, count: usize, key: u32) -> Counted
         if last < key {
             return stopped(i, found, reads);
         }
+        // An equal one ends the search when the place has moved to it.
         i -= 1;
         found = last == key;
         if found {

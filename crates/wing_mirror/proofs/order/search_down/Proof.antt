@@ -1,4 +1,5 @@
--- The invariant: what the search answers is what it answers over the first i records, whose keys rise, after the keys that were read; the id is not found yet.
+-- The invariant: i records are left of those that were not read, their keys rise, and the search answers what it answers over these, after the keys that were read;
+-- the id is not found yet.
 -- A turn reads a last key that is higher (law `goes-down`); one that is lower or the same ends the loop (laws `stops-below`, `stops-there`).
 use Prim.Native.Nat.{_+_, _<_}
 use mathlib.Core.Bool.{true, false}
