@@ -83,10 +83,11 @@ def console(folder):
     t.drop_line("self._keep_alive_meters(&mut m)?;")
     t.drop_line("set_read_timeout(Some(m.keep_alive_meters_timer")
     t.drop_from("    pub fn name_to_id", "impl Drop for WingConsole", "}\n\n")
-    # What the driver is told: the token that is read, and the count and body of a definition.
-    t.swap("    current_node_id:         i32,\n", "    current_node_id:         i32,\n    token: Option<u8>,\n    count: u32,\n    body: Option<Vec<u8>>,\n")
+    # What the driver is told: the token that is read, the count and body of a definition, and the 32 bits after a count 0.
+    t.swap("    current_node_id:         i32,\n", "    current_node_id:         i32,\n    token: Option<u8>,\n    count: u32,\n    long: u32,\n    body: Option<Vec<u8>>,\n")
     t.swap("let (ch, cmd) = self.decode_next(&mut main, &mut raw)?;",
            "main.token = None; let (ch, cmd) = self.decode_next(&mut main, &mut raw)?; main.token = Some(cmd);")
+    t.swap("let _ = self.read_u32(&mut main, ch, &mut raw)?;", "let long = self.read_u32(&mut main, ch, &mut raw)?; main.long = long;")
     t.swap("                raw.clear();\n", "                raw.clear(); main.count = def_len;\n")
     t.swap("return Ok(WingResponse::NodeDef(", "main.body = Some(raw.clone()); return Ok(WingResponse::NodeDef(")
     with open(os.path.join(HERE, "driver", "inside.rs"), encoding="utf-8") as f:

@@ -28,7 +28,8 @@
 extern "C" {
 #endif
 
-/* The bytes of a decoder state: the fields, then the store of a string or body that is not yet whole. */
+/* The bytes of a decoder state: the fields, the first of which is the version of their form (2), then the store of a string or body that
+ * is not yet whole. */
 #define WING_STATE_SIZE 4123
 /* The bytes of a place: id (4, signed), kind (1), 00, length (2), payload (256, filled up with 0). Numbers are big-endian. */
 #define WING_PLACE_WIDTH 264
@@ -111,8 +112,8 @@ extern "C" {
 
 /* Refusals: a status is one of these with a minus sign. */
 #define WING_REFUSED_STRING 1              /* a string that is not UTF-8 */
-#define WING_REFUSED_BODY_LONG 2           /* a definition's count over 4,096; a body to be written that is longer */
-#define WING_REFUSED_BODY_EMPTY 3          /* a definition's count 0 */
+#define WING_REFUSED_BODY_LONG 2           /* a definition's count in force over 4,096; a body to be written that is longer */
+#define WING_REFUSED_BODY_EMPTY 3          /* a definition's count 0, and the 32-bit count after it 0 too */
 #define WING_REFUSED_DEFINITION_SHORT 4    /* a definition's field past the end */
 #define WING_REFUSED_DEFINITION_STRING 5   /* a definition's string that is not UTF-8 */
 #define WING_REFUSED_NO_PLACE 6            /* a new node, and no place left; a listing of more records than places */
@@ -273,8 +274,13 @@ typedef struct WingFields {
 WingWritten wing_state_fresh(uint8_t *state, size_t state_len);
 
 /* Whether the bytes are those of a sound state: 0. Every state that a call left is one; others may be. Lent to be read: state.
- * Refused: 8 (also for any other length than WING_STATE_SIZE). */
+ * Refused: 8 (also for any other length than WING_STATE_SIZE, and for version 1). */
 int32_t wing_state_check(const uint8_t *state, size_t state_len);
+
+/* A state that was kept under version 1, before a definition's count could have 32 bits: lays it into the output (WING_STATE_SIZE bytes) as
+ * today's, with its units left, stored bytes and all else the same. Lent to be read: earlier; to be written: state.
+ * Refused: 8, if the bytes are no sound state's of version 1 or it has taken any of the four units after a count of 0; 9. */
+WingWritten wing_state_carry_over(const uint8_t *earlier, size_t earlier_len, uint8_t *state, size_t state_len);
 
 /* The next event of a stream that comes in any pieces. Lent to be read: bytes (at most WING_FEED_MAX); to be written: state, and out (at
  * least WING_BODY_LIMIT bytes), at whose front a string's or body's bytes stand after an event of that kind, those after them as they

@@ -12,14 +12,15 @@ from orders import define, node, wire, writers
 from orders.compact import summed
 from orders.listing import ListingOrders
 from orders.mirrors import MirrorOrders
-from orders.words import OutOfForm, demand, hex_of
+from orders.wire import REPEATED
+from orders.words import UINT32, OutOfForm, count, demand, hex_of
 from rules.decoder import CALL_LIMIT
 from rules.listing import BadLine, listing, load
 from rules.mirror import WIDTH, Mirror
 from rules.refusal import Refusal
 
 LINE = 16384        # the longest line that shell reads
-HELD = 70000        # the most bytes that it holds for a later order
+HELD = 80000        # the most bytes that it holds for a later order
 LISTED = 128        # places of the program mirror
 RECALLED = 1024     # places of the program recall
 # What the program recall says of a refusal, by its number.
@@ -38,13 +39,23 @@ class Orders:
         self.held = b""
         # Orders that have no sum: those to the mirror and to the bytes held, and those of 02.
         mirrors = MirrorOrders()
-        self.unsummed = {**mirrors.table(), **ListingOrders(mirrors).table(), **define.TABLE, b"more": ((1,), self.more)}
+        self.unsummed = {**mirrors.table(), **ListingOrders(mirrors).table(), **define.TABLE, b"more": ((1,), self.more),
+                         b"mores": ((2,), self.mores)}
 
-    def more(self, word):
-        data = self.held + hex_of(word)
+    def hold(self, more):
+        data = self.held + more
         demand(len(data) <= HELD)
         self.held = data
         return "held %d" % len(data)
+
+    def more(self, word):
+        return self.hold(hex_of(word))
+
+    def mores(self, times, word):
+        """The bytes so many times over."""
+        times, data = count(times, UINT32), hex_of(word)
+        demand(times * len(data) <= REPEATED)
+        return self.hold(data * times)
 
     def long_order(self, name, words):
         wanted, answer = self.LONG[name]

@@ -95,6 +95,8 @@ pub fn all() -> Vec<Case> {
             s("i0000000000000005@00000004.0ffffffff000000000")),
         case("count 0", s("stream dfd1df000000000000"), || read(&[0xdf, 0xd1, 0xdf, 0, 0, 0, 0, 0, 0]), "panics: out of bounds",
             s("r03@00000009.000000001000000000")),
+        case("count 0, then a long count", s("stream dfd1df00000000000141"), || read(&[0xdf, 0xd1, 0xdf, 0, 0, 0, 0, 0, 1, 0x41]), "panics: out of bounds",
+            s("b41:r04@0000000a.000000001000000000")),
         case("count over 4,096", format!("stream {}", pairs(&count_4097())), || read(&count_4097()), "definition of 4097 bytes",
             s("r02@00001006.000000001000000000")),
         case("a field past the end of a body", s("definition -"), || parse(&[]), "panics: out of bounds", s("r04")),

@@ -17,6 +17,7 @@ impl WingConsole {
                 current_node_id: 0,
                 token: None,
                 count: 0,
+                long: 0,
                 body: None,
             })),
             mtrs: Arc::new(Mutex::new(_WingConsoleMeters { meters: None, next_meter_id: 0 })),
@@ -45,6 +46,22 @@ impl WingConsole {
 
     pub fn count(&self) -> u32 {
         self.main.lock().unwrap().count
+    }
+
+    /// The 32 bits that were read after a count 0.
+    pub fn long(&self) -> u32 {
+        self.main.lock().unwrap().long
+    }
+
+    /// What the next n units append, by decode_next.
+    pub fn appended(&mut self, n: u32) -> Result<Vec<u8>> {
+        let main = self.main.clone();
+        let mut main = main.lock().unwrap();
+        let mut raw = Vec::new();
+        for _ in 0..n {
+            self.decode_next(&mut main, &mut raw)?;
+        }
+        Ok(raw)
     }
 
     /// The body that went to from_bytes since the last call.

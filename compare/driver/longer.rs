@@ -3,7 +3,7 @@
 use crate::inputs;
 use crate::oracle;
 use crate::orders::{Order, HELD};
-use crate::queries::{damaged, escaped, meter_items, token, tokens, Dice};
+use crate::queries::{count_units, damaged, escaped, meter_items, token, tokens, Dice};
 
 type Each<'a> = &'a mut dyn FnMut(&'static str, Order);
 
@@ -199,19 +199,24 @@ fn outputs(d: &mut Dice, n: usize, each: Each) {
     }
 }
 
-// Counts that are completed far over 4,096, 65,535 among them, with tokens after the body.
+// Counts that are completed far over 4,096, 65,535 and more among them, with tokens after the body.
 fn large_counts(d: &mut Dice, n: usize, each: Each) {
     for i in 0..n {
-        let count = if i % 2 == 0 { 65535 } else { 4097 + d.below(61_000) };
+        let count = match i % 4 {
+            0 => 65535,
+            1 => 4097 + d.below(61_000),
+            2 => 65536 + d.below(2),
+            _ => 65536 + d.below(4465),
+        };
         let mut s = if d.one_in(2) { vec![0xdf, 0xd1, 0xdf] } else { vec![0xdf, 0xdf] };
-        s.extend(escaped(&(count as u16).to_be_bytes()));
+        s.extend(count_units(d, count));
         let body: Vec<u8> = (0..count).map(|_| if d.one_in(40) { d.telling() } else { d.below(0xdf) as u8 }).collect();
         s.extend(escaped(&body));
         let after = tokens(d, 3);
         s.extend(after);
         s.truncate(HELD);
         let sizes = if d.one_in(4) { vec![65535] } else { sizes(d) };
-        each("completed counts up to 65,535", Order::Pieces(sizes, s));
+        each("completed counts up to 70,000", Order::Pieces(sizes, s));
     }
 }
 

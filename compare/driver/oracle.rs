@@ -150,10 +150,6 @@ fn value(out: &mut Vec<u8>, node: i32, d: &WingNodeData) {
 
 // A definition that libwing has read: its body with what the parser says, unless its count is refused.
 fn read_body(out: &mut Vec<u8>, count: u32, body: &[u8], parsed: std::thread::Result<WingNodeDef>, t: &mut Tally) {
-    if count == 0 {
-        t.met("count 0");
-        return refused(out, 3);
-    }
     if count > 4096 {
         t.met("count over 4,096");
         return refused(out, 2);
@@ -170,6 +166,31 @@ fn read_body(out: &mut Vec<u8>, count: u32, body: &[u8], parsed: std::thread::Re
         }
         Err(panic) => body_refused(out, panic, t),
     }
+}
+
+// After a count 0 libwing reads four units and goes on as if there were no body. The rules' 32-bit count is these; the units
+// after them are libwing's own.
+fn long_body(out: &mut Vec<u8>, c: &mut WingConsole, t: &mut Tally) -> Result<(), Error> {
+    let count = c.long();
+    if count == 0 {
+        t.met("count 0 and long count 0");
+        refused(out, 3);
+        return Ok(());
+    }
+    let body = c.appended(count)?;
+    t.met("count 0 and another long count");
+    let parsed = catch_unwind(|| WingNodeDef::from_bytes(&body));
+    read_body(out, count, &body, parsed, t);
+    Ok(())
+}
+
+// A definition that libwing has handed to from_bytes.
+fn definition_read(out: &mut Vec<u8>, c: &mut WingConsole, body: &[u8], parsed: std::thread::Result<WingNodeDef>, t: &mut Tally) -> Result<(), Error> {
+    if c.count() == 0 {
+        return long_body(out, c, t);
+    }
+    read_body(out, c.count(), body, parsed, t);
+    Ok(())
 }
 
 // Whether the stream goes on after a panic that is none of from_bytes.
@@ -202,14 +223,14 @@ fn event(out: &mut Vec<u8>, c: &mut WingConsole, t: &mut Tally) -> Result<bool, 
         Ok(Ok(WingResponse::NodeData(node, d))) => value(out, node, &d),
         Ok(Ok(WingResponse::NodeDef(d))) => {
             let body = c.body().unwrap();
-            read_body(out, c.count(), &body, Ok(d), t);
+            definition_read(out, c, &body, Ok(d), t)?;
         }
         Ok(Err(Error::InvalidData)) => refused(out, 1),
         Ok(Err(e)) => return Err(e),
         Err(panic) => {
             c.unpoison();
             match c.body() {
-                Some(body) => read_body(out, c.count(), &body, Err(panic), t),
+                Some(body) => definition_read(out, c, &body, Err(panic), t)?,
                 None => return after_panic(out, c, t),
             }
         }

@@ -29,7 +29,7 @@ use Order::*;
 
 /// The longest line that shell takes, and the most bytes that it holds.
 const LINE: usize = 16384;
-pub const HELD: usize = 70000;
+pub const HELD: usize = 80000;
 
 /// The bytes that one line `more ..` adds.
 const CHUNK: usize = 8000;

@@ -209,8 +209,19 @@ fn definition_token(d: &mut Dice, out: &mut Vec<u8>) {
     }
     out.push(0xdf);
     let n = if d.one_in(6) { d.below(40) } else { b.len() };
-    out.extend(escaped(&(n as u16).to_be_bytes()));
+    out.extend(count_units(d, n));
     out.extend(escaped(&b));
+}
+
+/// A count, one in four times, and always over 65,535, as a 32-bit one after count 0; now and then one that no stream has the units of.
+pub fn count_units(d: &mut Dice, n: usize) -> Vec<u8> {
+    if n <= 65535 && !d.one_in(4) {
+        return escaped(&(n as u16).to_be_bytes());
+    }
+    let n = if d.one_in(40) { [65536 + n, 0x1000000 + n, 0xffff_ffff][d.below(3)] } else { n };
+    let mut out = vec![0, 0];
+    out.extend(escaped(&(n as u32).to_be_bytes()));
+    out
 }
 
 pub fn tokens(d: &mut Dice, n: usize) -> Vec<u8> {
@@ -237,7 +248,7 @@ fn long_body(d: &mut Dice) -> Vec<u8> {
     }
     b.truncate(n);
     let mut out = vec![0xdf, 0xd1, 0xdf];
-    out.extend(escaped(&(n as u16).to_be_bytes()));
+    out.extend(count_units(d, n));
     out.extend(escaped(&b));
     out.truncate(64000);
     out.extend([0x05, 0xde]);

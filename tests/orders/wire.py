@@ -4,6 +4,7 @@ from orders.node import definition_text
 from orders.states import MOST, by_number, inside_text
 from orders.words import UINT16, UINT32, count, demand, hex_of, number
 from rules.decoder import CALL_LIMIT, State, check_call, escape, events, is_sound, pending_unit
+from rules.earlier import SIZE, carry_over
 from rules.refusal import Refusal
 
 FRONT = 63          # the longest front that the order streams takes
@@ -91,6 +92,16 @@ def state(name, times, word):
     return "sound=%s %s" % (sound, read_text(s, data * times)) + inside_text(s)
 
 
+def earlier(head, store, word):
+    """A state of version 1 by its fields and the front of its store, carried over; then a stream from it."""
+    saved, data = hex_of(head) + hex_of(store), hex_of(word)
+    try:
+        s = carry_over(saved + bytes(max(0, SIZE - len(saved))))
+    except Refusal as r:
+        return refused(r.number)
+    return "carried " + read_text(s, data) + inside_text(s)
+
+
 def splits(word):
     """How many cuts are tried: this decoder goes by the byte, and 01 lets no cut tell."""
     length = len(hex_of(word))
@@ -104,5 +115,5 @@ def lent(word):
 
 
 LONG = {b"stream": (1, stream), b"pieces": (2, pieces), b"piecelist": (2, piece_list)}
-TABLE = {b"streams": ((1,), streams), b"units": ((1,), units), b"state": ((3,), state), b"splits": ((1,), splits),
+TABLE = {b"streams": ((1,), streams), b"units": ((1,), units), b"state": ((3,), state), b"splits": ((1,), splits), b"earlier": ((3,), earlier),
          b"lent": ((1,), lent)}

@@ -3,14 +3,15 @@ from orders.words import pairs
 from randoms.odd import ODD
 from randoms.single import Single
 from randoms.source import LINE_BYTES
+from rules.command import escaped
 from rules.numbers import unsigned_bytes
 
 # Orders out of form: they leave the bytes as they are.
 LEAVING = ("packet 4201 +", "pieces 65536 +", "piecelist 0 +", "piecelist 1, +", "stream + ", "sum more 00", "more 0", "units +",
            "sum units +", "lent +", "feed +", "stream ++", "more +", "sum sum stream +", "definition + +", "load +",
-           "lines +", "loads 1 +")
+           "lines +", "loads 1 +", "mores 1 +", "sum mores 1 00", "mores 1", "mores 65601 00", "earlier - - +")
 # Around the most bytes of one call of next, and around the most that are held.
-FULL = (65535, 65536, 65537, 65540, 69999, 70000, 70001, 75000)
+FULL = (65535, 65536, 65537, 65540, 69999, 70000, 79999, 80000, 80001, 85000)
 
 
 def more_lines(source, data):
@@ -63,5 +64,18 @@ def full(source):
     return ["stream +"] + lines + ["more " + pairs(bytes(source.pick(1, 100)))] + ["sum stream +", "sum " + last, "stream +"]
 
 
+def long_body(source):
+    """A body whose count comes as 02's long one, around the limits of 16 bits and of the store, and the tokens after it."""
+    count = source.pick(0, 1, 4095, 4096, 4097, 65534, 65535, 65536, 65537, 70000)
+    front = source.short_stream(40) + escaped(source.count_units(count))
+    unit = source.pick(b"A", b"\xdf\xde", b"\xdf\xdf", b"\xdf\xd4A")
+    times = min(count, 60000 // len(unit)) if len(unit) > 1 else count
+    lines = ["more " + pairs(front), "mores %d %s" % (min(times, 60000), pairs(unit)), "mores %d 42" % max(0, min(times - 60000, 15000))]
+    size = source.pick(1, 2, 3, 7, 8, 100, 4096, 65535, source.r.randrange(1, 65536))
+    return lines + ["more " + pairs(source.short_stream(40)), source.pick("sum pieces %d +" % size, "pieces %d +" % size)]
+
+
 def held(source):
-    return full(source) if source.chance(0.15) else some(source)
+    if source.chance(0.15):
+        return full(source)
+    return long_body(source) if source.chance(0.2) else some(source)

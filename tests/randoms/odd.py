@@ -24,7 +24,7 @@ ODD = (
     "getstring 1 " + "41" * 257, "getstring 1", "sum", "sum sum utf8 41", "sum feed 00", "sum cuts", "sum stream",
     "sum dump", "sum units", "sum lent", "sum state 0 0", "sum more 00", "cuts", "cuts +", "item 4294967296 00",
     "item 0", "item -1 00", "step 0 0 0", "step 65536 0 0 00", "step 0 65536 0 00", "step 0 0 65536 00", "walk", "walk 0",
-    "walk +", "units", "units 0", "state 28 1 -", "state 0 65601 00", "state 0 1", "state -1 1 00", "state 0 4294967296 -",
+    "walk +", "units", "units 0", "state 35 1 -", "earlier", "earlier 00 00", "earlier 0 - -", "earlier - - - -", "earlier - - +", "mores", "mores 1", "mores x 00", "mores 1 00 00", "mores 65601 00", "state 0 65601 00", "state 0 1", "state -1 1 00", "state 0 4294967296 -",
     "splits", "splits " + "00" * 4201, "lent", "lent +", "more", "more +", "more 0", "mirror", "exit", "?", "? dump", "-",
     "sum ", "STREAM 00", "stream  00", "dump ", "dump  ", "more 00 00", "more 0g", "more AB", "more  00", "stream + +", "pieces +",
     "pieces + 00", "piecelist 1", "piecelist", "piecelist 1 1 00", "piecelist 1,,1 00", "piecelist 1,0 00", "piecelist -1 00",
@@ -52,7 +52,7 @@ def changed(source, line):
 EDGES = (
     "repeat 65600 40", "repeat 4294967295 -", "repeat 32800 4041", "peek 0 0", "poke 0 -", "count 4294967295", "count 0",
     "streams " + "40" * 63, "utf8s " + "41" * 255, "splits " + "41" * 200, "getters 2 " + "41" * 256, "item 4294967295 00",
-    "state 27 65600 40", "state 0 65536 40", "pieces 65535 05", "lookup -2147483648", "lookup 2147483647", "lookup -0",
+    "state 34 65600 40", "mores 65600 00", "mores 0 00", "mores 4294967295 -", "state 0 65536 40", "pieces 65535 05", "lookup -2147483648", "lookup 2147483647", "lookup -0",
     "lookup 0000000001", "record 4294967295", "keepalive 851968 1 0", "packet 4200 00000000", "packet 0 00000000", "more -",
     "stream +", "definition +", "piecelist " + ",".join(["1"] * 64) + " 0505", "piecelist " + ",".join(["1"] * 65) + " 0505",
 ) + odd_define.EDGES + odd_listing.EDGES

@@ -6,14 +6,16 @@ from randoms.define import Definitions
 from randoms.listing import Listings
 from randoms.source import LINE_BYTES
 from rules.command import data_request, definition_request, format_id, keep_alives, meter_request, set_bytes
+from rules.decoder import State, events
 from rules.definition import Definition, refusal_of
+from rules.earlier import earlier_bytes
 from rules.refusal import Refusal
 
 WIDE = 10**6
 # Rooms around which the code goes another way: the largest number, id, meter request and string, and the limits of the orders.
 SWITCHES = (0, 1, 9, 10, 11, 17, 18, 19, 211, 212, 213, 394, 395, 396, 511, 512, 513, 16383, 16384)
 EDGES = (0x7F, 0x80, 0x8F, 0x90, 0x9F, 0xA0, 0xBF, 0xC0, 0xC1, 0xC2, 0xDF, 0xE0, 0xED, 0xEF, 0xF0, 0xF4, 0xF5, 0xFF)
-SOUND = (0, 5, 6, 7, 10, 11, 16, 18, 22, 23)        # the numbers of the sound states
+SOUND = (0, 5, 6, 7, 10, 11, 16, 18, 22, 23, 24, 28, 29, 31, 33)        # the numbers of the sound states
 # Lists of sizes out of form.
 ODD_LISTS = ("0", "-", "+", "x", ",", "1,", ",1", "1,,2", "1,0,2", "-1", "65536", "1,65536", "00000000001", "1;2", ",".join(["1"] * 65))
 
@@ -184,6 +186,20 @@ class Single:
         number = self.s.pick(0, self.r.choice(SOUND), self.r.randrange(MOST + 1))
         return "state %d %d %s" % (number, times, pairs(data))
 
+    def earlier_state(self):
+        """The bytes of version 1 of what a stream leaves; the decoder's rule on counts is today's, so that some had no such form."""
+        s = State()
+        for _ in events(s, self.s.stream()[:LINE_BYTES]):
+            pass
+        head, store = earlier_bytes(s)
+        return self.s.pick(head, head, head, self.s.damaged(head, 1)), store
+
+    def earlier(self):
+        head, store = self.earlier_state()
+        if self.s.chance(0.1):
+            store = self.s.pick(b"", store + b"\x00", store + b"\x01", b"\x00" * 4096, b"\x00" * 4097, store[:-1])
+        return "earlier %s %s %s" % (pairs(head), pairs(store[:4200]), pairs(self.s.short_stream(60)))
+
     def splits(self):
         return "splits " + pairs(self.s.pick(self.s.telling(24), self.s.short_stream(24), self.s.stream()[:120]))
 
@@ -194,7 +210,7 @@ class Single:
         return "sum " + self.r.choice((
             self.stream, self.pieces, self.piece_list, self.streams, self.definition, self.utf8s, self.set_string,
             self.ask_meters, self.ask_meters_fill, self.keep_alive, self.packet, self.getters, self.cuts, self.item, self.step, self.walk, self.units,
-            self.state, self.lent))()
+            self.state, self.earlier, self.lent))()
 
     def order(self):
         return self.r.choice(self.kinds())()
@@ -204,7 +220,7 @@ class Single:
         return ((self.stream, self.definition, self.define) * 6 + (self.again,) * 5 + (self.listing,) * 4
                 + (self.pieces, self.set_int, self.set_string, self.ask_meters, self.step) * 3
                 + (self.piece_list, self.utf8, self.set_float, self.packet, self.item, self.walk, self.units, self.lent,
-                   self.state, self.summed, self.getters, self.ask_meters_fill) * 2
+                   self.state, self.earlier, self.earlier, self.summed, self.getters, self.ask_meters_fill) * 2
                 + (self.format, self.ask, self.keep_alive, self.get_string, self.cuts, self.splits, self.more, self.taking))
 
     def rare(self):

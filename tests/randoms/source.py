@@ -121,15 +121,23 @@ class Source:
                          lambda: bytes([self.pick(0xD5, 0xD6)]) + self.field(4), lambda: b"\xd0", self.string_units,
                          self.string_units)()
 
+    def count_units(self, count):
+        """df and a count, now and then as 02's long one."""
+        if count > 65535 or self.chance(0.3):
+            return b"\xdf\x00\x00" + unsigned_bytes(count, 4)
+        return b"\xdf" + unsigned_bytes(count, 2)
+
     def body_units(self):
         body = self.definition()
         count = len(body) if self.chance(0.9) else self.pick(0, len(body) + 1, max(len(body) - 1, 0))
-        return b"\xdf" + unsigned_bytes(count, 2) + body
+        return self.count_units(count) + body
 
     def wide_body_units(self):
-        """A count around 01's limit."""
+        """A count around 01's limit. A longer one comes to its end only in another feed, or never."""
         count = self.pick(4095, 4096, 4097, 4098, 6000)
-        return b"\xdf" + unsigned_bytes(count, 2) + (self.good_definition() + bytes(count))[:count]
+        if self.chance(0.1):
+            return self.count_units(self.pick(65535, 65536, 65537, 70000, 2**24 + 5, 2**32 - 1)) + self.good_definition()
+        return self.count_units(count) + (self.good_definition() + bytes(count))[:count]
 
     def token_units(self):
         kind = self.r.random()

@@ -1,4 +1,4 @@
-"""01, 'Escapes' and 'Tokens': a console's bytes become units, and units become events."""
+"""01, 'Escapes' and 'Tokens', with 02's rule on counts: a console's bytes become units, and units become events."""
 from rules.numbers import signed, unsigned
 from rules.refusal import refuse_if
 from rules.utf8 import is_utf8
@@ -8,7 +8,7 @@ CALL_LIMIT = 65536      # 01: "The next call takes up to 65,536 bytes"
 
 # Units that a token wants after its first one, of the kinds whose units spell a number. d2 wants two and d9 one.
 NUMBERS = {"length": (1,), "int16": (2,), "int32": (4,), "float": (4,), "node": (4,), "skipped": (1, 2), "count": (2,),
-           "zerocount": (4,)}
+           "longcount": (4,)}
 
 # 01's table, of the first units that begin such a token.
 FIRST = {0xD1: ("length", 1), 0xD2: ("skipped", 2), 0xD3: ("int16", 2), 0xD4: ("int32", 4), 0xD5: ("float", 4),
@@ -46,7 +46,7 @@ def can_want(s):
     if s.kind == "string":
         return 1 <= s.want <= 256
     if s.kind == "body":
-        return 1 <= s.want <= 65535
+        return 1 <= s.want <= 0xFFFFFFFF
     return s.want in NUMBERS.get(s.kind, ()) and 0 <= s.number < 256 ** s.collected()
 
 
@@ -147,7 +147,7 @@ def string_event(s, data):
 
 
 def body_event(want, data):
-    """01: "Count over 4,096 reads all c units, then answers 2"."""
+    """01: "Count over 4,096 reads all c units, then answers 2"; 02: "2 that the count in force is over 4,096"."""
     return ("body", data) if want <= BODY_LIMIT else ("refused", 2)
 
 
@@ -158,15 +158,17 @@ def number_event(s, kind, number, want):
         return "value", s.node, ("i", signed(data))
     if kind == "float":
         return "value", s.node, ("f", data)
-    if kind == "zerocount":
-        return "refused", 3
+    if kind == "longcount" and number == 0:
+        return "refused", 3     # 02: "Refusal 3 now means that both counts are 0"
     if kind == "node":
         s.node = signed(data)
     elif kind == "length":
         begin(s, "string", unsigned(data) + 1)
-    elif kind == "count":
-        # 01: "Count 0 reads four more units, then answers 3".
-        begin(s, *(("body", number) if number > 0 else ("zerocount", 4)))
+    elif kind == "count" and number == 0:
+        begin(s, "longcount", 4)
+    elif kind in ("count", "longcount"):
+        # 02: "count 0 and then a 32-bit count .. the 32-bit count is the count".
+        begin(s, "body", number)
     return None
 
 

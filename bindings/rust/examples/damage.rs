@@ -5,7 +5,7 @@
 //! call may give, and a refused call must have changed nothing. Ends with the totals; status 1 at the first fault.
 use std::process::exit;
 use whistleloam::raw;
-use whistleloam::{Decoder, Definition, Details, Mirror, Refusal, Value, BODY_LIMIT, PLACE_WIDTH};
+use whistleloam::{Decoder, Definition, Details, Mirror, Refusal, Value, BODY_LIMIT, PLACE_WIDTH, STATE_SIZE};
 
 struct Dice(u64);
 
@@ -177,6 +177,24 @@ impl Pool {
         must("feed", unsound == (fed.status == -8) && unsound == (got.status == -8));
         if let Some(mut decoder) = self.totals.of("restore", Decoder::restore(&again), &[8]) {
             self.events(&mut decoder, &bytes);
+        }
+        self.earlier(again, &bytes);
+    }
+
+    /// The same bytes under version 1: what is carried over is, but for the version, what it was.
+    fn earlier(&mut self, mut state: Box<[u8]>, bytes: &[u8]) {
+        if let Some(version) = state.first_mut() {
+            *version -= u8::from(*version == 2);
+        }
+        let mut out = vec![0xaa; STATE_SIZE - usize::from(self.dice.one_in(8))].into_boxed_slice();
+        let over = raw::state_carry_over(&state, &mut out);
+        if self.totals.note("state_carry_over", over.status, &[8, 9]) {
+            must("state_carry_over", out.iter().all(|b| *b == 0xaa) && over.len == 0);
+        } else {
+            must("state_carry_over", over.len == STATE_SIZE && out[1..] == state[1..] && raw::state_check(&out) == 0);
+        }
+        if let Some(mut decoder) = self.totals.of("carry_over", Decoder::carry_over(&state), &[8]) {
+            self.events(&mut decoder, bytes);
         }
     }
 

@@ -1,4 +1,4 @@
-use crate::mirror::{fresh_state, value_of};
+use crate::mirror::{carried_state, fresh_state, value_of};
 use crate::raw;
 use crate::{Definition, Refusal, Value, BODY_LIMIT, FEED_MAX};
 
@@ -105,10 +105,34 @@ impl Decoder {
     /// The decoder whose state was saved. Refused: 8.
     pub fn restore(saved: &[u8]) -> Result<Decoder, Refusal> {
         Refusal::check(raw::state_check(saved))?;
-        let mut decoder = Decoder { state: saved.into(), out: store(), handed: 0, node: 0 };
+        Ok(Decoder::of(saved.into()))
+    }
+
+    /// The decoder whose state was saved under version 1, by a release before a definition's count could have 32 bits. It reads on
+    /// where that one stood. Refused: 8, also if it has taken any of the four units after a count of 0.
+    ///
+    /// ```
+    /// use whistleloam::{Decoder, Event, Refusal, Value};
+    ///
+    /// // A string of three bytes, of which two had come.
+    /// let mut saved = vec![0; 4123];
+    /// saved[..20].copy_from_slice(&[1, 0, 0xff, 0, 0, 0, 0, 0, 7, 2, 0, 0, 0, 0, 3, 0, 0, 0, 1, 0]);
+    /// saved[27..29].copy_from_slice(b"AB");
+    /// let mut decoder = Decoder::carry_over(&saved)?;
+    /// assert_eq!(decoder.events(b"C").next(), Some(Ok(Event::Value(7, Value::from("ABC")))));
+    /// assert_eq!(Decoder::restore(&saved).err(), Some(Refusal::STATE));
+    /// # Ok::<(), Refusal>(())
+    /// ```
+    pub fn carry_over(saved: &[u8]) -> Result<Decoder, Refusal> {
+        Ok(Decoder::of(carried_state(saved)?))
+    }
+
+    /// Of a sound state.
+    fn of(state: Box<[u8]>) -> Decoder {
+        let mut decoder = Decoder { state, out: store(), handed: 0, node: 0 };
         // A call without an output is refused (9), so that it alters nothing; it tells the node nevertheless.
         decoder.node = raw::next(&mut decoder.state, &[], &mut []).node;
-        Ok(decoder)
+        decoder
     }
 }
 

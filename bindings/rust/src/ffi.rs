@@ -255,6 +255,12 @@ mod library {
     extern "C" {
         pub fn wing_state_fresh(state: *mut u8, state_len: usize) -> WingWritten;
         pub fn wing_state_check(state: *const u8, state_len: usize) -> i32;
+        pub fn wing_state_carry_over(
+            earlier: *const u8,
+            earlier_len: usize,
+            state: *mut u8,
+            state_len: usize,
+        ) -> WingWritten;
         pub fn wing_next(
             state: *mut u8,
             state_len: usize,
@@ -373,11 +379,22 @@ pub fn state_fresh(state: &mut [u8]) -> WingWritten {
 /// Whether the bytes are those of a sound state: 0. Every state that a call left is one; others may be. Lent to be
 /// read: state.
 ///
-/// Refused: 8 (also for any other length than 4,123).
+/// Refused: 8 (also for any other length than 4,123, and for version 1).
 pub fn state_check(state: &[u8]) -> i32 {
     // SAFETY: `state` is borrowed and only read. The call stays within the lengths and keeps no
     // address.
     unsafe { library::wing_state_check(state.as_ptr(), state.len()) }
+}
+
+/// A state that was kept under version 1, before a definition's count could have 32 bits: lays it into the output
+/// (4,123 bytes) as today's, with its units left, stored bytes and all else the same. Lent to be read: earlier; to be
+/// written: state.
+///
+/// Refused: 8, if the bytes are no sound state's of version 1 or it has taken any of the four units after a count of 0; 9.
+pub fn state_carry_over(earlier: &[u8], state: &mut [u8]) -> WingWritten {
+    // SAFETY: `state` is borrowed for this call alone; `earlier` is borrowed and only read. The call
+    // stays within the lengths and keeps no address.
+    unsafe { library::wing_state_carry_over(earlier.as_ptr(), earlier.len(), state.as_mut_ptr(), state.len()) }
 }
 
 /// The next event of a stream that comes in any pieces. Lent to be read: bytes (at most

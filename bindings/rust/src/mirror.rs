@@ -48,6 +48,13 @@ fn lay_fresh(state: &mut [u8]) {
     );
 }
 
+/// A state of version 1 as today's.
+pub(crate) fn carried_state(saved: &[u8]) -> Result<Box<[u8]>, Refusal> {
+    let mut state = vec![0; STATE_SIZE].into_boxed_slice();
+    Refusal::check(raw::state_carry_over(saved, &mut state).status)?;
+    Ok(state)
+}
+
 /// The bytes of a listing's header.
 const HEADER: usize = 14;
 
@@ -244,7 +251,19 @@ impl Mirror {
     pub fn restore(saved: &[u8]) -> Result<Mirror, Refusal> {
         let state = saved.get(..STATE_SIZE).ok_or(Refusal::STATE)?;
         Refusal::check(raw::state_check(state))?;
-        let rest = &saved[STATE_SIZE..];
+        Mirror::with_rest(state, &saved[STATE_SIZE..])
+    }
+
+    /// The mirror that was saved under version 1, by a release before a definition's count could have 32 bits. Its decoder reads on
+    /// where that one stood; count and records are the same. Refused: 8, also if the state has taken any of the four units after a count of
+    /// 0; 7, as [`restore`](Mirror::restore) has it.
+    pub fn carry_over(saved: &[u8]) -> Result<Mirror, Refusal> {
+        let state = carried_state(saved.get(..STATE_SIZE).ok_or(Refusal::STATE)?)?;
+        Mirror::with_rest(&state, &saved[STATE_SIZE..])
+    }
+
+    /// Of a state, and of the count, the places and the records after it.
+    fn with_rest(state: &[u8], rest: &[u8]) -> Result<Mirror, Refusal> {
         let (count, places) = (number_at(rest, 0)?, number_at(rest, 4)?);
         let records = &rest[8..];
         if !(1..=PLACES_MAX).contains(&places) || count > places || records.len() != count * PLACE_WIDTH {

@@ -9,3 +9,4 @@ mod Writers
 mod Savers
 mod Calls
 mod Listings
+mod Carries

@@ -14,10 +14,10 @@ use Rattle.wing_node.proofs.Branches.{branch}
 use Rattle.wing_wire.specs.State.{bodyLimit}
 use Rattle.wing_wire.specs.Token.{ruleOf}
 use Rattle.wing_wire.specs.Escape.{decodeOf}
-use Rattle.wing_wire.specs.Unit.{singleOf, tokenOf, beginOf, countOf, numberOf, shiftIn, numberUnit, UnitEffect, stringDone, stringUnit, keeps, bodyDone, bodyNext, bodyUnit, unitOf}
+use Rattle.wing_wire.specs.Unit.{singleOf, tokenOf, beginOf, countOf, longCountOf, numberOf, shiftIn, numberUnit, UnitEffect, stringDone, stringUnit, keeps, bodyDone, bodyNext, bodyUnit, unitOf}
 use Rattle.wing_wire.specs.Stream.{StepEffect, isMore, pendingOf, settleOf, givenOf, firstOf, followOf, stepOf, runOf, advanceOf}
 use Rattle.wing_wire.specs.declared.token.Class.{Class}
-use Rattle.wing_wire.specs.declared.token.Class.the-variants.{NoEvent, Integer, String, Length, Int16, Int32, Float, Node, End, Count, ZeroCount}
+use Rattle.wing_wire.specs.declared.token.Class.the-variants.{NoEvent, Integer, String, Length, Int16, Int32, Float, Node, End, Count, LongCount}
 use Rattle.wing_wire.specs.declared.state.Pending.{Pending}
 use Rattle.wing_wire.specs.declared.state.Pending.the-variants.{None, Byte}
 use Rattle.wing_wire.specs.declared.state.Escape.{Escape}
@@ -74,10 +74,10 @@ single-none Float t = refl
 single-none Node t = refl
 single-none End t = refl
 single-none Count t = refl
-single-none ZeroCount t = refl
+single-none LongCount t = refl
 
 number-says : (node : ℤ) (class : Class) (v : ℕ) → SaysTaken (numberOf node class v)
-unfolding numberOf countOf
+unfolding numberOf countOf longCountOf
 number-says node NoEvent v = not-refused More Between refl
 number-says node Integer v = not-refused More Between refl
 number-says node String v = not-refused More Between refl
@@ -88,8 +88,8 @@ number-says node Float v = not-refused (aFloat v) Between refl
 number-says node Node v = not-refused More Between refl
 number-says node End v = not-refused More Between refl
 number-says node Count v =
-    branch SaysTaken (eqb (v % 0x10000) 0) _ _ (λ _. not-refused More (Number ZeroCount 4 0) refl) (λ _. not-refused More (InBody (v % 0x10000) (v % 0x10000) 0) refl)
-number-says node ZeroCount v = refuses 3 (inr (inr (inl refl)))
+    branch SaysTaken (eqb (v % 0x10000) 0) _ _ (λ _. not-refused More (Number LongCount 4 0) refl) (λ _. not-refused More (InBody (v % 0x10000) (v % 0x10000) 0) refl)
+number-says node LongCount v = branch SaysTaken (eqb v 0) _ _ (λ _. refuses 3 (inr (inr (inl refl)))) (λ _. not-refused More (InBody v v 0) refl)
 
 body-says : (node : ℤ) (want left stored : ℕ) → SaysTaken (bodyNext node want left stored)
 unfolding bodyNext bodyDone

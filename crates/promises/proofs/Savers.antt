@@ -16,7 +16,9 @@ use Rattle.wing_wire.specs.declared.state.State.{State}
 use Rattle.wing_wire.specs.declared.write.Written.the-variants.{Bytes, Refused}
 use Rattle.wing_saved.specs.Saved.{stateBytes, stateFrom, saveOf, loadedAs, loadedResult, loadOf, Typed, Saves}
 use Rattle.wing_saved.proofs.Saving.Trips.{loaded-result, saved-laws}
-use Rattle.promises.specs.Saved.{SaveCall, LoadCall}
+use Rattle.wing_saved.specs.Earlier.{earlierFrom, carriedFrom, loadEarlierOf}
+use Rattle.wing_saved.proofs.Saving.Before.{earlier-laws}
+use Rattle.promises.specs.Saved.{SaveCall, LoadCall, LoadEarlierCall}
 use Rattle.promises.proofs.Lines.{unless}
 use Rattle.promises.proofs.Writers.{at-front, came, Kept, Rest, refused-rest, written-rest, command-writes}
 
@@ -59,4 +61,15 @@ load-call bytes are =
       back = λ s g. e ∙ saved-laws .back bytes s g;
       again = λ s p. saved-laws .again bytes s are (sym e ∙ p);
       refusal = λ n p. (saved-laws .refusal bytes n (sym e ∙ p), beside (stateFrom bytes) n (sym e ∙ p));
+    }
+
+pub load-earlier-call : (bytes : List ℕ) → AreBytes bytes → LoadEarlierCall bytes (loadEarlierOf bytes .answer) (loadEarlierOf bytes .state)
+unfolding loadEarlierOf
+load-earlier-call bytes are =
+    let r = carriedFrom (earlierFrom bytes) in
+    let e = loaded-result r in
+    record {
+      back = λ s g. e ∙ earlier-laws .back bytes s g;
+      again = λ t p. earlier-laws .again bytes t are (sym e ∙ p);
+      refusal = λ n p. (earlier-laws .refusal bytes n (sym e ∙ p), beside r n (sym e ∙ p));
     }

@@ -5,11 +5,11 @@ use Prim.Native.Nat.{ℕ}
 abbrev pub stringWrong : ℕ
 stringWrong = 1
 
--- a definition's count over 4,096; 02: a body over 4,096
+-- 02: a definition's count in force over 4,096; a body over 4,096
 abbrev pub bodyLong : ℕ
 bodyLong = 2
 
--- count 0
+-- 02: both counts of a definition 0
 abbrev pub bodyEmpty : ℕ
 bodyEmpty = 3
 
@@ -29,7 +29,7 @@ noPlace = 6
 abbrev pub tableUnsound : ℕ
 tableUnsound = 7
 
--- state unsound
+-- state unsound; 02: an old state that has taken any of the four units after count 0
 abbrev pub stateUnsound : ℕ
 stateUnsound = 8
 

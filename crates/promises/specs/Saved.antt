@@ -6,10 +6,13 @@ use mathlib.Core.List.{List, _∷_}
 use lib.ListN.{take}
 use Rattle.wing_node.specs.Result.{ok, refused}
 use Rattle.wing_wire.specs.State.{soundState, freshState}
+use Rattle.wing_wire.specs.Earlier.{carryOf}
 use Rattle.wing_wire.specs.declared.state.State.{State}
+use Rattle.wing_wire.specs.declared.earlier.State.{State as EarlierState}
 use Rattle.wing_wire.specs.declared.write.Written.{Written}
 use Rattle.wing_wire.specs.declared.write.Written.the-variants.{Bytes}
 use Rattle.wing_saved.specs.Saved.{stateBytes, Saves, loadedResult}
+use Rattle.wing_saved.specs.Earlier.{EarlierSaves, CarriedSaves}
 use Rattle.wing_saved.specs.declared.LoadAnswer.{LoadAnswer}
 use Rattle.promises.specs.Refusals.{stateUnsound}
 use Rattle.promises.specs.Lines.{Line, _gives_}
@@ -30,5 +33,14 @@ pub record LoadCall (bytes : List ℕ) (answer : LoadAnswer) (state : State) : T
   pub back : (s : State) → Saves bytes s → loadedResult answer state ≡ ok s
   -- bytes that read as a state are its bytes, and it is sound
   pub again : (s : State) → loadedResult answer state ≡ ok s → Saves bytes s
+  -- any others are 8, beside a fresh state
+  pub refusal : (n : ℕ) → loadedResult answer state ≡ refused n → (n ≡ 8) × (state ≡ freshState)
+
+-- bytes of version 1 as a state, by the answer and the state beside it (02)
+pub record LoadEarlierCall (bytes : List ℕ) (answer : LoadAnswer) (state : State) : Type 0 where
+  -- the bytes of an old sound state are loaded as it is carried over, or sent back as it is
+  pub back : (s : EarlierState) → EarlierSaves bytes s → loadedResult answer state ≡ carryOf s
+  -- bytes that are loaded are those of an old sound state, and this is carried over as what they are loaded as
+  pub again : (t : State) → loadedResult answer state ≡ ok t → CarriedSaves bytes t
   -- any others are 8, beside a fresh state
   pub refusal : (n : ℕ) → loadedResult answer state ≡ refused n → (n ≡ 8) × (state ≡ freshState)

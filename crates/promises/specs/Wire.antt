@@ -10,23 +10,27 @@ use Rattle.wing_node.specs.Field.{big}
 use Rattle.wing_node.specs.Result.{ok, refused}
 use Rattle.wing_node.specs.Utf8.{utf8}
 use Rattle.wing_node.specs.Value.{NodeValue, string}
-use Rattle.wing_wire.specs.State.{soundEscape, soundState}
+use Rattle.wing_wire.specs.State.{soundEscape, soundState, freshState}
+use Rattle.wing_wire.specs.Earlier.{earlierSound, isStarted, carried, carriedResult}
 use Rattle.wing_wire.specs.Escape.{decodeOf, nextUnit}
 use Rattle.wing_wire.specs.Stream.{Fed, run}
 use Rattle.wing_wire.specs.Units.{settled}
 use Rattle.wing_wire.specs.Command.{setBytes}
 use Rattle.wing_wire.specs.Meter.{meterRequest, readings}
-use Rattle.wing_wire.specs.Reader.{Event, eventIn, stringBeside, bodyBeside, refusedNext, nextOf}
+use Rattle.wing_wire.specs.Reader.{Event, eventOf, eventIn, stringBeside, bodyBeside, refusedNext, nextOf}
 use Rattle.wing_wire.specs.Repeated.{Accepted, fedState, feedEvents, CoreGives}
 use Rattle.wing_wire.specs.Answers.{writtenResult, requestedResult, metersResult}
 use Rattle.wing_wire.specs.SetOrders.{ReadsAsSet}
 use Rattle.wing_wire.specs.declared.state.State.{State}
+use Rattle.wing_wire.specs.declared.earlier.State.{State as EarlierState}
+use Rattle.wing_wire.specs.declared.earlier.CarryAnswer.{CarryAnswer}
 use Rattle.wing_wire.specs.declared.state.Escape.{Escape}
 use Rattle.wing_wire.specs.declared.state.Pending.the-variants.{None, Byte}
 use Rattle.wing_wire.specs.declared.escape.Unit.the-variants.{Nothing, Appended}
 use Rattle.wing_wire.specs.declared.escape.NextUnit.{NextUnit}
 use Rattle.wing_wire.specs.declared.stream.Advanced.{Advanced}
 use Rattle.wing_wire.specs.declared.state.Token.the-variants.{Between}
+use Rattle.wing_wire.specs.declared.unit.Answer.{Answer}
 use Rattle.wing_wire.specs.declared.unit.Answer.the-variants.{More, Refused as AnswerRefused}
 use Rattle.wing_wire.specs.declared.reader.Reply.{Reply}
 use Rattle.wing_wire.specs.declared.write.Written.{Written}
@@ -65,11 +69,19 @@ abbrev pub packetLines : List ℕ → List ℤ → List Line
 packetLines p out =
     (ltb (length p) 4 gives packetSize) ∷ (ltb 8192 (length p) gives packetSize) ∷ (ltb (length out) (length (readings (drop 4 p))) gives outputShort) ∷ []
 
+-- an old decoder state to be carried over (02): one that isn't sound, one that has taken any of the four units after count 0
+abbrev pub carryLines : EarlierState → List Line
+carryLines s = (not (earlierSound s) gives stateUnsound) ∷ (isStarted (s .control .token) gives stateUnsound) ∷ []
+
 -- ---- what is promised
 
 -- events so far, and one more
 abbrev pub withEvent : ℤ → Event → List StreamEvent → List StreamEvent
 withEvent node e rs = rs ++ (streamEvent node e ∷ [])
+
+-- the same by an answer and the store that holds its bytes
+abbrev pub listed : ℤ → Answer → List ℕ → List StreamEvent → List StreamEvent
+listed node a s rs = withEvent node (eventOf a s s) rs
 
 -- 01: string (256 bytes) or body (4,096 bytes), zero-filled, stands beside the answer; with any other answer, refusals included, these
 -- bytes are all 0: the bytes that the units gave stand in some store
@@ -118,6 +130,12 @@ pub record DecodeCall (e : Escape) (bytes : List ℕ) (at : ℕ) (answer : NextU
   pub end : e .pending ≡ None → length bytes ≤ at → answer ≡ nextUnit e Nothing at
   -- sound escapes stay sound
   pub sound : soundEscape e ≡ true → soundEscape (answer .escape) ≡ true
+
+-- an old decoder state carried over (02): 8, beside a fresh state; else with its units left, stored bytes and all else the same
+pub record CarryCall (s : EarlierState) (answer : CarryAnswer) (state : State) : Type 0 where
+  pub answered : Answers (carryLines s) (carried s) (carriedResult answer state) (state ≡ freshState)
+  -- and the state is sound
+  pub sound : (t : State) → carriedResult answer state ≡ ok t → soundState t ≡ true
 
 -- a command: sent back as its lines have it, with the output as it was and what else must stay; else these bytes at the front of the output,
 -- whose bytes past them are not altered

@@ -9,14 +9,16 @@ ghost use Rattle.wing_wire.specs.RoundTrip.{RoundTrip, RoundTripPieces};
 ghost use Rattle.wing_wire.specs.Repeated.{UntilMore};
 ghost use Rattle.wing_wire.specs.Tokens.{Tokens};
 ghost use Rattle.wing_wire.specs.Cases.{Case, cases};
+ghost use Rattle.wing_wire.specs.EarlierReading.{CarriesOver};
 ghost use Rattle.wing_saved.specs.Saved.{SavedLaws};
+ghost use Rattle.wing_saved.specs.Earlier.{EarlierLaws};
 ghost use Rattle.wing_listing.specs.BothWays.{BothWays as ListedBothWays};
 ghost use Rattle.wing_listing.specs.Cases.{Case as ListedCase, cases as listedCases};
 ghost use Rattle.wing_mirror.specs.Record.{full};
 ghost use Rattle.wing_mirror.specs.HighEnd.{SearchReads};
 ghost use Rattle.wing_mirror.specs.History.{Agreement, Equality, Rebuilding, Histories};
 ghost use Rattle.promises.specs.Node.{Walks};
-ghost use Rattle.promises.specs.Wire.{withEvent, PiecesJoin};
+ghost use Rattle.promises.specs.Wire.{withEvent, listed, PiecesJoin};
 ghost use Rattle.promises.specs.Mirror.{UnplacedStays};
 
 pub mod listing;
@@ -26,8 +28,8 @@ pub mod saved;
 pub mod wire;
 
 // Demand 1, console bytes. Whatever bytes are fed from between tokens, their units are cut into tokens of 01's table, and what is handed on is what
-// these tokens give, in order and nothing else: 1 exactly for a string whose units are not UTF-8, 2 exactly for a count over
-// 4,096, 3 exactly for count 0, each when the last unit comes. Every unit of a token other than d7 leaves the node as it was.
+// these tokens give, in order and nothing else: 1 exactly for a string whose units are not UTF-8, 2 exactly for a count in force over
+// 4,096, 3 exactly where both counts are 0 (02), each when the last unit comes. Every unit of a token other than d7 leaves the node as it was.
 pub fn demand_1_tokens()
     ensures { λ _. ⌜ Tokens withEvent ⌝ }
 {}
@@ -100,10 +102,21 @@ pub fn demand_3_whole()
     ensures { λ _. ⌜ Histories full ⌝ }
 {}
 
+// An old decoder state carried over (02): whatever bytes a fresh old decoder and a fresh new one were fed alike, of which none is a unit of the four after a
+// count 0, the old one's state is carried over as the new one's; and any old state, carried over, answers further bytes as it did as long as no such unit comes.
+pub fn carried_over()
+    ensures { λ _. ⌜ CarriesOver listed ⌝ }
+{}
+
 // A decoder state as bytes: a sound state's bytes read back as that state, bytes that read as a state are its bytes, and any other
 // bytes are 8. Of the bytes that save's own answer tells, its contract says it.
 pub fn saved_states()
     ensures { λ _. ⌜ SavedLaws ⌝ }
+{}
+
+// A state saved under version 1 (02): its bytes are loaded as it is carried over, bytes that are loaded are such a state's, and any other bytes are 8.
+pub fn saved_earlier()
+    ensures { λ _. ⌜ EarlierLaws ⌝ }
 {}
 
 // Listings both ways (02): a text is taken exactly if it is the listing of entries that a table takes, else it is sent back for its first bad line: the header, or the

@@ -4,7 +4,9 @@ ghost use Rattle.wing_wire.specs.State.{stateOf};
 ghost use Rattle.wing_wire.specs.Command.{setBytes, idBytes, suffixBytes, requestBytes};
 ghost use Rattle.wing_wire.specs.Lent.{wholeReply};
 ghost use Rattle.wing_wire.specs.Meter.{keepAlives};
-ghost use Rattle.promises.specs.Wire.{NextCall, AdvanceCall, DecodeCall, commandLines, stringLines, CommandCall, SetOrder, MeterCall, PacketCall};
+ghost use Rattle.promises.specs.Wire.{NextCall, CarryCall, AdvanceCall, DecodeCall, commandLines, stringLines, CommandCall, SetOrder, MeterCall, PacketCall};
+use wing_wire::earlier;
+use wing_wire::earlier::Carried;
 use wing_wire::escape::NextUnit;
 use wing_wire::lent::Parted;
 use wing_wire::meter::Meter;
@@ -35,6 +37,13 @@ pub fn advance(c: Control, store: &mut [u8], bytes: &[u8]) -> Advanced
     ensures { λ r. ⌜ AdvanceCall (stateOf c (now (store .entry))) (now (bytes .entry)) r (now (store .exit)) ⌝ }
 {
     wing_wire::stream::advance(c, store, bytes)
+}
+
+// An old decoder state (02).
+pub fn carry_over(s: earlier::State) -> Carried
+    ensures { λ r. ⌜ CarryCall s (r .answer) (r .state) ⌝ }
+{
+    earlier::carry_over(s)
 }
 
 pub fn decode_next(e: Escape, bytes: &[u8], at: usize) -> NextUnit

@@ -8,7 +8,7 @@ pub const LINE: usize = 16384;
 const MOST: usize = 65600;
 
 // The most bytes held, and after them the most of one line.
-pub const BYTES: usize = 135601;
+pub const BYTES: usize = 145601;
 
 pub type Bytes = [u8; BYTES];
 
@@ -62,7 +62,7 @@ fn hex_number(word: &[u8], digits: usize) -> usize {
 // A word that spells a number, by its letter in the table of limits or here.
 fn number(word: &[u8], letter: u8) -> usize {
     let limits =
-        b"f1|g2|n27|o255|e263|t512|p1026|k4096|a4200|r16384|w65535|m270864|l851968|d4294967295";
+        b"f1|g2|n34|o255|e263|t512|p1026|k4096|a4200|r16384|w65535|m270864|l851968|d4294967295";
     match letter {
         b'i' => read::signed(word),
         b'x' => hex_number(word, 8),
@@ -221,9 +221,9 @@ pub fn order(line: &[u8], bytes: &mut Bytes, held: usize) -> Asked {
     let order = read::part(line, from, line.len());
     let mut a = by_table(
         order,
-        b"MNnew:p MNnew:pe MNnew:peo MCcount:d MPpoke:mh MHmore:h FFfeed:h FFrepeat:d* \
+        b"MNnew:p MNnew:pe MNnew:peo MCcount:d MPpoke:mh MHmore:h MHmores:d* FFfeed:h FFrepeat:d* \
 SIint:iit SFfloat:ixt SSstring:iht SRrecall:r QDdump: QLlookup:i QRrecord:d QPpeek:mk \
-ssstream:+ sppieces:w+ slpiecelist:,+ suunits:h sestate:nd* scsplits:h snlent:h \
+ssstream:+ sppieces:w+ slpiecelist:,+ suunits:h sestate:nd* scsplits:h snlent:h soearlier:hhh \
 dddefinition:+ dccuts:h diitem:dh dsstep:wwwh dwwalk:h \
 vuutf8:h vfutf8s:h vsstreams:h vggetters:gh vlgetstring:wh pvpacket:a+ \
 cisetint:rii cfsetfloat:rix cssetstring:rih ctformat:riyh cdaskdefinition:ri caaskdata:ri \

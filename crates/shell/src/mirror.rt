@@ -24,7 +24,7 @@ pub type Memory = [u8; MEMORY];
 const ROOM: usize = 16384;
 
 // The most bytes held for a later order.
-const HELD: usize = 70000;
+const HELD: usize = 80000;
 
 // What lasts from line to line, and the length of the last answer's text, 0 for a line out of form. The count is that of the
 // records, the size the table buffer's, the fill what the memory held when the mirror was fresh. fresh: the next feed

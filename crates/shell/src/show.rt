@@ -4,7 +4,7 @@ use crate::read;
 use wing_node::field;
 use wing_wire::state::zeros_from;
 
-// Room for the longest answer: keep-alives of 851,968 bytes, or the integers of a stream of 70,000 bytes.
+// Room for the longest answer: keep-alives of 851,968 bytes, or the integers of a stream of 80,000 bytes.
 pub const LOG: usize = 2097152;
 
 pub type Log = [u8; LOG];
@@ -100,7 +100,7 @@ pub fn expect(log: &mut Log, at: usize, good: bool) -> usize {
 // A word by its number.
 fn word(log: &mut Log, at: usize, n: usize) -> usize {
     let words = b"0dirt|1clean|2skipped|3integer|4string|5length|6int16|7int32|8float|9node|:end|\
-;count|<zerocount";
+;count|<longcount";
     read::lay(log, at, read::entry(words, (n % 16 + 48) as u8))
 }
 
@@ -166,7 +166,7 @@ fn spell(log: &mut Log, mut at: usize, text: &[u8], values: &[usize], source: &[
 pub fn say(log: &mut Log, at: usize, s: Said, source: &[u8]) -> usize {
     let text = read::entry(
         b"iiHH@H|ffHH@H|ssHX@H|bbNX:|eeNN@H|rrNR@H|@@H|..AHHA|u B|+ B+|:; channel=S escaped=A|\
-=sound=A |<differs at U|>U same|Uunits|,,X/X|/,H/X|--|_rR|dHHDnXlX|0kBBA-|1kBBAfHHH|2kBBAiHH|3kBBAsD|4kBBAcD|\
+=sound=A |~carried |<differs at U|>U same|Uunits|,,X/X|/,H/X|--|_rR|dHHDnXlX|0kBBA-|1kBBAfHHH|2kBBAiHH|3kBBAsD|4kBBAcD|\
 *none|?refused U|aat U left U|l at U left U|;; |gU-U good, |xU-U refused U, |\
 p pending=B|n pending=none|t token=between|c token=number T left=U value=H|\
 j token=string left=U of U|k token=body left=U of U stored=U|o store=Q|wDXZ|qrRZ|mDH:|vH-Y|yHsXY|\

@@ -23,7 +23,7 @@ fn class_number(class: Class) -> usize {
         Class::Node => 9,
         Class::End => 10,
         Class::Count => 11,
-        Class::ZeroCount => 12,
+        Class::LongCount => 12,
     }
 }
 
@@ -74,10 +74,16 @@ pub fn state(log: &mut Log, at: usize, s: State) -> usize {
     show::tell(log, store_at, b'o', used(&s.store), 0, 0, &s.store)
 }
 
-// A token by the first letter of its kind, or of the end's class.
-fn token_of(letter: u8, want: u16, left: u16, more: u16) -> Token {
+// The counts of a number and of a string have 16 bits.
+fn low_16(n: u32) -> u16 {
+    (n % 0x10000) as u16
+}
+
+// A token by the first letter of its kind, or of the class of the end or of a long count.
+fn token_of(letter: u8, want: u32, count: u32, more: u16) -> Token {
     let value = more as u32;
     let stored = more;
+    let left = low_16(count);
     match letter {
         b'i' => {
             let class = Class::Int16;
@@ -87,8 +93,18 @@ fn token_of(letter: u8, want: u16, left: u16, more: u16) -> Token {
             let class = Class::End;
             Token::Number { class, left, value }
         }
-        b's' => Token::String { want, left },
-        b'b' => Token::Body { want, left, stored },
+        b'l' => {
+            let class = Class::LongCount;
+            Token::Number { class, left, value }
+        }
+        b's' => {
+            let want = low_16(want);
+            Token::String { want, left }
+        }
+        b'b' => {
+            let left = count;
+            Token::Body { want, left, stored }
+        }
         _ => Token::Between,
     }
 }
@@ -120,7 +136,7 @@ fn escaped(escaped: bool, channel: i8, byte: u8) -> State {
     with(escaped, channel, byte, Token::Between, 0, 0)
 }
 
-fn inside(letter: u8, want: u16, left: u16, more: u16, at: usize, stored: u8) -> State {
+fn inside(letter: u8, want: u32, left: u32, more: u16, at: usize, stored: u8) -> State {
     with(false, -1, 0, token_of(letter, want, left, more), at, stored)
 }
 
@@ -153,6 +169,13 @@ pub fn by_number(n: usize) -> State {
         25 => inside(b'b', 4, 0, 0, 0, 0),
         26 => inside(b't', 0, 0, 0, 0, 1),
         27 => inside(b't', 0, 0, 0, 4095, 1),
+        28 => inside(b'l', 4, 4, 0, 0, 0),
+        29 => inside(b'l', 4, 1, 0, 0, 0),
+        30 => inside(b'l', 4, 5, 0, 0, 0),
+        31 => inside(b'b', 65536, 1, 0, 0, 0),
+        32 => inside(b'b', 65536, 65537, 0, 0, 0),
+        33 => inside(b'b', 0xffff_ffff, 0xffff_ffff, 0, 0, 0),
+        34 => inside(b'b', 0xffff_ffff, 2, 1, 0, 0),
         _ => State::fresh(),
     }
 }

@@ -7,6 +7,9 @@ use crate::show;
 use crate::show::Log;
 use crate::show::Said;
 use crate::states;
+use wing_saved::LoadAnswer;
+use wing_saved::Loaded;
+use wing_saved::earlier::load_earlier;
 use wing_wire::escape;
 use wing_wire::lent;
 use wing_wire::lent::LentReply;
@@ -16,7 +19,6 @@ use wing_wire::unit::Answer;
 
 // How a stream is cut: at two places, and after these into pieces of a size; or each call gets a piece, through the lent
 // next of a random size, else, where there is a list of sizes, by the list over and over. inside: all of the state is told.
-// start: the number of the state that the stream begins in.
 struct Pieces {
     inside: bool,
     lent: bool,
@@ -25,7 +27,6 @@ struct Pieces {
     size: usize,
     count: usize,
     sizes: forms::Numbers,
-    start: usize,
 }
 
 // How far a stream is read: the state, the bytes taken, the end of the piece, the place that the text has reached, and
@@ -38,7 +39,7 @@ struct Progress {
     done: bool,
 }
 
-// A stream of n bytes, at most 70,000, gives at most n + 1 answers and one 'more' for each piece.
+// A stream of n bytes, at most 80,000, gives at most n + 1 answers and one 'more' for each piece.
 const TURNS: u32 = 200000;
 
 fn sized(size: usize, inside: bool) -> Pieces {
@@ -50,7 +51,6 @@ fn sized(size: usize, inside: bool) -> Pieces {
         size,
         count: 0,
         sizes: [0; forms::COUNT],
-        start: 0,
     }
 }
 
@@ -160,9 +160,8 @@ fn turn(log: &mut Log, mut p: Progress, c: Pieces, bytes: &[u8], call: u32) -> P
     p
 }
 
-// The whole stream, and the text of its events.
-fn read_all(log: &mut Log, text: usize, bytes: &[u8], c: Pieces) -> Progress {
-    let state = states::by_number(c.start);
+// The whole stream from a state, and the text of its events.
+fn read_all(log: &mut Log, text: usize, bytes: &[u8], c: Pieces, state: state::State) -> Progress {
     let mut p = Progress {
         state,
         at: 0,
@@ -200,14 +199,19 @@ fn last(c: state::Control) -> Said {
     )
 }
 
-// A stream in any cut, then the state, where it is asked with all that LAST leaves out.
-fn cut_stream(log: &mut Log, text: usize, bytes: &[u8], c: Pieces) -> usize {
-    let p = read_all(log, text, bytes, c);
+// A stream from a state in any cut, then the state, where it is asked with all that LAST leaves out.
+fn cut_from(log: &mut Log, text: usize, bytes: &[u8], c: Pieces, state: state::State) -> usize {
+    let p = read_all(log, text, bytes, c, state);
     let end = show::say(log, p.text, last(p.state.control), bytes);
     if c.inside {
         return states::state(log, end, p.state);
     }
     end
+}
+
+// From a fresh state.
+fn cut_stream(log: &mut Log, text: usize, bytes: &[u8], c: Pieces) -> usize {
+    cut_from(log, text, bytes, c, state::State::fresh())
 }
 
 // In pieces of one size.
@@ -230,11 +234,35 @@ fn in_pieces(log: &mut Log, a: Asked, bytes: &[u8]) -> usize {
 }
 
 fn from_state(log: &mut Log, number: usize, bytes: &[u8]) -> usize {
-    let mut c = sized(bytes.len(), true);
-    c.start = number;
-    let sound = show::flag(state::is_sound(states::by_number(number)));
+    let s = states::by_number(number);
+    let sound = show::flag(state::is_sound(s));
     let text = show::tell(log, 0, b'=', sound, 0, 0, bytes);
-    cut_stream(log, text, bytes, c)
+    cut_from(log, text, bytes, sized(bytes.len(), true), s)
+}
+
+// Bytes of version 1, filled up with 0 to those of a state.
+fn load_filled(saved: &[u8]) -> Loaded {
+    if wing_saved::SIZE < saved.len() {
+        return load_earlier(saved);
+    }
+    let mut filled = [0u8; wing_saved::SIZE];
+    read::lay(&mut filled, 0, saved);
+    load_earlier(&filled)
+}
+
+// The fields and the front of the store of a state of version 1, which is carried over; then a stream from it.
+fn from_earlier(log: &mut Log, end: usize, bytes: &[u8]) -> usize {
+    let loaded = load_filled(read::part(bytes, 0, end));
+    let a = loaded.answer;
+    match a {
+        LoadAnswer::Good => {
+            let stream = read::part(bytes, end, bytes.len());
+            let text = show::tell(log, 0, b'~', 0, 0, 0, stream);
+            let s = loaded.state;
+            cut_from(log, text, stream, sized(stream.len(), true), s)
+        }
+        LoadAnswer::Refused(why) => show::tell(log, 0, b'_', why as usize, 0, 0, bytes),
+    }
 }
 
 // Through the lent next; after it, in the same log, by value, to be held against it.
@@ -327,6 +355,7 @@ pub fn order(log: &mut Log, letter: u8, a: Asked, bytes: &[u8]) -> usize {
         b'u' => units(log, bytes),
         b'e' => from_state(log, a.first, bytes),
         b'c' => splits(log, bytes),
+        b'o' => from_earlier(log, a.second, bytes),
         _ => lent(log, bytes),
     }
 }

@@ -27,9 +27,11 @@ use Rattle.wing_wire.proofs.Laws.{decoder-laws}
 use Rattle.wing_wire.proofs.Reading.Ranges.{bytes-drop}
 use Rattle.wing_wire.proofs.Reading.Sound.{sound-next}
 use Rattle.wing_wire.proofs.state.Control as controls
-use Rattle.wing_saved.specs.Saved.{savedSize, headBytes, stateBytes, soundOnly, stateFrom, saveOf, Typed, Saves, HeadOf}
+use Rattle.wing_saved.specs.Saved.{version, savedSize, headBytes, stateBytes, soundOnly, stateFrom, saveOf, Typed, Saves, HeadOf}
 use Rattle.wing_saved.proofs.Saving.Heads.{head-size}
 use Rattle.wing_saved.proofs.Saving.Trips.{saved-laws}
+use Rattle.wing_saved.specs.Earlier.{earlierFrom, carriedFrom}
+use Rattle.wing_saved.proofs.Saving.Before.{earlier-laws, carried-typed, carried-sound}
 use Rattle.wing_saved.proofs.Saving.Types.{parts-typed}
 use Rattle.wing_mirror.specs.Rows.{Table}
 use Rattle.wing_mirror.specs.Record.{full}
@@ -59,6 +61,13 @@ fresh-typed = record { range = decoder-laws .sound .freshIn; count = tt }
 pub fresh-reads : (out : List ℕ) {w : Written} {kept : List ℕ} → writeEffect w kept ≡ saveOf freshState out → length out ≡ savedSize → stateFrom kept ≡ ok freshState
 fresh-reads out {w} {kept} e l = saved-laws .back kept freshState (saves freshState out fresh-typed (decoder-laws .sound .fresh) l e)
 
+-- what bytes of version 1 are carried over as, written, reads as it
+pub carried-reads : (earlier : List ℕ) (t : State) → AreBytes earlier → carriedFrom (earlierFrom earlier) ≡ ok t → (out : List ℕ) {w : Written} {kept : List ℕ} →
+    writeEffect w kept ≡ saveOf t out → length out ≡ savedSize → stateFrom kept ≡ ok t
+carried-reads earlier t are o out {w} {kept} e l =
+    let k = earlier-laws .again earlier t are o in
+    saved-laws .back kept t (saves t out (carried-typed earlier t k) (carried-sound earlier t k) l e)
+
 -- ---- the store in a state's bytes
 
 -- what is lent after the fields
@@ -86,7 +95,7 @@ pub head-laid : (c : Control) (state : List ℕ) {w : Written} {kept : List ℕ}
     stateBytes (stateIn c state) ≡ kept
 unfolding writeOf stateBytes
 head-laid c state l e =
-    sym (ap (λ (x : WriteEffect). x .out) e ∙ rw (le-ltb (length state) (length (headBytes c)) (omega (arith, head-size c)), head-size c) refl)
+    sym (ap (λ (x : WriteEffect). x .out) e ∙ rw (le-ltb (length state) (length (headBytes c)) (omega (arith, head-size version c)), head-size version c) refl)
 
 -- ---- sound or not
 

@@ -5,7 +5,7 @@ use mathlib.Core.Path.{_≡_, refl, sym, _∙_, ap}
 use mathlib.Core.List.{List}
 use borrow.Author.Tests.{le-leb}
 use lib.ListN.{length, take}
-use Rattle.wing_node.specs.Result.{ok, refused}
+use Rattle.wing_node.specs.Result.{Result, ok, refused}
 use Rattle.wing_wire.specs.State.{soundState}
 use Rattle.wing_wire.specs.Stream.{run, advanceOf, released}
 use Rattle.wing_wire.specs.Reader.{over, eventOf, nextFrom, nextOf, nextEvent}
@@ -13,25 +13,43 @@ use Rattle.wing_wire.specs.declared.state.State.{State}
 use Rattle.wing_wire.specs.declared.stream.Advanced.{Advanced}
 use Rattle.wing_wire.specs.declared.unit.Answer.{Answer}
 use Rattle.wing_wire.specs.declared.unit.Answer.the-variants.{More, Integer, Float, String, Body, End, Refused}
-use Rattle.wing_saved.specs.Saved.{stateFrom, loadedResult, loadOf}
+use Rattle.wing_saved.specs.Saved.{stateFrom, loadedAs, loadedResult, loadOf}
+use Rattle.wing_saved.specs.Earlier.{earlierFrom, carriedFrom, loadEarlierOf}
 use Rattle.wing_saved.specs.declared.Loaded.{Loaded}
 use Rattle.wing_saved.specs.declared.LoadAnswer.{LoadAnswer}
 use Rattle.wing_saved.specs.declared.LoadAnswer.the-variants.{Good, Refused as NotLoaded}
 use Rattle.wing_saved.proofs.Saving.Trips.{loaded-result}
 use Rattle.wing_c.specs.Kept.{valueBytes, eventBytes, answerBytes, lentNext, nextLeft}
 
--- the bytes read as what the answer and the state beside it say
-read-as : (bytes : List ℕ) (l : Loaded) → l ≡ loadOf bytes → stateFrom bytes ≡ loadedResult (l .answer) (l .state)
-unfolding loadOf
-read-as bytes l e = sym (ap (λ (x : Loaded). loadedResult (x .answer) (x .state)) e ∙ loaded-result (stateFrom bytes))
+-- what was loaded is what the answer and the state beside it say
+module _ (r : Result State) (l : Loaded) (e : l ≡ loadedAs r) where
+  read-as : r ≡ loadedResult (l .answer) (l .state)
+  read-as = sym (ap (λ (x : Loaded). loadedResult (x .answer) (x .state)) e ∙ loaded-result r)
+
+  said-good : l .answer ≡ Good → r ≡ ok (l .state)
+  unfolding loadedResult
+  said-good a = read-as ∙ ap (λ (x : LoadAnswer). loadedResult x (l .state)) a
+
+  said-refused : (n : ℕ) → l .answer ≡ NotLoaded n → r ≡ refused n
+  unfolding loadedResult
+  said-refused n a = read-as ∙ ap (λ (x : LoadAnswer). loadedResult x (l .state)) a
 
 pub load-good : (bytes : List ℕ) (l : Loaded) → l ≡ loadOf bytes → l .answer ≡ Good → stateFrom bytes ≡ ok (l .state)
-unfolding loadedResult
-load-good bytes l e a = read-as bytes l e ∙ ap (λ (x : LoadAnswer). loadedResult x (l .state)) a
+unfolding loadOf
+load-good bytes l e a = said-good (stateFrom bytes) l e a
 
 pub load-refused : (bytes : List ℕ) (l : Loaded) (n : ℕ) → l ≡ loadOf bytes → l .answer ≡ NotLoaded n → stateFrom bytes ≡ refused n
-unfolding loadedResult
-load-refused bytes l n e a = read-as bytes l e ∙ ap (λ (x : LoadAnswer). loadedResult x (l .state)) a
+unfolding loadOf
+load-refused bytes l n e a = said-refused (stateFrom bytes) l e n a
+
+-- the same of bytes of version 1
+pub earlier-good : (bytes : List ℕ) (l : Loaded) → l ≡ loadEarlierOf bytes → l .answer ≡ Good → carriedFrom (earlierFrom bytes) ≡ ok (l .state)
+unfolding loadEarlierOf
+earlier-good bytes l e a = said-good (carriedFrom (earlierFrom bytes)) l e a
+
+pub earlier-refused : (bytes : List ℕ) (l : Loaded) (n : ℕ) → l ≡ loadEarlierOf bytes → l .answer ≡ NotLoaded n → carriedFrom (earlierFrom bytes) ≡ refused n
+unfolding loadEarlierOf
+earlier-refused bytes l n e a = said-refused (carriedFrom (earlierFrom bytes)) l e n a
 
 -- a next call that is not refused is a run of the core
 next-run : (s : State) (bytes : List ℕ) → soundState s ≡ true → length bytes ≤ 65536 → nextOf s bytes ≡ nextFrom (advanceOf (s .control) (s .store) bytes)

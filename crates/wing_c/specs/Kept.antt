@@ -15,7 +15,9 @@ use Rattle.wing_wire.specs.declared.stream.Advanced.{Advanced}
 use Rattle.wing_wire.specs.declared.reader.Reply.{Reply}
 use Rattle.wing_wire.specs.declared.unit.Answer.{Answer}
 use Rattle.wing_wire.specs.declared.unit.Answer.the-variants.{More, Integer, Float, String, Body, End, Refused as NextRefused}
-use Rattle.wing_saved.specs.Saved.{stateBytes, stateFrom}
+use Rattle.wing_wire.specs.Write.{WriteEffect, writeEffect}
+use Rattle.wing_wire.specs.declared.write.Written.the-variants.{Refused as NotWritten}
+use Rattle.wing_saved.specs.Saved.{stateBytes, stateFrom, saveOf}
 use Rattle.wing_mirror.specs.Rows.{Table}
 use Rattle.wing_mirror.specs.Record.{full}
 use Rattle.wing_mirror.specs.Counts.{zeroCounts}
@@ -34,6 +36,18 @@ stateStatus (refused n) = minus n
 -- the state of a control and of the store in a state's bytes
 abbrev pub stateIn : Control → List ℕ → State
 stateIn c state = stateOf c (drop 27 state)
+
+-- ---- a state of version 1 (02)
+
+-- the bytes of what it is carried over as, or 9; where it is not carried over, its number, and the output as it was
+unfoldable pub carriedKept : Result State → List ℕ → WriteEffect
+carriedKept (ok s) out = saveOf s out
+carriedKept (refused n) out = writeEffect (NotWritten n) out
+
+-- what an output that held a state reads as then: the state carried over, else what it read as before
+unfoldable pub stateCarried : Result State → Result State → Result State
+stateCarried (ok s) before = ok s
+stateCarried (refused n) before = before
 
 -- ---- feed
 

@@ -8,7 +8,8 @@ ghost use Rattle.wing_wire.specs.State.{stateOf, freshState, soundState};
 ghost use Rattle.wing_wire.specs.Reader.{over, nextOf, nextEvent};
 ghost use Rattle.wing_saved.specs.Saved.{savedSize, stateFrom, saveOf, HeadOf};
 ghost use Rattle.wing_c.specs.Written.{command, commandOf};
-ghost use Rattle.wing_c.specs.Kept.{stateStatus, stateIn, answerBytes, lentNext, nextLeft, keptNext, nextReplied, nextSound, nextKept, nextState, stateNext};
+ghost use Rattle.wing_saved.specs.Earlier.{earlierFrom, carriedFrom};
+ghost use Rattle.wing_c.specs.Kept.{stateStatus, carriedKept, stateCarried, stateIn, answerBytes, lentNext, nextLeft, keptNext, nextReplied, nextSound, nextKept, nextState, stateNext};
 use crate::answers::WingEvent;
 use crate::answers::WingWritten;
 use crate::answers::event;
@@ -18,6 +19,7 @@ use crate::kept::keep;
 use wing_node::field::least;
 use wing_saved::HEAD;
 use wing_saved::LoadAnswer;
+use wing_saved::earlier::load_earlier;
 use wing_wire::state::Control;
 use wing_wire::state::State;
 use wing_wire::state::is_sound_lent;
@@ -25,6 +27,7 @@ use wing_wire::stream::Advanced;
 use wing_wire::stream::advance;
 use wing_wire::stream::release;
 use wing_wire::unit::Answer;
+use wing_wire::write::Written;
 
 // The bytes of a fresh state: 4,123. 9.
 #[no_mangle]
@@ -45,6 +48,23 @@ pub extern "C" fn wing_state_check(state: &[u8]) -> i32
     match a {
         LoadAnswer::Good => 0,
         LoadAnswer::Refused(why) => minus(why),
+    }
+}
+
+// 02: bytes of version 1, as the bytes of the state that they are carried over as: 4,123. 8, 9.
+#[no_mangle]
+pub extern "C" fn wing_state_carry_over(earlier: &[u8], state: &mut [u8]) -> WingWritten
+    ensures { λ r. ⌜ command r (now (state .exit)) ≡ commandOf (carriedKept (carriedFrom (earlierFrom (now (earlier .entry)))) (now (state .entry))) ⌝ }
+    ensures { λ _. ⌜ (length (now (state .entry)) ≡ savedSize → stateFrom (now (state .exit)) ≡ stateCarried (carriedFrom (earlierFrom (now (earlier .entry)))) (stateFrom (now (state .entry)))) ⌝ }
+{
+    let loaded = load_earlier(earlier);
+    let a = loaded.answer;
+    match a {
+        LoadAnswer::Good => {
+            let s = loaded.state;
+            written(wing_saved::save(state, s))
+        }
+        LoadAnswer::Refused(why) => written(Written::Refused(why)),
     }
 }
 

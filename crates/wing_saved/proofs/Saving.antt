@@ -3,3 +3,4 @@ pub mod Fronts
 pub mod Heads
 pub mod Trips
 pub mod Types
+pub mod Before

@@ -20,9 +20,9 @@ pub record Case : Type 0 where
 unfoldable pub headIs : Control → List ℕ → Case
 headIs c bytes = record { got = headBytes c; wanted = bytes }
 
--- node −2, channel 2, the byte 41 pending, in the middle of a body of 300: 200 are left, 7 stored
+-- node −2, channel 2, the byte 41 pending, in the middle of a body of 70,000: 65,800 are left, none stored
 abbrev pub inBody : Control
-inBody = control (escape false (pos 2) (Byte 0x41)) (negsuc 1) (Body 300 200 7)
+inBody = control (escape false (pos 2) (Byte 0x41)) (negsuc 1) (Body 70000 65800 0)
 
 -- node 7, channel −1, after an escape byte, in the middle of a number of four units: two are left, those read are 01 02
 abbrev pub inNumber : Control
@@ -31,13 +31,13 @@ inNumber = control (escape true (negsuc 0) None) (pos 7) (Number Int32 2 0x0102)
 -- version, escaped, channel, pending, which; node; kind, class; wanted; left; stored; value
 unfoldable pub cases : List Case
 cases =
-    -- a fresh control: 01 00 ff 00 00, node 0, between tokens; 27 bytes
-    headIs freshControl (0x01 ∷ 0x00 ∷ 0xff ∷ replicate 24 0x00) ∷
-    -- in a body: 01 00 02 01 41, ff ff ff fe, 03 00, 00 00 01 2c, 00 00 00 c8, 00 00 00 07, 00 00 00 00
+    -- a fresh control: 02 00 ff 00 00, node 0, between tokens; 27 bytes
+    headIs freshControl (0x02 ∷ 0x00 ∷ 0xff ∷ replicate 24 0x00) ∷
+    -- in a body: 02 00 02 01 41, ff ff ff fe, 03 00, 00 01 11 70, 00 01 01 08, 00 00 00 00, 00 00 00 00
     headIs inBody
-    ((0x01 ∷ 0x00 ∷ 0x02 ∷ 0x01 ∷ 0x41 ∷ []) ++ ((0xff ∷ 0xff ∷ 0xff ∷ 0xfe ∷ []) ++ ((0x03 ∷ 0x00 ∷ []) ++ ((0x00 ∷ 0x00 ∷ 0x01 ∷ 0x2c ∷ []) ++
-    ((0x00 ∷ 0x00 ∷ 0x00 ∷ 0xc8 ∷ []) ++ ((0x00 ∷ 0x00 ∷ 0x00 ∷ 0x07 ∷ []) ++ (0x00 ∷ 0x00 ∷ 0x00 ∷ 0x00 ∷ []))))))) ∷
-    -- in a number: 01 01 ff 00 00, 00 00 00 07, 01 05, 00 00 00 00, 00 00 00 02, 00 00 00 00, 00 00 01 02
+    ((0x02 ∷ 0x00 ∷ 0x02 ∷ 0x01 ∷ 0x41 ∷ []) ++ ((0xff ∷ 0xff ∷ 0xff ∷ 0xfe ∷ []) ++ ((0x03 ∷ 0x00 ∷ []) ++ ((0x00 ∷ 0x01 ∷ 0x11 ∷ 0x70 ∷ []) ++
+    ((0x00 ∷ 0x01 ∷ 0x01 ∷ 0x08 ∷ []) ++ ((0x00 ∷ 0x00 ∷ 0x00 ∷ 0x00 ∷ []) ++ (0x00 ∷ 0x00 ∷ 0x00 ∷ 0x00 ∷ []))))))) ∷
+    -- in a number: 02 01 ff 00 00, 00 00 00 07, 01 05, 00 00 00 00, 00 00 00 02, 00 00 00 00, 00 00 01 02
     headIs inNumber
-    ((0x01 ∷ 0x01 ∷ 0xff ∷ 0x00 ∷ 0x00 ∷ []) ++ ((0x00 ∷ 0x00 ∷ 0x00 ∷ 0x07 ∷ []) ++ ((0x01 ∷ 0x05 ∷ []) ++ ((0x00 ∷ 0x00 ∷ 0x00 ∷ 0x00 ∷ []) ++
+    ((0x02 ∷ 0x01 ∷ 0xff ∷ 0x00 ∷ 0x00 ∷ []) ++ ((0x00 ∷ 0x00 ∷ 0x00 ∷ 0x07 ∷ []) ++ ((0x01 ∷ 0x05 ∷ []) ++ ((0x00 ∷ 0x00 ∷ 0x00 ∷ 0x00 ∷ []) ++
     ((0x00 ∷ 0x00 ∷ 0x00 ∷ 0x02 ∷ []) ++ ((0x00 ∷ 0x00 ∷ 0x00 ∷ 0x00 ∷ []) ++ (0x00 ∷ 0x00 ∷ 0x01 ∷ 0x02 ∷ []))))))) ∷ []

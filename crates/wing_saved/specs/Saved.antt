@@ -1,5 +1,5 @@
 -- A decoder state as plain bytes: the form, what bytes say by it, and which bytes are a sound state's.
-use Prim.Native.Nat.{ℕ, _^_, _<_}
+use Prim.Native.Nat.{ℕ, _%_, _^_, _<_}
 use mathlib.Core.Bool.{Bool, true, false}
 use mathlib.Core.Path.{_≡_}
 use mathlib.Core.List.{List, [], _∷_, _++_}
@@ -14,7 +14,7 @@ use Rattle.wing_wire.specs.State.{bodyLimit, escape, control, stateOf, soundSta
 use Rattle.wing_wire.specs.Write.{WriteEffect, writeEffect, writeOf}
 use Rattle.wing_wire.specs.Range.{AreBytes, InRange}
 use Rattle.wing_wire.specs.declared.token.Class.{Class}
-use Rattle.wing_wire.specs.declared.token.Class.the-variants.{NoEvent, ZeroCount}
+use Rattle.wing_wire.specs.declared.token.Class.the-variants.{NoEvent, LongCount}
 use Rattle.wing_wire.specs.declared.state.Pending.{Pending}
 use Rattle.wing_wire.specs.declared.state.Pending.the-variants.{None, Byte}
 use Rattle.wing_wire.specs.declared.state.Token.{Token}
@@ -30,9 +30,9 @@ use Rattle.wing_saved.specs.declared.LoadAnswer.the-variants.{Good, Refu
 
 -- ---- the form
 
--- the version of the form, its first byte
+-- the version of the form, its first byte; 1 was before 02's Job 4 (specs/Earlier)
 abbrev pub version : ℕ
-version = 1
+version = 2
 
 -- 1 for yes, 0 for no
 abbrev pub flag : Bool → ℕ
@@ -61,15 +61,19 @@ fieldsOf (Number class left value) = tokenFields 1 (classNumber class) 0 left 0 
 fieldsOf (String want left) = tokenFields 2 0 want left 0 0
 fieldsOf (Body want left stored) = tokenFields 3 0 want left stored 0
 
--- the fields before the store, 27 bytes: version, escaped, channel, whether a byte is pending and which (a byte each), the node (four bytes),
+-- the fields before the store under a version, 27 bytes: version, escaped, channel, whether a byte is pending and which (a byte each), the node (four bytes),
 -- the token's kind and class (a byte each), the units wanted and left, the bytes stored and the value (four bytes each)
-unfoldable pub headBytes : Control → List ℕ
-headBytes c =
+unfoldable pub headUnder : ℕ → Control → List ℕ
+headUnder v c =
     let e = c .escape in
     let k = fieldsOf (c .token) in
-    version ∷ flag (e .escaped) ∷ unsigned 7 (e .channel) ∷ pendingFlag (e .pending) ∷ pendingByteOf (e .pending) ∷
+    v ∷ flag (e .escaped) ∷ unsigned 7 (e .channel) ∷ pendingFlag (e .pending) ∷ pendingByteOf (e .pending) ∷
     (bytesOf 4 (unsigned 31 (c .node)) ++ (k .kind ∷ k .class ∷
     (bytesOf 4 (k .want) ++ (bytesOf 4 (k .left) ++ (bytesOf 4 (k .stored) ++ bytesOf 4 (k .value))))))
+
+-- under the form's own version
+abbrev pub headBytes : Control → List ℕ
+headBytes c = headUnder version c
 
 -- a state as bytes: the fields, then the store
 unfoldable pub stateBytes : State → List ℕ
@@ -87,18 +91,18 @@ pendingIn mark b = if (eqb mark 1) (Byte b) None
 
 -- the class of that number
 unfoldable pub classIn : ℕ → Class
-classIn n = getD (classes ++ (ZeroCount ∷ [])) n NoEvent
+classIn n = getD (classes ++ (LongCount ∷ [])) n NoEvent
 
--- the token of these numbers
+-- the token of these numbers. The counts of a number and of a string have 16 bits
 unfoldable pub tokenIn : TokenFields → Token
 tokenIn k =
-    if (eqb (k .kind) 1) (Number (classIn (k .class)) (k .left) (k .value))
-    (if (eqb (k .kind) 2) (String (k .want) (k .left))
+    if (eqb (k .kind) 1) (Number (classIn (k .class)) (k .left % 0x10000) (k .value))
+    (if (eqb (k .kind) 2) (String (k .want % 0x10000) (k .left % 0x10000))
     (if (eqb (k .kind) 3) (Body (k .want) (k .left) (k .stored)) Between))
 
--- the numbers at their places. A counter has 16 bits, the last two of its four bytes
+-- the numbers at their places. What is stored has 16 bits, the last two of its four bytes
 unfoldable pub fieldsIn : List ℕ → TokenFields
-fieldsIn s = tokenFields (getD s 9 0) (getD s 10 0) (fieldAt 2 s 13) (fieldAt 2 s 17) (fieldAt 2 s 21) (fieldAt 4 s 23)
+fieldsIn s = tokenFields (getD s 9 0) (getD s 10 0) (fieldAt 4 s 11) (fieldAt 4 s 15) (fieldAt 2 s 21) (fieldAt 4 s 23)
 
 -- the control
 unfoldable pub controlIn : List ℕ → Control
@@ -116,10 +120,14 @@ begins (a ∷ front) (b ∷ s) = and (eqb b a) (begins front s)
 unfoldable pub soundOnly : State → Result State
 soundOnly s = if (soundState s) (ok s) (refused 8)
 
--- the control that bytes say, if they are as many as a state's and begin with its fields; else 8
-unfoldable pub headFrom : List ℕ → Result Control
-headFrom bytes =
-    if (eqb (length bytes) savedSize) (if (begins (headBytes (controlIn bytes)) bytes) (ok (controlIn bytes)) (refused 8)) (refused 8)
+-- the control that bytes say, if they are as many as a state's and begin with its fields under that version; else 8
+unfoldable pub headFromUnder : ℕ → List ℕ → Result Control
+headFromUnder v bytes =
+    if (eqb (length bytes) savedSize) (if (begins (headUnder v (controlIn bytes)) bytes) (ok (controlIn bytes)) (refused 8)) (refused 8)
+
+-- under the form's own version
+abbrev pub headFrom : List ℕ → Result Control
+headFrom bytes = headFromUnder version bytes
 
 -- that control and the store after its fields, if they are a sound state
 unfoldable pub stateWith : Result Control → List ℕ → Result State
@@ -157,12 +165,12 @@ loadOf bytes = loadedAs (stateFrom bytes)
 
 -- ---- what holds of them
 
--- a body's count has 16 bits
+-- a body's count has 32 bits
 abbrev pub CountIn : Token → Type 0
 CountIn Between = Unit {0}
 CountIn (Number class left value) = Unit {0}
 CountIn (String want left) = Unit {0}
-CountIn (Body want left stored) = want < 2 ^ 16
+CountIn (Body want left stored) = want < 2 ^ 32
 
 -- what the types of the code say of a state
 pub record Typed (s : State) : Type 0 where

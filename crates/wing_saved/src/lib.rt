@@ -1,6 +1,6 @@
 // A decoder state as plain bytes of one size, to be kept, saved or sent: fields for the control, then the store.
 ghost use mathlib.Core.Path.{_≡_};
-ghost use Prim.Native.Nat.{_+_, _≤_};
+ghost use Prim.Native.Nat.{_+_, _%_, _≤_};
 ghost use lib.ListN.{length};
 ghost use lib.Seq.{sets};
 ghost use Rattle.wing_node.specs.Signed.{signed, unsigned};
@@ -8,8 +8,8 @@ ghost use Rattle.wing_node.specs.Result.{refused};
 ghost use Rattle.wing_wire.specs.Token.{classNumber};
 ghost use Rattle.wing_wire.specs.State.{bodyLimit, stateOf};
 ghost use Rattle.wing_wire.specs.Write.{writeEffect, writeOf};
-ghost use Rattle.wing_saved.specs.Saved.{savedSize, flag as flagOf, pendingFlag, pendingByteOf, fieldsOf, headBytes, stateBytes};
-ghost use Rattle.wing_saved.specs.Saved.{pendingIn, classIn, tokenIn, fieldsIn, controlIn, begins, soundOnly, headFrom, headAs, loadedAs, saveOf, loadOf};
+ghost use Rattle.wing_saved.specs.Saved.{savedSize, flag as flagOf, pendingFlag, pendingByteOf, fieldsOf, headUnder, headBytes, stateBytes};
+ghost use Rattle.wing_saved.specs.Saved.{pendingIn, classIn, tokenIn, fieldsIn, controlIn, begins, soundOnly, headFromUnder, headFrom, headAs, loadedAs, saveOf, loadOf};
 use wing_node::field::i32_at;
 use wing_node::field::put_i32;
 use wing_node::field::put_u32;
@@ -24,8 +24,10 @@ use wing_wire::state::is_sound;
 use wing_wire::token::Class;
 use wing_wire::write::Written;
 
-// The version of the form, its first byte.
-pub const VERSION: u8 = 1;
+pub mod earlier;
+
+// The version of the form, its first byte. 1 had the same fields, the counts of a body of 16 bits (earlier.rt).
+pub const VERSION: u8 = 2;
 
 // The bytes of the fields before the store.
 pub const HEAD: usize = 27;
@@ -37,8 +39,8 @@ pub const SIZE: usize = HEAD + State::BODY_LIMIT;
 struct TokenFields {
     kind: u8,
     class: u8,
-    want: u16,
-    left: u16,
+    want: u32,
+    left: u32,
     stored: u16,
     value: u32,
 }
@@ -117,7 +119,7 @@ fn class_number(class: Class) -> u8
         Class::Node => 7,
         Class::End => 8,
         Class::Count => 9,
-        Class::ZeroCount => 10,
+        Class::LongCount => 10,
     }
 }
 
@@ -137,15 +139,15 @@ fn fields_of(token: Token) -> TokenFields
             kind: 1,
             class: class_number(class),
             want: 0,
-            left: left,
+            left: left as u32,
             stored: 0,
             value: value,
         },
         Token::String { want, left } => TokenFields {
             kind: 2,
             class: 0,
-            want: want,
-            left: left,
+            want: want as u32,
+            left: left as u32,
             stored: 0,
             value: 0,
         },
@@ -160,16 +162,16 @@ fn fields_of(token: Token) -> TokenFields
     }
 }
 
-// The fields before the store, in their order.
-fn head_of(c: Control) -> [u8; HEAD]
-    ensures { λ r. ⌜ r ≡ headBytes c ⌝ }
+// The fields before the store, in their order, under a version.
+fn head_of(version: u8, c: Control) -> [u8; HEAD]
+    ensures { λ r. ⌜ r ≡ headUnder version c ⌝ }
 {
     let escape = c.escape;
     let pending = escape.pending;
     let token = c.token;
     let k = fields_of(token);
     let mut head = [0u8; HEAD];
-    head[0] = VERSION;
+    head[0] = version;
     head[1] = flag(escape.escaped);
     head[2] = of_i8(escape.channel);
     head[3] = pending_flag(pending);
@@ -177,15 +179,15 @@ fn head_of(c: Control) -> [u8; HEAD]
     put_i32(&mut head, 5, c.node);
     head[9] = k.kind;
     head[10] = k.class;
-    put_u32(&mut head, 11, k.want as u32);
-    put_u32(&mut head, 15, k.left as u32);
+    put_u32(&mut head, 11, k.want);
+    put_u32(&mut head, 15, k.left);
     put_u32(&mut head, 19, k.stored as u32);
     put_u32(&mut head, 23, k.value);
     head
 }
 
 // Bytes at a place.
-fn lay(out: &mut [u8], at: usize, src: &[u8])
+pub(crate) fn lay(out: &mut [u8], at: usize, src: &[u8])
     requires { ⌜ at + length (now src) ≤ length (now out) ⌝ }
     ensures { λ _. ⌜ now (out .exit) ≡ sets (now (out .entry)) at (now (src .entry)) ⌝ }
 {
@@ -203,7 +205,7 @@ pub fn lay_head(out: &mut [u8], c: Control) -> Written
     if out.len() < HEAD {
         return Written::Refused(9);
     }
-    let head = head_of(c);
+    let head = head_of(VERSION, c);
     lay(out, 0, &head);
     Written::Bytes(HEAD)
 }
@@ -215,7 +217,7 @@ fn lay_state(out: &mut [u8], s: State) -> Written
         return Written::Refused(9);
     }
     let c = s.control;
-    let head = head_of(c);
+    let head = head_of(VERSION, c);
     lay(out, 0, &head);
     lay(out, HEAD, &s.store);
     Written::Bytes(SIZE)
@@ -254,9 +256,16 @@ fn class_in(n: u8) -> Class
         7 => Class::Node,
         8 => Class::End,
         9 => Class::Count,
-        10 => Class::ZeroCount,
+        10 => Class::LongCount,
         _ => Class::NoEvent,
     }
+}
+
+// The counts of a number and of a string have 16 bits.
+pub(crate) fn low_16(n: u32) -> u16
+    ensures { λ r. ⌜ r ≡ n % 0x10000 ⌝ }
+{
+    (n % 0x10000) as u16
 }
 
 fn token_in(k: TokenFields) -> Token
@@ -268,13 +277,13 @@ fn token_in(k: TokenFields) -> Token
             let class = class_in(k.class);
             Token::Number {
                 class: class,
-                left: k.left,
+                left: low_16(k.left),
                 value: k.value,
             }
         }
         2 => Token::String {
-            want: k.want,
-            left: k.left,
+            want: low_16(k.want),
+            left: low_16(k.left),
         },
         3 => Token::Body {
             want: k.want,
@@ -285,7 +294,7 @@ fn token_in(k: TokenFields) -> Token
     }
 }
 
-// A counter has 16 bits: the last two of its four bytes.
+// What is stored has 16 bits: the last two of its four bytes.
 fn fields_in(s: &[u8]) -> TokenFields
     requires { ⌜ length (now s) ≡ savedSize ⌝ }
     ensures { λ r. ⌜ r ≡ fieldsIn (now (s .entry)) ⌝ }
@@ -293,8 +302,8 @@ fn fields_in(s: &[u8]) -> TokenFields
     TokenFields {
         kind: s[9],
         class: s[10],
-        want: u16_at(s, 13),
-        left: u16_at(s, 17),
+        want: u32_at(s, 11),
+        left: u32_at(s, 15),
         stored: u16_at(s, 21),
         value: u32_at(s, 23),
     }
@@ -342,14 +351,13 @@ fn no_head() -> HeadRead
     }
 }
 
-// The control of a state's bytes, which are its fields and then the store; 8 if they are not as many, or begin with no control's fields. Whether
-// the state is sound is not tested.
-pub fn head(bytes: &[u8]) -> HeadRead
-    ensures { λ r. ⌜ r ≡ headAs (headFrom (now (bytes .entry))) ⌝ }
+// The same under a version.
+pub(crate) fn head_under(version: u8, bytes: &[u8]) -> HeadRead
+    ensures { λ r. ⌜ r ≡ headAs (headFromUnder version (now (bytes .entry))) ⌝ }
 {
     if bytes.len() == SIZE {
         let c = control_in(bytes);
-        let front = head_of(c);
+        let front = head_of(version, c);
         if begins_with(bytes, &front) {
             return HeadRead {
                 answer: LoadAnswer::Good,
@@ -361,7 +369,15 @@ pub fn head(bytes: &[u8]) -> HeadRead
     no_head()
 }
 
-fn refuse(why: u8) -> Loaded
+// The control of a state's bytes, which are its fields and then the store; 8 if they are not as many, or begin with no control's fields. Whether
+// the state is sound is not tested.
+pub fn head(bytes: &[u8]) -> HeadRead
+    ensures { λ r. ⌜ r ≡ headAs (headFrom (now (bytes .entry))) ⌝ }
+{
+    head_under(VERSION, bytes)
+}
+
+pub(crate) fn refuse(why: u8) -> Loaded
     ensures { λ r. ⌜ r ≡ loadedAs (refused why) ⌝ }
 {
     Loaded {

@@ -24,3 +24,4 @@ pub mod Cuts
 pub mod Along
 pub mod Channels
 pub mod NextUnits
+pub mod CarriedOver

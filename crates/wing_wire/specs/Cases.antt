@@ -1,4 +1,4 @@
--- 01, Bytes and their outcomes: the cases marked #, one table. A fresh state reads each that is read.
+-- 01, Bytes and their outcomes: the cases marked #, one table; and 02's counts. A fresh state reads each that is read.
 use Prim.Native.Nat.{ℕ}
 use mathlib.Core.Bool.{true, false}
 use mathlib.Core.List.{List, [], _∷_}
@@ -95,4 +95,10 @@ cases =
     -- to −32769: ends d4 ff ff 7f ff
     setEnds (negsuc 32768) (0xd4 ∷ 0xff ∷ 0xff ∷ 0x7f ∷ 0xff ∷ []) ∷
     -- packet 00 01 00 00 ff ff 7f ff 05 → id 1: −1, 32767
-    packetReads (0x00 ∷ 0x01 ∷ 0x00 ∷ 0x00 ∷ 0xff ∷ 0xff ∷ 0x7f ∷ 0xff ∷ 0x05 ∷ []) 1 (negsuc 0 ∷ pos 32767 ∷ []) ∷ []
+    packetReads (0x00 ∷ 0x01 ∷ 0x00 ∷ 0x00 ∷ 0xff ∷ 0xff ∷ 0x7f ∷ 0xff ∷ 0x05 ∷ []) 1 (negsuc 0 ∷ pos 32767 ∷ []) ∷
+    -- 02: count 0, then the 32-bit count 1, its unit 41 → body 41
+    reads (0xdf ∷ 0xde ∷ 0x00 ∷ 0x00 ∷ 0x00 ∷ 0x00 ∷ 0x00 ∷ 0x01 ∷ 0x41 ∷ []) (body (0x41 ∷ [])) ∷
+    -- 02: both counts 0 → 3
+    reads (0xdf ∷ 0xde ∷ 0x00 ∷ 0x00 ∷ 0x00 ∷ 0x00 ∷ 0x00 ∷ 0x00 ∷ []) (refused 3) ∷
+    -- 02: count 0, then a 32-bit count over 4,096 → none while its units have not come
+    reads (0xdf ∷ 0xde ∷ 0x00 ∷ 0x00 ∷ 0x00 ∷ 0x01 ∷ 0x00 ∷ 0x00 ∷ 0x41 ∷ []) more ∷ []

@@ -18,4 +18,6 @@ pub mod SetOrders
 pub mod Repeated
 pub mod Tokens
 pub mod DecoderLaws
+pub mod Earlier
+pub mod EarlierReading
 pub mod WriterLaws

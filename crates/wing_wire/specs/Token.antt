@@ -5,7 +5,7 @@ use lib.Dec.{leb}
 use lib.ListN.{getD}
 use Rattle.wing_node.specs.Bool.{if}
 use Rattle.wing_wire.specs.declared.token.Class.{Class}
-use Rattle.wing_wire.specs.declared.token.Class.the-variants.{NoEvent, Integer, String, Length, Int16, Int32, Float, Node, End, Count, ZeroCount}
+use Rattle.wing_wire.specs.declared.token.Class.the-variants.{NoEvent, Integer, String, Length, Int16, Int32, Float, Node, End, Count, LongCount}
 use Rattle.wing_wire.specs.declared.token.Rule.{Rule}
 
 -- a class and the units wanted
@@ -60,7 +60,7 @@ classes = NoEvent ∷ Integer ∷ String ∷ Length ∷ Int16 ∷ Int32 ∷ Floa
 unfoldable pub classOf : ℕ → Class
 classOf n = getD classes n NoEvent
 
--- the number of a class there; no row has ZeroCount
+-- the number of a class there; no row has LongCount, the 32-bit count of 02 after a count of 0
 unfoldable pub classNumber : Class → ℕ
 classNumber NoEvent = 0
 classNumber Integer = 1
@@ -72,7 +72,7 @@ classNumber Float = 6
 classNumber Node = 7
 classNumber End = 8
 classNumber Count = 9
-classNumber ZeroCount = 10
+classNumber LongCount = 10
 
 -- the most units that a number of a class is made of; a class that is no number has none
 unfoldable pub widthOf : Class → ℕ
@@ -86,4 +86,4 @@ widthOf Float = 4
 widthOf Node = 4
 widthOf End = 0
 widthOf Count = 2
-widthOf ZeroCount = 4
+widthOf LongCount = 4

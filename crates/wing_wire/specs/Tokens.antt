@@ -1,4 +1,4 @@
--- Demand 1 on the wire: whole tokens. 01's table of tokens and its lines for 1, 2 and 3, row by row; what the units of a token come to;
+-- Demand 1 on the wire: whole tokens. 01's table of tokens and its lines for 1, 2 and 3, with 02's rule for counts, row by row; what the units of a token come to;
 -- and every stream of units is such tokens.
 use Prim.Native.Nat.{ℕ, _+_, _-_, _≤_, _<_}
 use mathlib.Core.Bool.{Bool}
@@ -44,6 +44,11 @@ pub record Further (n : ℕ) (us : List StreamUnit) : Type 0 where
 abbrev pub From : ℕ → ℕ → ℕ → Type 0
 From a b t = (a ≤ t) × (t ≤ b)
 
+-- 02: the count in force: a 16-bit count, or after count 0 the 32-bit count that follows it
+pub data InForce : List StreamUnit → ℕ → Type 0 where
+  short : (c : List StreamUnit) → Further 2 c → 1 ≤ big (values c) → InForce c (big (values c))
+  long : (z c : List StreamUnit) → Further 2 z → big (values z) ≡ 0 → Further 4 c → InForce (z ++ c) (big (values c))
+
 -- 01: 40–7f, d8, da–dd, e0–ff
 abbrev pub Rest : ℕ → Type 0
 Rest t = From 0x40 0x7f t ⊎ (From 0xd8 0xd8 t ⊎ (From 0xda 0xdd t ⊎ From 0xe0 0xff t))
@@ -86,15 +91,14 @@ pub data InTable : List StreamUnit → TokenResult → Type 0 where
   skips-one : (a : Bool) (us : List StreamUnit) → Further 1 us → InTable (streamUnit 0xd9 a ∷ us) nothing
   -- de: end
   end-unit : (a : Bool) → InTable (streamUnit 0xde a ∷ []) (event end)
-  -- df: 16-bit count c, then c units; body is what they append
-  bodies : (a : Bool) (c us : List StreamUnit) → Further 2 c → 1 ≤ big (values c) → big (values c) ≤ bodyLimit → Further (big (values c)) us →
+  -- df: count n, then n units; body is what they append. c are the units of the count
+  bodies : (a : Bool) (c us : List StreamUnit) (n : ℕ) → InForce c n → 1 ≤ n → n ≤ bodyLimit → Further n us →
       InTable (streamUnit 0xdf a ∷ (c ++ us)) (event (body (appended us)))
-  -- count over 4,096 reads all c units, then answers 2
-  count-over : (a : Bool) (c us : List StreamUnit) → Further 2 c → bodyLimit < big (values c) → Further (big (values c)) us →
+  -- count over 4,096 reads all n units, then answers 2
+  count-over : (a : Bool) (c us : List StreamUnit) (n : ℕ) → InForce c n → bodyLimit < n → Further n us →
       InTable (streamUnit 0xdf a ∷ (c ++ us)) (event (refused 2))
-  -- count 0 reads four more units, then answers 3
-  count-zero : (a : Bool) (c us : List StreamUnit) → Further 2 c → big (values c) ≡ 0 → Further 4 us →
-      InTable (streamUnit 0xdf a ∷ (c ++ us)) (event (refused 3))
+  -- 02: 3 means that both counts are 0
+  counts-zero : (a : Bool) (c : List StreamUnit) → InForce c 0 → InTable (streamUnit 0xdf a ∷ c) (event (refused 3))
   -- 40–7f, d8, da–dd, e0–ff: no event
   no-event : (t : ℕ) (a : Bool) → Rest t → InTable (streamUnit t a ∷ []) nothing
 
@@ -161,8 +165,8 @@ module _ {M : Type 0} (h : ℤ → Event → M → M) where
 
   -- what is said of tokens
   pub record Tokens : Type 0 where
-    -- every token of the table is taken as a whole and gives what its row says: 1 for a string that is not UTF-8, 2 for a count over
-    -- 4,096 and 3 for count 0, each when the last unit comes and with the node as it was
+    -- every token of the table is taken as a whole and gives what its row says: 1 for a string that is not UTF-8, 2 for a count in force over
+    -- 4,096 and 3 where both counts are 0, each when the last unit comes and with the node as it was
     pub row : (us : List StreamUnit) (g : TokenResult) → InTable us g → Token us g
     -- whatever units come, they can be cut into tokens of the table: no unit is outside it
     pub cut : (us : List StreamUnit) → AreBytes (values us) → CutOf us

@@ -11,7 +11,7 @@ use Rattle.wing_node.specs.Utf8.{utf8}
 use Rattle.wing_wire.specs.State.{bodyLimit}
 use Rattle.wing_wire.specs.Token.{ruleOf}
 use Rattle.wing_wire.specs.declared.token.Class.{Class}
-use Rattle.wing_wire.specs.declared.token.Class.the-variants.{NoEvent, Integer, String, Length, Int16, Int32, Float, Node, End, Count, ZeroCount}
+use Rattle.wing_wire.specs.declared.token.Class.the-variants.{NoEvent, Integer, String, Length, Int16, Int32, Float, Node, End, Count, LongCount}
 use Rattle.wing_wire.specs.declared.state.Token.{Token}
 use Rattle.wing_wire.specs.declared.state.Token.the-variants.{Between, Number, String as InString, Body as InBody}
 use Rattle.wing_wire.specs.declared.unit.Answer.{Answer}
@@ -42,7 +42,7 @@ singleOf Float t = More
 singleOf Node t = More
 singleOf End t = anEnd
 singleOf Count t = More
-singleOf ZeroCount t = More
+singleOf LongCount t = More
 
 -- whether a class is that of strings
 unfoldable pub isString : Class → Bool
@@ -56,7 +56,7 @@ isString Float = false
 isString Node = false
 isString End = false
 isString Count = false
-isString ZeroCount = false
+isString LongCount = false
 
 -- a token that wants units: those of a string, or those of a number
 unfoldable pub tokenOf : Class → ℕ → Token
@@ -68,9 +68,17 @@ beginOf node t =
     if (eqb (ruleOf t .wants) 0) (completes node (singleOf (ruleOf t .class) t))
     (awaits node (tokenOf (ruleOf t .class) (ruleOf t .wants)))
 
--- 01: count 0 reads four more units; any other count c is followed by c units
+-- 01: count c, then c units
+abbrev pub counted : ℤ → ℕ → Taken
+counted node c = awaits node (InBody c c 0)
+
+-- 01: df: 16-bit count; 02: after count 0 comes a 32-bit count
 unfoldable pub countOf : ℤ → ℕ → Taken
-countOf node c = if (eqb c 0) (awaits node (Number ZeroCount 4 0)) (awaits node (InBody c c 0))
+countOf node c = if (eqb c 0) (awaits node (Number LongCount 4 0)) (counted node c)
+
+-- 02: the 32-bit count is the count; refusal 3: both counts are 0
+unfoldable pub longCountOf : ℤ → ℕ → Taken
+longCountOf node c = if (eqb c 0) (completes node (Refused 3)) (counted node c)
 
 -- what a number gives when its last unit is there. The remainders keep each case in the width of its units
 unfoldable pub numberOf : ℤ → Class → ℕ → Taken
@@ -84,7 +92,7 @@ numberOf node Float v = completes node (aFloat v)
 numberOf node Node v = completes (signed 31 v) More
 numberOf node End v = completes node More
 numberOf node Count v = countOf node (v % 0x10000)
-numberOf node ZeroCount v = completes node (Refused 3)
+numberOf node LongCount v = longCountOf node v
 
 -- a number of 32 bits with one unit more at its end
 abbrev pub shiftIn : ℕ → ℕ → ℕ
@@ -123,7 +131,7 @@ stringUnit node want left s u =
 unfoldable pub keeps : ℕ → ℕ → Bool → Bool
 keeps want stored appended = if appended (if (leb want bodyLimit) (ltb stored bodyLimit) false) false
 
--- 01: count over 4,096 reads all c units, then answers 2
+-- 01: count over 4,096 reads all c units, then answers 2; 02: 2 means that the count in force is over 4,096
 unfoldable pub bodyDone : ℤ → ℕ → ℕ → Taken
 bodyDone node want stored = if (leb want bodyLimit) (completes node (aBody stored)) (completes node (Refused 2))
 

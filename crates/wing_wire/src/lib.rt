@@ -1,5 +1,6 @@
 // The wire library. Reading: a console's bytes to units, units to tokens, tokens to events. Writing: set orders,
 // requests and meters.
+pub mod earlier;
 pub mod escape;
 mod laying;
 pub mod lent;

@@ -28,7 +28,7 @@ pub enum Token {
     Between,
     Number { class: Class, left: u16, value: u32 },
     String { want: u16, left: u16 },
-    Body { want: u16, left: u16, stored: u16 },
+    Body { want: u32, left: u32, stored: u16 },
 }
 
 // The state without its store.
@@ -106,7 +106,7 @@ fn sound_escape(e: Escape) -> bool
 }
 
 // Fewer units collected than wanted.
-fn is_underway(left: u16, want: u16) -> bool
+fn is_underway(left: u32, want: u32) -> bool
     ensures { λ r. ⌜ r ≡ underway left want ⌝ }
 {
     if 1 <= left {
@@ -133,7 +133,7 @@ fn sound_number(class: Class, left: u16, value: u32) -> bool
     ensures { λ r. ⌜ r ≡ soundNumber class left value ⌝ }
 {
     let width = token::width_of(class);
-    if is_underway(left, width) {
+    if is_underway(left as u32, width as u32) {
         return is_within(value, width - left);
     }
     false
@@ -143,19 +143,19 @@ fn sound_number(class: Class, left: u16, value: u32) -> bool
 fn sound_string(want: u16, left: u16) -> bool
     ensures { λ r. ⌜ r ≡ soundString want left ⌝ }
 {
-    if is_underway(left, want) {
+    if is_underway(left as u32, want as u32) {
         return want <= 256;
     }
     false
 }
 
 // No more bytes stored than units collected, and none where the count is over the limit.
-fn sound_body(want: u16, left: u16, stored: u16) -> bool
+fn sound_body(want: u32, left: u32, stored: u16) -> bool
     ensures { λ r. ⌜ r ≡ soundBody want left stored ⌝ }
 {
     if is_underway(left, want) {
         if want as usize <= State::BODY_LIMIT {
-            return stored <= want - left;
+            return stored as u32 <= want - left;
         }
         return stored == 0;
     }

@@ -4,7 +4,7 @@ ghost use Rattle.wing_wire.specs.Token.{rule, classOf, ruleOf, widthOf};
 
 mod rows;
 
-// What a token is. ZeroCount is in no table row: it is what a count of 0 goes on as.
+// What a token is. LongCount is in no table row: it is the 32-bit count after a count of 0.
 pub enum Class {
     NoEvent,
     Integer,
@@ -16,7 +16,7 @@ pub enum Class {
     Node,
     End,
     Count,
-    ZeroCount,
+    LongCount,
 }
 
 pub struct Rule {
@@ -100,6 +100,6 @@ pub(crate) fn width_of(class: Class) -> u16
         Class::Node => 4,
         Class::End => 0,
         Class::Count => 2,
-        Class::ZeroCount => 4,
+        Class::LongCount => 4,
     }
 }

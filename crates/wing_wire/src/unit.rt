@@ -3,7 +3,7 @@ ghost use mathlib.Core.Path.{_≡_};
 ghost use Prim.Native.Nat.{_-_};
 ghost use lib.ListN.{set, take};
 ghost use Rattle.wing_node.specs.Utf8.{utf8};
-ghost use Rattle.wing_wire.specs.Unit.{taken, singleOf, isString, tokenOf, beginOf, countOf, numberOf, shiftIn, numberUnit, unitEffect, cleared, stringDone, stringUnit, keeps, bodyDone, bodyNext, bodyUnit, unitOf};
+ghost use Rattle.wing_wire.specs.Unit.{taken, singleOf, isString, tokenOf, beginOf, counted, countOf, longCountOf, numberOf, shiftIn, numberUnit, unitEffect, cleared, stringDone, stringUnit, keeps, bodyDone, bodyNext, bodyUnit, unitOf};
 use crate::state::State;
 use crate::state::Token;
 use crate::state::collected;
@@ -57,7 +57,7 @@ fn single(class: Class, t: u8) -> Answer
         Class::Node => Answer::More,
         Class::End => Answer::End,
         Class::Count => Answer::More,
-        Class::ZeroCount => Answer::More,
+        Class::LongCount => Answer::More,
     }
 }
 
@@ -75,7 +75,7 @@ fn is_string(class: Class) -> bool
         Class::Node => false,
         Class::End => false,
         Class::Count => false,
-        Class::ZeroCount => false,
+        Class::LongCount => false,
     }
 }
 
@@ -110,20 +110,10 @@ fn begin(node: i32, t: u8) -> Taken
     taken_of(Answer::More, node, token)
 }
 
-fn count(node: i32, c: u16) -> Taken
-    ensures { λ r. ⌜ r ≡ countOf node c ⌝ }
+// A count that is not 0 wants as many units.
+fn body_of(node: i32, c: u32) -> Taken
+    ensures { λ r. ⌜ r ≡ counted node c ⌝ }
 {
-    if c == 0 {
-        return taken_of(
-            Answer::More,
-            node,
-            Token::Number {
-                class: Class::ZeroCount,
-                left: 4,
-                value: 0,
-            },
-        );
-    }
     taken_of(
         Answer::More,
         node,
@@ -133,6 +123,34 @@ fn count(node: i32, c: u16) -> Taken
             stored: 0,
         },
     )
+}
+
+// A 16-bit count; after 0 comes a 32-bit one.
+fn count(node: i32, c: u16) -> Taken
+    ensures { λ r. ⌜ r ≡ countOf node c ⌝ }
+{
+    if c == 0 {
+        return taken_of(
+            Answer::More,
+            node,
+            Token::Number {
+                class: Class::LongCount,
+                left: 4,
+                value: 0,
+            },
+        );
+    }
+    body_of(node, c as u32)
+}
+
+// The 32-bit count after a count of 0; 3 if both are 0.
+fn long_count(node: i32, c: u32) -> Taken
+    ensures { λ r. ⌜ r ≡ longCountOf node c ⌝ }
+{
+    if c == 0 {
+        return taken_of(Answer::Refused(3), node, Token::Between);
+    }
+    body_of(node, c)
 }
 
 // What a number gives when its last unit is there.
@@ -156,7 +174,7 @@ fn number(node: i32, class: Class, v: u32) -> Taken
         Class::Node => taken_of(Answer::More, to_i32(v), Token::Between),
         Class::End => taken_of(Answer::More, node, Token::Between),
         Class::Count => count(node, (v % 0x10000) as u16),
-        Class::ZeroCount => taken_of(Answer::Refused(3), node, Token::Between),
+        Class::LongCount => long_count(node, v),
     }
 }
 
@@ -243,7 +261,7 @@ fn string_unit(node: i32, want: u16, left: u16, store: &mut [u8], u: u8) -> Take
 }
 
 // Whether a body's unit goes into the store.
-fn is_kept(want: u16, stored: u16, appended: bool) -> bool
+fn is_kept(want: u32, stored: u16, appended: bool) -> bool
     ensures { λ r. ⌜ r ≡ keeps want stored appended ⌝ }
 {
     if appended {
@@ -254,7 +272,7 @@ fn is_kept(want: u16, stored: u16, appended: bool) -> bool
     false
 }
 
-fn body_done(node: i32, want: u16, stored: u16) -> Taken
+fn body_done(node: i32, want: u32, stored: u16) -> Taken
     ensures { λ r. ⌜ r ≡ bodyDone node want stored ⌝ }
 {
     if want as usize <= State::BODY_LIMIT {
@@ -263,7 +281,7 @@ fn body_done(node: i32, want: u16, stored: u16) -> Taken
     taken_of(Answer::Refused(2), node, Token::Between)
 }
 
-fn body_next(node: i32, want: u16, left: u16, stored: u16) -> Taken
+fn body_next(node: i32, want: u32, left: u32, stored: u16) -> Taken
     ensures { λ r. ⌜ r ≡ bodyNext node want left stored ⌝ }
 {
     if left <= 1 {
@@ -282,8 +300,8 @@ fn body_next(node: i32, want: u16, left: u16, stored: u16) -> Taken
 
 fn body_unit(
     node: i32,
-    want: u16,
-    left: u16,
+    want: u32,
+    left: u32,
     stored: u16,
     store: &mut [u8],
     u: u8,

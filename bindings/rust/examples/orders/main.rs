@@ -1,7 +1,7 @@
 //! Orders of docs/ORDERS.md, answered by this crate: a line each from standard input, a line each to standard output.
 //!
 //! All of the parts 'Mirror' and 'Document 02'; of the others those that the crate has calls for, without `sum` and held bytes.
-//! `bindings/histories` holds the answers against the model of 01 and of 02's first two requests. Where two of the crate's ways to one answer differ, a `!` stands in it.
+//! `bindings/histories` holds the answers against the model of 01 and of 02's requests. Where two of the crate's ways to one answer differ, a `!` stands in it.
 mod definitions;
 mod listings;
 mod mirrors;

@@ -3,6 +3,7 @@ use crate::definitions::{again, define};
 use crate::words::{bits, count, hex, int32, plain};
 use whistleloam::{
     is_utf8, raw, read_meters, request_meter, Decoder, Definition, Details, Event, Item, Meter, Refusal, Value,
+    STATE_SIZE,
 };
 
 const ROOM: u64 = 16384;
@@ -15,6 +16,7 @@ pub fn order(name: &str, w: &[&str]) -> Option<String> {
         ("stream", 1) => Some(stream(&[65536], &hex(w[0])?)),
         ("pieces", 2) => pieces(count(w[0], UINT16)?, &hex(w[1])?),
         ("piecelist", 2) => Some(stream(&sizes(w[0])?, &hex(w[1])?)),
+        ("earlier", 3) => Some(earlier(&hex(w[0])?, &hex(w[1])?, &hex(w[2])?)),
         ("definition", 1) => Some(definition(&hex(w[0])?)),
         ("item", 2) => Some(numbered(&hex(w[1])?, count(w[0], UINT32)?)),
         ("walk", 1) => Some(walk(&hex(w[0])?)),
@@ -95,11 +97,42 @@ fn last(decoder: &Decoder) -> String {
 
 /// Each call gets as many bytes as the next of the sizes says.
 fn stream(sizes: &[usize], bytes: &[u8]) -> String {
-    let mut decoder = Decoder::new();
+    read(&mut Decoder::new(), sizes, bytes)
+}
+
+/// The fields of a state of version 1 and the front of its store, carried over; then a stream from it.
+fn earlier(head: &[u8], store: &[u8], bytes: &[u8]) -> String {
+    let mut saved = [head, store].concat();
+    saved.resize(saved.len().max(STATE_SIZE), 0);
+    match Decoder::carry_over(&saved) {
+        Ok(mut decoder) => format!("carried {}{}", read(&mut decoder, &[65536], bytes), inside(&decoder.save())),
+        Err(why) => refused(why),
+    }
+}
+
+/// What a state holds besides escaped, channel and node, by its bytes.
+fn inside(state: &[u8]) -> String {
+    let number = |at: usize| state[at..at + 4].iter().fold(0u32, |n, b| n << 8 | u32::from(*b));
+    let classes =
+        ["skipped", "integer", "string", "length", "int16", "int32", "float", "node", "end", "count", "longcount"];
+    let pending = if state[3] == 1 { format!("{:02x}", state[4]) } else { "none".to_string() };
+    let (want, left, stored) = (number(11), number(15), number(19));
+    let token = match state[9] {
+        0 => "between".to_string(),
+        1 => format!("number {} left={left} value={:08x}", classes[usize::from(state[10])], number(23)),
+        2 => format!("string left={left} of {want}"),
+        _ => format!("body left={left} of {want} stored={stored}"),
+    };
+    let used = state.len() - state.iter().rev().take_while(|b| **b == 0).count();
+    let store = if used > 27 { plain(&state[27..used]) } else { "-".to_string() };
+    format!(" pending={pending} token={token} store={store}")
+}
+
+fn read(decoder: &mut Decoder, sizes: &[usize], bytes: &[u8]) -> String {
     let (mut text, mut at) = (String::new(), 0);
     for size in sizes.iter().cycle() {
         let piece = &bytes[at..bytes.len().min(at + size)];
-        let (event, taken) = next(&mut decoder, piece);
+        let (event, taken) = next(decoder, piece);
         at += taken;
         match event {
             Some(event) => text += &format!("{event}@{at:08x}"),
@@ -108,7 +141,7 @@ fn stream(sizes: &[usize], bytes: &[u8]) -> String {
             None => {}
         }
     }
-    text + &last(&decoder)
+    text + &last(decoder)
 }
 
 fn pieces(size: usize, bytes: &[u8]) -> Option<String> {

@@ -25,7 +25,7 @@ fn tokens_give_what_the_rules_say() {
         [value(0, Value::Float(0x7fc0_0001)), value(0, Value::Float(0xdf00_0000)),]
     );
     assert_eq!(events("d7 ff ff ff fe 05 d2 ff ff d9 ff de"), [value(-2, 5), Ok(Event::End)]);
-    assert_eq!(events("df de 00 00 01 02 03 04 05"), [Err(Refusal::BODY_EMPTY), value(0, 5)]);
+    assert_eq!(events("df de 00 00 00 00 00 00 05"), [Err(Refusal::BODY_EMPTY), value(0, 5)]);
 }
 
 /// 01: "forgetting that a next call with no bytes can finish a pending one".
@@ -117,7 +117,7 @@ fn what_was_handed_out_can_be_read() {
     // A string, and what has no bytes: an integer, an end, a refused string or count, a refused call.
     assert_eq!(decoder.next(&hex("81 41 42")).0, Ok(Some(Event::Value(0, "AB".into()))));
     assert_eq!(decoder.handed(), b"AB");
-    for (bytes, what) in [("05", Ok(5)), ("80 80", Err(1)), ("df de 00 00 01 02 03 04", Err(3)), ("de", Ok(-1))] {
+    for (bytes, what) in [("05", Ok(5)), ("80 80", Err(1)), ("df de 00 00 00 00 00 00", Err(3)), ("de", Ok(-1))] {
         assert!(decoder.next(&hex("80 41")).0.is_ok());
         assert_eq!(decoder.handed(), b"A");
         let got = decoder.next(&hex(bytes)).0;
@@ -153,7 +153,7 @@ fn bytes_after_those_handed_out_are_as_they_were() {
 #[test]
 fn a_state_has_its_bytes() {
     let fresh = Decoder::new().save();
-    assert_eq!(fresh[..27], hex("01 00 ff 00 00 00 00 00 00 00 00 00 00 00 00 00 00 00 00 00 00 00 00 00 00 00 00"));
+    assert_eq!(fresh[..27], hex("02 00 ff 00 00 00 00 00 00 00 00 00 00 00 00 00 00 00 00 00 00 00 00 00 00 00 00"));
     assert!(fresh[27..].iter().all(|b| *b == 0));
     assert_eq!(fresh.len(), 27 + 4096);
 
@@ -162,25 +162,32 @@ fn a_state_has_its_bytes() {
         // In channel 1, node -2, in the middle of a body: of 16 bytes 1 and 3 have come, of 272 two.
         (
             "df d1 d7 ff ff ff fe df 00 10 41",
-            "01 00 01 00 00 ff ff ff fe 03 00 00 00 00 10 00 00 00 0f 00 00 00 01 00 00 00 00",
+            "02 00 01 00 00 ff ff ff fe 03 00 00 00 00 10 00 00 00 0f 00 00 00 01 00 00 00 00",
             "41",
         ),
         (
             "df d1 d7 ff ff ff fe df de 00 10 41 df de 43",
-            "01 00 01 00 00 ff ff ff fe 03 00 00 00 00 10 00 00 00 0d 00 00 00 03 00 00 00 00",
+            "02 00 01 00 00 ff ff ff fe 03 00 00 00 00 10 00 00 00 0d 00 00 00 03 00 00 00 00",
             "41 df 43",
         ),
         (
             "d7 00 00 01 02 df de 01 10 41 42",
-            "01 00 ff 00 00 00 00 01 02 03 00 00 00 01 10 00 00 01 0e 00 00 00 02 00 00 00 00",
+            "02 00 ff 00 00 00 00 01 02 03 00 00 00 01 10 00 00 01 0e 00 00 00 02 00 00 00 00",
             "41 42",
         ),
         // A string of 3 bytes, of which 2 have come; a number of 4, of which 2; a body's count, of which 1.
-        ("82 41 42", "01 00 ff 00 00 00 00 00 00 02 00 00 00 00 03 00 00 00 01 00 00 00 00 00 00 00 00", "41 42"),
-        ("d4 12 34", "01 00 ff 00 00 00 00 00 00 01 05 00 00 00 00 00 00 00 02 00 00 00 00 00 00 12 34", ""),
-        ("df de 01", "01 00 ff 00 00 00 00 00 00 01 09 00 00 00 00 00 00 00 01 00 00 00 00 00 00 00 01", ""),
+        ("82 41 42", "02 00 ff 00 00 00 00 00 00 02 00 00 00 00 03 00 00 00 01 00 00 00 00 00 00 00 00", "41 42"),
+        ("d4 12 34", "02 00 ff 00 00 00 00 00 00 01 05 00 00 00 00 00 00 00 02 00 00 00 00 00 00 12 34", ""),
+        ("df de 01", "02 00 ff 00 00 00 00 00 00 01 09 00 00 00 00 00 00 00 01 00 00 00 00 00 00 00 01", ""),
+        // 02: a count 0, after which four units are wanted; of a body of 70,000 one has come, and nothing is stored.
+        ("df de 00 00", "02 00 ff 00 00 00 00 00 00 01 0a 00 00 00 00 00 00 00 04 00 00 00 00 00 00 00 00", ""),
+        (
+            "df de 00 00 00 01 11 70 41",
+            "02 00 ff 00 00 00 00 00 00 03 00 00 01 11 70 00 01 11 6f 00 00 00 00 00 00 00 00",
+            "",
+        ),
         // A byte df, after which the next one tells.
-        ("df d3 df", "01 01 03 00 00 00 00 00 00 00 00 00 00 00 00 00 00 00 00 00 00 00 00 00 00 00 00", ""),
+        ("df d3 df", "02 01 03 00 00 00 00 00 00 00 00 00 00 00 00 00 00 00 00 00 00 00 00 00 00 00 00", ""),
     ];
     for (bytes, fields, store) in states {
         let mut decoder = Decoder::new();
@@ -193,7 +200,7 @@ fn a_state_has_its_bytes() {
     // A byte is pending after the call that gave an event before it.
     let mut decoder = Decoder::new();
     assert_eq!(decoder.next(&hex("df d1 80 df 05")), (Err(Refusal::STRING), 5));
-    assert_eq!(decoder.save()[..11], hex("01 00 01 01 05 00 00 00 00 00 00"));
+    assert_eq!(decoder.save()[..11], hex("02 00 01 01 05 00 00 00 00 00 00"));
 }
 
 #[test]
@@ -203,4 +210,113 @@ fn a_state_that_is_none_is_refused() {
     assert!(Decoder::restore(&saved).is_ok());
     saved[2] = 14;
     assert_eq!(Decoder::restore(&saved).err(), Some(Refusal::STATE));
+}
+
+/// 02, Job 4: "count 0 and then a 32-bit count .. From now on the 32-bit count is the count".
+#[test]
+fn a_long_count_is_the_count() {
+    let body = "00 00 00 00 00 00 00 02 00 00 01 61 00 00 00";
+    let long = events(&format!("df de 00 00 00 00 00 0f {body} 05"));
+    assert!(matches!(&long[..], [Ok(Event::Definition(d)), Ok(_)] if d.id() == 2 && d.body() == hex(body)), "{long:?}");
+    let of =
+        |count: u32, units: usize| [&hex("df de 00 00")[..], &count.to_be_bytes(), &vec![0x41; units], &[5]].concat();
+    let read = |bytes: &[u8], size: usize| {
+        let mut decoder = Decoder::new();
+        bytes.chunks(size).flat_map(|p| decoder.events(p).collect::<Vec<_>>()).collect::<Vec<_>>()
+    };
+    for size in [1, 3, 8, 4096, 65536] {
+        assert_eq!(read(&of(0, 0), size), [Err(Refusal::BODY_EMPTY), value(0, 5)]);
+        assert_eq!(read(&of(1, 1), size), [Err(Refusal::DEFINITION_SHORT), value(0, 5)]);
+        for count in [4097, 65535, 65536, 70000] {
+            assert_eq!(read(&of(count, count as usize), size), [Err(Refusal::BODY_LONG), value(0, 5)], "{count}");
+        }
+    }
+    let most = read(&of(4096, 4096), 1000);
+    assert!(matches!(&most[..], [Ok(Event::Definition(d)), Ok(_)] if d.body() == [0x41; 4096]), "{most:?}");
+    assert_eq!(read(&of(u32::MAX, 70000), 65536), []);
+}
+
+/// The end of a body of 2^32 - 1 units, from a state that has skipped all but two.
+#[test]
+fn the_longest_body_ends() {
+    let mut saved = Decoder::new().save();
+    saved[9] = 3;
+    saved[11..15].copy_from_slice(&[0xff; 4]);
+    saved[18] = 2;
+    let mut decoder = Decoder::restore(&saved).unwrap();
+    assert_eq!(decoder.events(&hex("41")).count(), 0);
+    assert_eq!(decoder.events(&hex("41 05")).collect::<Vec<_>>(), [Err(Refusal::BODY_LONG), value(0, 5)]);
+    // One byte stored, or more left than wanted.
+    saved[22] = 1;
+    assert_eq!(Decoder::restore(&saved).err(), Some(Refusal::STATE));
+    saved[22] = 0;
+    saved[14] = 0xfe;
+    saved[15..19].copy_from_slice(&[0xff; 4]);
+    assert_eq!(Decoder::restore(&saved).err(), Some(Refusal::STATE));
+}
+
+/// States that the release before wrote, after these bytes: their fields and the front of their store.
+const EARLIER: [(&str, &str, &str); 10] = [
+    ("", "01 00 ff 00 00 00 00 00 00 00 00 00 00 00 00 00 00 00 00 00 00 00 00 00 00 00 00", ""),
+    ("df d1 d7 00 00 00 07", "01 00 01 00 00 00 00 00 07 00 00 00 00 00 00 00 00 00 00 00 00 00 00 00 00 00 00", ""),
+    ("d7 ff", "01 00 ff 00 00 00 00 00 00 01 07 00 00 00 00 00 00 00 03 00 00 00 00 00 00 00 ff", ""),
+    ("d5 3f 80", "01 00 ff 00 00 00 00 00 00 01 06 00 00 00 00 00 00 00 02 00 00 00 00 00 00 3f 80", ""),
+    ("83 df df", "01 01 ff 00 00 00 00 00 00 02 00 00 00 00 04 00 00 00 03 00 00 00 00 00 00 00 00", "df"),
+    ("df de 00", "01 00 ff 00 00 00 00 00 00 01 09 00 00 00 00 00 00 00 01 00 00 00 00 00 00 00 00", ""),
+    ("df de 00 03 41 df", "01 01 ff 00 00 00 00 00 00 03 00 00 00 00 03 00 00 00 02 00 00 00 01 00 00 00 00", "41"),
+    ("df de 10 00 41 42", "01 00 ff 00 00 00 00 00 00 03 00 00 00 10 00 00 00 0f fe 00 00 00 02 00 00 00 00", "41 42"),
+    ("df de ff ff 41 42", "01 00 ff 00 00 00 00 00 00 03 00 00 00 ff ff 00 00 ff fd 00 00 00 00 00 00 00 00", ""),
+    ("df de 00 00", "01 00 ff 00 00 00 00 00 00 01 0a 00 00 00 00 00 00 00 04 00 00 00 00 00 00 00 00", ""),
+];
+
+/// The bytes of such a state.
+fn earlier(fields: &str, store: &str) -> Vec<u8> {
+    let mut saved = [hex(fields), hex(store)].concat();
+    saved.resize(4123, 0);
+    saved
+}
+
+/// 02: "An old sound state is carried over with its units left, stored bytes and all else the same".
+#[test]
+fn a_state_of_version_1_is_carried_over() {
+    for (bytes, fields, store) in EARLIER {
+        let saved = earlier(fields, store);
+        let mut now = Decoder::new();
+        assert_eq!(now.events(&hex(bytes)).count(), 0, "{bytes}");
+        let over = Decoder::carry_over(&saved).unwrap();
+        assert!(over.save() == now.save() && over.node() == now.node(), "{bytes}");
+        // But for the version it is byte for byte the same; as it is, it is no state of today's, and today's is none of version 1.
+        assert_eq!(over.save()[1..], saved[1..], "{bytes}");
+        assert_eq!(Decoder::restore(&saved).err(), Some(Refusal::STATE), "{bytes}");
+        assert_eq!(Decoder::carry_over(&now.save()).err(), Some(Refusal::STATE), "{bytes}");
+    }
+}
+
+/// 02: "one that has taken any of the four units after count 0, or isn't sound, gets 8".
+#[test]
+fn a_state_of_version_1_is_refused() {
+    let taken = [
+        "01 00 ff 00 00 00 00 00 00 01 0a 00 00 00 00 00 00 00 03 00 00 00 00 00 00 00 00",
+        "01 00 ff 00 00 00 00 00 00 01 0a 00 00 00 00 00 00 00 01 00 00 00 00 00 00 00 00",
+    ];
+    let unsound = [
+        "01 00 0e 00 00 00 00 00 00 00 00 00 00 00 00 00 00 00 00 00 00 00 00 00 00 00 00",
+        "01 00 ff 00 00 00 00 00 00 03 00 00 01 00 00 00 01 00 00 00 00 00 00 00 00 00 00",
+    ];
+    for fields in taken.into_iter().chain(unsound) {
+        let (saved, mut state) = (earlier(fields, ""), vec![0xaa; 4123]);
+        assert_eq!(Decoder::carry_over(&saved).err(), Some(Refusal::STATE), "{fields}");
+        let written = raw::state_carry_over(&saved, &mut state);
+        assert_eq!((written.status, written.len, state), (-8, 0, vec![0xaa; 4123]), "{fields}");
+    }
+    let fresh = earlier(EARLIER[0].1, "");
+    assert_eq!(Decoder::carry_over(&fresh[..4122]).err(), Some(Refusal::STATE));
+    // 8 before 9, and what is longer than a state stays as it was after it.
+    for (len, want) in [(0, (-9, 0)), (4122, (-9, 0)), (4123, (0, 4123)), (4200, (0, 4123))] {
+        let mut state = vec![0xaa; len];
+        let written = raw::state_carry_over(&fresh, &mut state);
+        assert_eq!((written.status, written.len), want);
+        assert!(state[written.len..].iter().all(|b| *b == 0xaa));
+        assert_eq!(raw::state_carry_over(&[], &mut state).status, -8);
+    }
 }

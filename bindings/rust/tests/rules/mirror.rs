@@ -181,9 +181,17 @@ fn a_saved_mirror_goes_on_where_it_was() {
         let saved = mirror.save();
         assert_eq!(saved.len(), STATE_SIZE + 8 + mirror.len() * PLACE_WIDTH);
         let mut back = Mirror::restore(&saved).unwrap();
-        assert_eq!((back.places(), back.save()), (128, saved));
+        assert_eq!((back.places(), back.save()), (128, saved.clone()));
         back.feed(&bytes[cut..]).unwrap();
         assert!(back == whole, "cut at {cut}");
+        // 02: the same under version 1, whose bytes had the same fields.
+        let earlier = [&[1], &saved[1..]].concat();
+        assert_eq!(Mirror::restore(&earlier).unwrap_err(), Refusal::STATE);
+        assert_eq!(Mirror::carry_over(&saved).unwrap_err(), Refusal::STATE);
+        let mut over = Mirror::carry_over(&earlier).unwrap();
+        assert_eq!((over.places(), over.save()), (128, saved));
+        over.feed(&bytes[cut..]).unwrap();
+        assert!(over == whole, "cut at {cut}");
     }
 }
 
@@ -201,7 +209,13 @@ fn a_damaged_save_is_refused() {
         other[at] = byte;
         Mirror::restore(&other)
     };
-    assert_eq!(with(0, 2).unwrap_err(), Refusal::STATE);
+    assert_eq!(with(0, 1).unwrap_err(), Refusal::STATE);
+    assert_eq!(with(0, 3).unwrap_err(), Refusal::STATE);
+    let earlier = [&[1], &saved[1..]].concat();
+    for len in [0, STATE_SIZE - 1, STATE_SIZE, STATE_SIZE + 7, saved.len() - 1] {
+        let want = if len < STATE_SIZE { Refusal::STATE } else { Refusal::TABLE };
+        assert_eq!(Mirror::carry_over(&earlier[..len]).unwrap_err(), want, "{len}");
+    }
     assert_eq!(with(STATE_SIZE - 1, 1).unwrap_err(), Refusal::STATE);
     // 8 comes before 7.
     assert_eq!(Mirror::restore(&[&[0; 2 * STATE_SIZE][..], &saved].concat()).unwrap_err(), Refusal::STATE);

@@ -21,7 +21,7 @@ fn each_number_has_its_cause() {
     let causes: [Result<(), Refusal>; 18] = [
         first("80 80"),
         first(&("df de 10 01 ".to_string() + &"00 ".repeat(4097))),
-        first("df de 00 00 01 02 03 04"),
+        first("df de 00 00 00 00 00 00"),
         first("df de 00 01 00"),
         first("df de 00 0f 00 00 00 00 00 00 00 02 00 00 01 80 00 00 00"),
         one.set(2, 1).map(|_| ()),

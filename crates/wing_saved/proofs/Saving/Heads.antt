@@ -1,5 +1,5 @@
 -- The fields before the store: how they are laid, and that they read back.
-use Prim.Native.Nat.{ℕ, _+_, _-_, _^_, _≤_, _<_}
+use Prim.Native.Nat.{ℕ, _+_, _-_, _%_, _^_, _≤_, _<_}
 use mathlib.Core.Bool.{Bool, true, false}
 use mathlib.Core.Path.{_≡_, refl, _∙_, ap}
 use mathlib.Core.List.{List, _∷_, _++_}
@@ -18,9 +18,9 @@ use Rattle.wing_node.proofs.Numerals.Placed.{field-whole}
 use Rattle.wing_node.proofs.Numerals.Signs.{signed-unsigned}
 use Rattle.wing_wire.specs.Token.{classNumber}
 use Rattle.wing_wire.specs.State.{escape, control}
-use Rattle.wing_saved.specs.Saved.{flag, pendingFlag, pendingByteOf, fieldsOf, headBytes, pendingIn, classIn, tokenIn, fieldsIn, controlIn}
+use Rattle.wing_saved.specs.Saved.{flag, pendingFlag, pendingByteOf, fieldsOf, headUnder, pendingIn, classIn, tokenIn, fieldsIn, controlIn}
 use Rattle.wing_wire.specs.declared.token.Class.{Class}
-use Rattle.wing_wire.specs.declared.token.Class.the-variants.{NoEvent, Integer, String, Length, Int16, Int32, Float, Node, End, Count, ZeroCount}
+use Rattle.wing_wire.specs.declared.token.Class.the-variants.{NoEvent, Integer, String, Length, Int16, Int32, Float, Node, End, Count, LongCount}
 use Rattle.wing_wire.specs.declared.state.Pending.{Pending}
 use Rattle.wing_wire.specs.declared.state.Pending.the-variants.{None, Byte}
 use Rattle.wing_wire.specs.declared.state.Token.{Token}
@@ -39,28 +39,28 @@ abbrev with-four : ℕ → ℕ → List ℕ → List ℕ
 with-four at n s = putAt (bytesOf 4 n) at s .bytes
 
 -- 27 bytes, the fields of four written one after the other
-pub fields-put : (a b c d node kind class want left stored value : ℕ) {f g h i j : Bool} {s t u v w : List ℕ} →
-    put f s ≡ putAt (bytesOf 4 node) 5 (1 ∷ a ∷ b ∷ c ∷ d ∷ replicate 22 0) →
+pub fields-put : (v a b c d node kind class want left stored value : ℕ) {f g h i j : Bool} {s t u x w : List ℕ} →
+    put f s ≡ putAt (bytesOf 4 node) 5 (v ∷ a ∷ b ∷ c ∷ d ∷ replicate 22 0) →
     put g t ≡ putAt (bytesOf 4 want) 11 (set (set s 9 kind) 10 class) →
     put h u ≡ putAt (bytesOf 4 left) 15 t →
-    put i v ≡ putAt (bytesOf 4 stored) 19 u →
-    put j w ≡ putAt (bytesOf 4 value) 23 v →
-    w ≡ 1 ∷ a ∷ b ∷ c ∷ d ∷ (bytesOf 4 node ++ (kind ∷ class ∷ (bytesOf 4 want ++ (bytesOf 4 left ++ (bytesOf 4 stored ++ bytesOf 4 value)))))
+    put i x ≡ putAt (bytesOf 4 stored) 19 u →
+    put j w ≡ putAt (bytesOf 4 value) 23 x →
+    w ≡ v ∷ a ∷ b ∷ c ∷ d ∷ (bytesOf 4 node ++ (kind ∷ class ∷ (bytesOf 4 want ++ (bytesOf 4 left ++ (bytesOf 4 stored ++ bytesOf 4 value)))))
 unfolding putAt placed digitsIn
-fields-put a b c d node kind class want left stored value p q r m n =
+fields-put v a b c d node kind class want left stored value p q r m n =
     left-bytes n ∙ ap (with-four 23 value)
     (left-bytes m ∙ ap (with-four 19 stored)
     (left-bytes r ∙ ap (with-four 15 left)
     (left-bytes q ∙ ap (λ (l : List ℕ). with-four 11 want (set (set l 9 kind) 10 class)) (left-bytes p))))
 
-pub head-size : (c : Control) → length (headBytes c) ≡ 27
-unfolding headBytes digitsIn
-head-size c = refl
+pub head-size : (v : ℕ) (c : Control) → length (headUnder v c) ≡ 27
+unfolding headUnder digitsIn
+head-size v c = refl
 
 -- what comes after them
-pub after-head : (c : Control) (t : List ℕ) → drop 27 (headBytes c ++ t) ≡ t
-unfolding headBytes digitsIn
-after-head c t = refl
+pub after-head : (v : ℕ) (c : Control) (t : List ℕ) → drop 27 (headUnder v c ++ t) ≡ t
+unfolding headUnder digitsIn
+after-head v c t = refl
 
 -- ---- read back
 
@@ -85,21 +85,36 @@ class-back Float = refl
 class-back Node = refl
 class-back End = refl
 class-back Count = refl
-class-back ZeroCount = refl
+class-back LongCount = refl
 
-token-back : (t : Token) → tokenIn (fieldsOf t) ≡ t
+-- the counts of a number and of a string have 16 bits
+abbrev pub Narrow : Token → Type 0
+Narrow Between = Unit {0}
+Narrow (Number class left value) = left < 2 ^ 16
+Narrow (InString want left) = (want < 2 ^ 16) × (left < 2 ^ 16)
+Narrow (InBody want left stored) = Unit {0}
+
+pub low-same : (n : ℕ) → n < 2 ^ 16 → n % 0x10000 ≡ n
+low-same n h = omega arith
+
+token-back : (t : Token) → Narrow t → tokenIn (fieldsOf t) ≡ t
 unfolding tokenIn fieldsOf
-token-back Between = refl
-token-back (Number class left value) = ap (λ (k : Class). Number k left value) (class-back class)
-token-back (InString want left) = refl
-token-back (InBody want left stored) = refl
+token-back Between h = refl
+token-back (Number class left value) h = ap (λ (k : Class). Number k (left % 0x10000) value) (class-back class) ∙ ap (λ (n : ℕ). Number class n value) (low-same left h)
+token-back (InString want left) (h, k) = rw (low-same want h, low-same left k)
+token-back (InBody want left stored) h = refl
 
--- the numbers of a token are within their fields
-pub record Fits (k : TokenFields) : Type 0 where
-  pub want : k .want < 2 ^ 16
-  pub left : k .left < 2 ^ 16
+-- the numbers are within their fields
+pub record FieldsFit (k : TokenFields) : Type 0 where
+  pub want : k .want < 2 ^ 32
+  pub left : k .left < 2 ^ 32
   pub stored : k .stored < 2 ^ 16
   pub value : k .value < 2 ^ 32
+
+-- and so are those of a token
+pub record Fits (t : Token) : Type 0 where
+  pub fields : FieldsFit (fieldsOf t)
+  pub narrow : Narrow t
 
 -- 01: channel −1 to 13: a signed byte
 pub channel-fits : (z : ℤ) → leZ (negsuc 0) z ≡ true → leZ z (pos 13) ≡ true → InBits 7 z
@@ -117,45 +132,45 @@ unsigned-fits (pos n) h = omega arith
 unsigned-fits (negsuc n) h = omega arith
 
 -- the fields and what follows
-abbrev whole : Control → List ℕ → List ℕ
-whole c t = headBytes c ++ t
+abbrev whole : ℕ → Control → List ℕ → List ℕ
+whole v c t = headUnder v c ++ t
 
-module _ (c : Control) (t : List ℕ) (fits : Fits (fieldsOf (c .token))) where
-  long : length (whole c t) ≡ 27 + length t
-  long = length-append (headBytes c) t ∙ ap (λ (n : ℕ). n + length t) (head-size c)
+module _ (v : ℕ) (c : Control) (t : List ℕ) (fits : Fits (c .token)) where
+  long : length (whole v c t) ≡ 27 + length t
+  long = length-append (headUnder v c) t ∙ ap (λ (n : ℕ). n + length t) (head-size v c)
 
-  -- of the four bytes of a counter the last two are read
-  want-back : fieldAt 2 (whole c t) 13 ≡ fieldsOf (c .token) .want
-  unfolding headBytes digitsIn
-  want-back = field-whole 2 (whole c t) 13 (omega (arith, long)) ∙ two-back (fieldsOf (c .token) .want) (fits .want)
+  want-back : fieldAt 4 (whole v c t) 11 ≡ fieldsOf (c .token) .want
+  unfolding headUnder digitsIn
+  want-back = field-whole 4 (whole v c t) 11 (omega (arith, long)) ∙ four-back (fieldsOf (c .token) .want) (fits .fields .want)
 
-  left-back : fieldAt 2 (whole c t) 17 ≡ fieldsOf (c .token) .left
-  unfolding headBytes digitsIn
-  left-back = field-whole 2 (whole c t) 17 (omega (arith, long)) ∙ two-back (fieldsOf (c .token) .left) (fits .left)
+  left-back : fieldAt 4 (whole v c t) 15 ≡ fieldsOf (c .token) .left
+  unfolding headUnder digitsIn
+  left-back = field-whole 4 (whole v c t) 15 (omega (arith, long)) ∙ four-back (fieldsOf (c .token) .left) (fits .fields .left)
 
-  stored-back : fieldAt 2 (whole c t) 21 ≡ fieldsOf (c .token) .stored
-  unfolding headBytes digitsIn
-  stored-back = field-whole 2 (whole c t) 21 (omega (arith, long)) ∙ two-back (fieldsOf (c .token) .stored) (fits .stored)
+  -- of the four bytes of what is stored the last two are read
+  stored-back : fieldAt 2 (whole v c t) 21 ≡ fieldsOf (c .token) .stored
+  unfolding headUnder digitsIn
+  stored-back = field-whole 2 (whole v c t) 21 (omega (arith, long)) ∙ two-back (fieldsOf (c .token) .stored) (fits .fields .stored)
 
-  value-back : fieldAt 4 (whole c t) 23 ≡ fieldsOf (c .token) .value
-  unfolding headBytes digitsIn
-  value-back = field-whole 4 (whole c t) 23 (omega (arith, long)) ∙ four-back (fieldsOf (c .token) .value) (fits .value)
+  value-back : fieldAt 4 (whole v c t) 23 ≡ fieldsOf (c .token) .value
+  unfolding headUnder digitsIn
+  value-back = field-whole 4 (whole v c t) 23 (omega (arith, long)) ∙ four-back (fieldsOf (c .token) .value) (fits .fields .value)
 
-  node-back : InBits 31 (c .node) → signed 31 (fieldAt 4 (whole c t) 5) ≡ c .node
-  unfolding headBytes digitsIn
+  node-back : InBits 31 (c .node) → signed 31 (fieldAt 4 (whole v c t) 5) ≡ c .node
+  unfolding headUnder digitsIn
   node-back h =
-      ap (signed 31) (field-whole 4 (whole c t) 5 (omega (arith, long)) ∙ four-back (unsigned 31 (c .node)) (unsigned-fits (c .node) h)) ∙ signed-unsigned 31 (c .node) h
+      ap (signed 31) (field-whole 4 (whole v c t) 5 (omega (arith, long)) ∙ four-back (unsigned 31 (c .node)) (unsigned-fits (c .node) h)) ∙ signed-unsigned 31 (c .node) h
 
-  fields-back : fieldsIn (whole c t) ≡ fieldsOf (c .token)
-  unfolding fieldsIn headBytes digitsIn
+  fields-back : fieldsIn (whole v c t) ≡ fieldsOf (c .token)
+  unfolding fieldsIn headUnder digitsIn
   fields-back = rw (want-back, left-back, stored-back, value-back)
 
   escape-back : InBits 7 (c .escape .channel) →
-      escape (eqb (getD (whole c t) 1 0) 1) (signed 7 (getD (whole c t) 2 0)) (pendingIn (getD (whole c t) 3 0) (getD (whole c t) 4 0)) ≡ c .escape
-  unfolding headBytes digitsIn
+      escape (eqb (getD (whole v c t) 1 0) 1) (signed 7 (getD (whole v c t) 2 0)) (pendingIn (getD (whole v c t) 3 0) (getD (whole v c t) 4 0)) ≡ c .escape
+  unfolding headUnder digitsIn
   escape-back h = rw (flag-back (c .escape .escaped), signed-unsigned 7 (c .escape .channel) h, pending-back (c .escape .pending))
 
   -- the fields of a control, whatever follows, say that control
-  pub control-back : InBits 7 (c .escape .channel) → InBits 31 (c .node) → controlIn (headBytes c ++ t) ≡ c
+  pub control-back : InBits 7 (c .escape .channel) → InBits 31 (c .node) → controlIn (headUnder v c ++ t) ≡ c
   unfolding controlIn
-  control-back h i = rw (escape-back h, node-back i, fields-back, token-back (c .token))
+  control-back h i = rw (escape-back h, node-back i, fields-back, token-back (c .token) (fits .narrow))

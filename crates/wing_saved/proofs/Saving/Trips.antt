@@ -19,7 +19,7 @@ use Rattle.wing_wire.specs.State.{bodyLimit, stateOf, soundState, freshControl}
 use Rattle.wing_wire.specs.Range.{AreBytes, noBytes, byteThen, PendingByte, noPending, pendingByte, TokenWithin, NumberIn, InRange}
 use Rattle.wing_wire.specs.Write.{writeEffect, writeOf}
 use Rattle.wing_wire.specs.declared.token.Class.{Class}
-use Rattle.wing_wire.specs.declared.token.Class.the-variants.{NoEvent, Integer, String, Length, Int16, Int32, Float, Node, End, Count, ZeroCount}
+use Rattle.wing_wire.specs.declared.token.Class.the-variants.{NoEvent, Integer, String, Length, Int16, Int32, Float, Node, End, Count, LongCount}
 use Rattle.wing_wire.specs.declared.state.Token.{Token}
 use Rattle.wing_wire.specs.declared.state.Token.the-variants.{Between, Number, String as InString, Body as InBody}
 use Rattle.wing_wire.specs.declared.state.Control.{Control}
@@ -27,7 +27,7 @@ use Rattle.wing_wire.specs.declared.state.State.{State}
 use Rattle.wing_wire.specs.declared.write.Written.the-variants.{Bytes}
 use Rattle.wing_wire.proofs.Reading.Ranges.{bytes-drop}
 use Rattle.wing_wire.proofs.Reading.Sound.{Sound, state-parts, sound-within}
-use Rattle.wing_saved.specs.Saved.{savedSize, pendingFlag, pendingByteOf, fieldsOf, headBytes, stateBytes, pendingIn, tokenIn, fieldsIn, controlIn, begins, soundOnly, headFrom, stateWith, stateFrom}
+use Rattle.wing_saved.specs.Saved.{version, savedSize, pendingFlag, pendingByteOf, fieldsOf, headUnder, headBytes, stateBytes, pendingIn, tokenIn, fieldsIn, controlIn, begins, soundOnly, headFromUnder, headFrom, stateWith, stateFrom}
 use Rattle.wing_saved.specs.Saved.{saveOf, headAs, loadedAs, loadedResult, CountIn, Saves, LoadedSound, HeadOf, SavedLaws}
 use Rattle.wing_saved.specs.declared.TokenFields.{TokenFields}
 use Rattle.wing_saved.specs.declared.HeadRead.{HeadRead}
@@ -39,7 +39,7 @@ use Rattle.wing_saved.proofs.Saving.Heads.{Fits, head-size, after-head,
 
 pub state-size : (s : State) → length (s .store) ≡ bodyLimit → length (stateBytes s) ≡ savedSize
 unfolding stateBytes
-state-size s l = length-append (headBytes (s .control)) (s .store) ∙ omega (arith, head-size (s .control))
+state-size s l = length-append (headBytes (s .control)) (s .store) ∙ omega (arith, head-size version (s .control))
 
 -- no class has more than four units
 narrow : (c : Class) → widthOf c ≤ 4
@@ -54,38 +54,38 @@ narrow Float = omega arith
 narrow Node = omega arith
 narrow End = omega arith
 narrow Count = omega arith
-narrow ZeroCount = omega arith
+narrow LongCount = omega arith
 
 -- the numbers of a sound token are within their fields
-token-fits : (t : Token) (store : List ℕ) → Sound t store → TokenWithin t → NumberIn t → CountIn t → Fits (fieldsOf t)
+token-fits : (t : Token) (store : List ℕ) → Sound t store → TokenWithin t → NumberIn t → CountIn t → Fits t
 unfolding fieldsOf
-token-fits Between store g w v n = record { want = omega arith; left = omega arith; stored = omega arith; value = omega arith }
+token-fits Between store g w v n = record { fields = record { want = omega arith; left = omega arith; stored = omega arith; value = omega arith }; narrow = tt }
 token-fits (Number class left value) store g w v n =
-    record { want = omega arith; left = omega (arith, g .fits, narrow class); stored = omega arith; value = v }
+    let few : left < 2 ^ 16 = omega (arith, g .fits, narrow class) in
+    record { fields = record { want = omega arith; left = omega arith; stored = omega arith; value = v }; narrow = few }
 token-fits (InString want left) store g w v n =
-    record { want = omega arith; left = omega (arith, g .fits); stored = omega arith; value = omega arith }
+    let few : left < 2 ^ 16 = omega (arith, g .fits) in
+    record { fields = record { want = omega arith; left = omega arith; stored = omega arith; value = omega arith }; narrow = (omega arith, few) }
 token-fits (InBody want left stored) store g w v n =
-    record { want = n; left = omega (arith, g .fits); stored = omega arith; value = omega arith }
+    record { fields = record { want = n; left = omega (arith, g .fits); stored = omega arith; value = omega arith }; narrow = tt }
 
-module _ (s : State) (range : InRange (s .control) (s .store)) (count : CountIn (s .control .token)) (sound : soundState s ≡ true) where
-  said : controlIn (stateBytes s) ≡ s .control
-  unfolding stateBytes
+module _ (v : ℕ) (s : State) (range : InRange (s .control) (s .store)) (count : CountIn (s .control .token)) (sound : soundState s ≡ true) where
+  said : controlIn (headUnder v (s .control) ++ s .store) ≡ s .control
   said =
       let g = state-parts s (range .pending) sound in
       let f = token-fits (s .control .token) (s .store) (g .token) (sound-within s sound) (range .number) count in
-      control-back (s .control) (s .store) f (channel-fits (s .control .escape .channel) (g .escape .low) (g .escape .high)) (range .node)
+      control-back v (s .control) (s .store) f (channel-fits (s .control .escape .channel) (g .escape .low) (g .escape .high)) (range .node)
 
-  rest : drop 27 (stateBytes s) ≡ s .store
-  unfolding stateBytes
-  rest = after-head (s .control) (s .store)
+  -- the fields under a version and the store read back as the control
+  pub head-back : headFromUnder v (headUnder v (s .control) ++ s .store) ≡ ok (s .control)
+  unfolding headFromUnder
+  head-back =
+      let size : length (headUnder v (s .control) ++ s .store) ≡ savedSize = length-append (headUnder v (s .control)) (s .store) ∙ omega (arith, head-size v (s .control), range .store .size) in
+      rw (eq-eqb (length (headUnder v (s .control) ++ s .store)) savedSize size, said, begins-joined (headUnder v (s .control)) (s .store))
 
-  front : begins (headBytes (s .control)) (stateBytes s) ≡ true
-  unfolding stateBytes
-  front = begins-joined (headBytes (s .control)) (s .store)
-
-  reads-back : stateFrom (stateBytes s) ≡ ok s
-  unfolding stateFrom stateWith headFrom soundOnly
-  reads-back = rw (eq-eqb (length (stateBytes s)) savedSize (state-size s (range .store .size)), said, front, rest, sound)
+reads-back : (s : State) → InRange (s .control) (s .store) → CountIn (s .control .token) → soundState s ≡ true → stateFrom (stateBytes s) ≡ ok s
+unfolding stateFrom stateWith stateBytes soundOnly
+reads-back s range count sound = rw (head-back version s range count sound, after-head version (s .control) (s .store), sound)
 
 back : (bytes : List ℕ) (s : State) → Saves bytes s → stateFrom bytes ≡ ok s
 back bytes s g = subst (λ (l : List ℕ). stateFrom l ≡ ok s) (g .laid) (reads-back s (g .typed .range) (g .typed .count) (g .sound))
@@ -96,35 +96,38 @@ back bytes s g = subst (λ (l : List ℕ). stateFrom l ≡ ok s) (g .laid) (read
 abbrev said-by : List ℕ → State
 said-by bytes = stateOf (controlIn bytes) (drop 27 bytes)
 
--- the tests that bytes passed whose control is c
-record Begun (bytes : List ℕ) (c : Control) : Type 0 where
-  size : length bytes ≡ savedSize
-  front : begins (headBytes (controlIn bytes)) bytes ≡ true
-  same : controlIn bytes ≡ c
+-- the tests that bytes passed whose control under a version is c
+pub record Begun (v : ℕ) (bytes : List ℕ) (c : Control) : Type 0 where
+  pub size : length bytes ≡ savedSize
+  pub front : begins (headUnder v (controlIn bytes)) bytes ≡ true
+  pub same : controlIn bytes ≡ c
 
-begun : (bytes : List ℕ) (c : Control) → headFrom bytes ≡ ok c → Begun bytes c
-unfolding headFrom
-begun bytes c =
+pub begun : (v : ℕ) (bytes : List ℕ) (c : Control) → headFromUnder v bytes ≡ ok c → Begun v bytes c
+unfolding headFromUnder
+begun v bytes c =
     branch P (eqb (length bytes) savedSize) _ _
-    (λ a. branch P (begins (headBytes (controlIn bytes)) bytes) _ _
+    (λ a. branch P (begins (headUnder v (controlIn bytes)) bytes) _ _
     (λ b e. record { size = eqb-true (length bytes) savedSize a; front = b; same = let z : controlIn bytes ≡ c = cc in z }) (λ _. none)) (λ _. none)
   where
     P : Result Control → Type 0
-    P r = r ≡ ok c → Begun bytes c
+    P r = r ≡ ok c → Begun v bytes c
 
     none : P (refused 8)
     none e = absurd (let z : _≡_ {A = ℕ} 0 1 = cc in omega arith)
 
+pub laid-under : (v : ℕ) (bytes : List ℕ) → begins (headUnder v (controlIn bytes)) bytes ≡ true → headUnder v (controlIn bytes) ++ drop 27 bytes ≡ bytes
+laid-under v bytes e =
+    ap (λ (n : ℕ). headUnder v (controlIn bytes) ++ drop n bytes) (sym (head-size v (controlIn bytes))) ∙ begins-parts (headUnder v (controlIn bytes)) bytes e
+
 laid-again : (bytes : List ℕ) → begins (headBytes (controlIn bytes)) bytes ≡ true → stateBytes (said-by bytes) ≡ bytes
 unfolding stateBytes
-laid-again bytes e =
-    ap (λ (n : ℕ). headBytes (controlIn bytes) ++ drop n bytes) (sym (head-size (controlIn bytes))) ∙ begins-parts (headBytes (controlIn bytes)) bytes e
+laid-again bytes e = laid-under version bytes e
 
 -- the head of bytes
 head-of : (bytes : List ℕ) (c : Control) → headFrom bytes ≡ ok c → HeadOf bytes c
 unfolding stateFrom stateWith
 head-of bytes c e =
-    let p = begun bytes c e in
+    let p = begun version bytes c e in
     record {
       size = p .size;
       laid = subst (λ (d : Control). stateBytes (stateOf d (drop 27 bytes)) ≡ bytes) (p .same) (laid-again bytes (p .front));
@@ -136,12 +139,12 @@ unfolding stateFrom stateWith
 headless bytes n e = ap (λ (r : Result Control). stateWith r bytes) e
 
 -- what the answer of head says of the bytes
-said-good : (r : Result Control) (h : HeadRead) → h ≡ headAs r → h .answer ≡ Good → r ≡ ok (h .control)
+pub said-good : (r : Result Control) (h : HeadRead) → h ≡ headAs r → h .answer ≡ Good → r ≡ ok (h .control)
 unfolding headAs
 said-good (ok c) h e a = ap (λ (x : HeadRead). ok (x .control)) (sym e)
 said-good (refused n) h e a = absurd (let b = ap (λ (x : HeadRead). x .answer) e in let z : _≡_ {A = ℕ} 0 1 = cc in omega arith)
 
-said-refused : (r : Result Control) (h : HeadRead) (n : ℕ) → h ≡ headAs r → h .answer ≡ NotLoaded n → r ≡ refused n
+pub said-refused : (r : Result Control) (h : HeadRead) (n : ℕ) → h ≡ headAs r → h .answer ≡ NotLoaded n → r ≡ refused n
 unfolding headAs
 said-refused (ok c) h n e a = absurd (let b = ap (λ (x : HeadRead). x .answer) e in let z : _≡_ {A = ℕ} 0 1 = cc in omega arith)
 said-refused (refused m) h n e a = let b = ap (λ (x : HeadRead). x .answer) e in let z : m ≡ n = cc in ap refused z
@@ -161,7 +164,7 @@ record Passed (bytes : List ℕ) (s : State) : Type 0 where
   same : said-by bytes ≡ s
 
 passed : (bytes : List ℕ) (s : State) → stateFrom bytes ≡ ok s → Passed bytes s
-unfolding stateFrom stateWith headFrom soundOnly
+unfolding stateFrom stateWith headFromUnder soundOnly
 passed bytes s =
     branch (λ (r : Result Control). P (stateWith r bytes)) (eqb (length bytes) savedSize) _ _
     (λ a. branch (λ (r : Result Control). P (stateWith r bytes)) (begins (headBytes (controlIn bytes)) bytes) _ _
@@ -205,13 +208,13 @@ module _ (bytes : List ℕ) (are : AreBytes bytes) where
       branch NumberIn (eqb (k .kind) 1) _ _ (λ _. h)
       (λ _. branch NumberIn (eqb (k .kind) 2) _ _ (λ _. tt) (λ _. branch NumberIn (eqb (k .kind) 3) _ _ (λ _. tt) (λ _. tt)))
 
-  count-in : (k : TokenFields) → k .want < 2 ^ 16 → CountIn (tokenIn k)
+  count-in : (k : TokenFields) → k .want < 2 ^ 32 → CountIn (tokenIn k)
   unfolding tokenIn
   count-in k h =
       branch CountIn (eqb (k .kind) 1) _ _ (λ _. tt)
       (λ _. branch CountIn (eqb (k .kind) 2) _ _ (λ _. tt) (λ _. branch CountIn (eqb (k .kind) 3) _ _ (λ _. h) (λ _. tt)))
 
-  range-in : length bytes ≡ savedSize → InRange (controlIn bytes) (drop 27 bytes)
+  pub range-in : length bytes ≡ savedSize → InRange (controlIn bytes) (drop 27 bytes)
   unfolding controlIn fieldsIn
   range-in l = record {
     pending = pending-in (getD bytes 3 0) (getD bytes 4 0) (digits 4);
@@ -222,7 +225,7 @@ module _ (bytes : List ℕ) (are : AreBytes bytes) where
 
   counts-in : CountIn (controlIn bytes .token)
   unfolding controlIn fieldsIn
-  counts-in = count-in (fieldsIn bytes) (field-below 2 13 bytes digits (omega arith))
+  counts-in = count-in (fieldsIn bytes) (field-below 4 11 bytes digits (omega arith))
 
   said-saves : (s : State) → stateFrom bytes ≡ ok s → Saves bytes s
   said-saves s e =
@@ -231,7 +234,7 @@ module _ (bytes : List ℕ) (are : AreBytes bytes) where
 
 -- no other number than 8
 refusal : (bytes : List ℕ) (n : ℕ) → stateFrom bytes ≡ refused n → n ≡ 8
-unfolding stateFrom stateWith headFrom soundOnly
+unfolding stateFrom stateWith headFromUnder soundOnly
 refusal bytes =
     branch Head (eqb (length bytes) savedSize) _ _
     (λ _. branch Head (begins (headBytes (controlIn bytes)) bytes) _ _ (λ _. branch Eight (soundState (said-by bytes)) _ _ (λ _. taken) (λ _. eight)) (λ _. eight))
@@ -269,9 +272,9 @@ unfolding loadedAs loadedResult
 loaded-result (ok s) = refl
 loaded-result (refused n) = refl
 
--- the form at work: a fresh state is 01 00 ff and then zeros
-fresh-head : headBytes freshControl ≡ 0x01 ∷ 0x00 ∷ 0xff ∷ replicate 24 0
-unfolding headBytes fieldsOf pendingFlag pendingByteOf digitsIn
+-- the form at work: a fresh state is 02 00 ff and then zeros
+fresh-head : headBytes freshControl ≡ 0x02 ∷ 0x00 ∷ 0xff ∷ replicate 24 0
+unfolding headUnder fieldsOf pendingFlag pendingByteOf digitsIn
 fresh-head = refl
 
 -- what a user of the two calls may rely on

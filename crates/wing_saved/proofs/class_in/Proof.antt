@@ -7,7 +7,7 @@ use lib.ListN.{List·getD-eq-default}
 use Rattle.wing_node.proofs.Eight.{over-seven}
 use Rattle.wing_wire.specs.Token.{classes}
 use Rattle.wing_saved.specs.Saved.{classIn}
-use Rattle.wing_wire.specs.declared.token.Class.the-variants.{ZeroCount}
+use Rattle.wing_wire.specs.declared.token.Class.the-variants.{LongCount}
 use Rattle.wing_wire.proofs.Reading.Nine.{over-nine}
 use Rattle.wing_saved.proofs.class_in.Statement.{statement}
 use Rattle.wing_saved.proofs.class_in.Tie as tie
@@ -65,7 +65,7 @@ returns-12 c =
     let nine : 10 ≤ n = over-nine n e (r .0 .0 .1) (r .0 .1) in
     let ten : n ≡ 10 → ⊥ = r .1 in
     let past : 11 ≤ n = omega arith in
-    sym (List·getD-eq-default (classes ++ (ZeroCount ∷ [])) _ past)
+    sym (List·getD-eq-default (classes ++ (LongCount ∷ [])) _ past)
 
 pub class-in-spec : {M : Type 1} → statement M
 class-in-spec =

@@ -1,6 +1,6 @@
 -- Each arm is the line of `fieldsOf` with that variant, and the contract of `class_number` gives the number of a class.
-use borrow.Author.Needs.{needs}
 use Rattle.wing_saved.specs.Saved.{fieldsOf}
+use borrow.Author.Needs.{needs}
 use Rattle.wing_saved.proofs.fields_of.Statement.{statement}
 use Rattle.wing_saved.proofs.fields_of.Tie as tie
 
@@ -13,8 +13,17 @@ enum-known-token c = search needs
 class-number-requires : tie.Need-class-number-requires
 class-number-requires c κs = search needs
 
+cast-t12 : tie.Need-cast-t12
+cast-t12 c = search needs
+
 enum-known-token-2 : tie.Need-enum-known-token-2
 enum-known-token-2 c = search needs
+
+cast-t13 : tie.Need-cast-t13
+cast-t13 c = search needs
+
+cast-t14 : tie.Need-cast-t14
+cast-t14 c = search needs
 
 enum-known-token-3 : tie.Need-enum-known-token-3
 enum-known-token-3 c = search needs
@@ -42,7 +51,10 @@ fields-of-spec =
     enum-told
     enum-known-token
     class-number-requires
+    cast-t12
     enum-known-token-2
+    cast-t13
+    cast-t14
     enum-known-token-3
     returns
     returns-2

@@ -4,7 +4,7 @@ use mathlib.Core.Path.{_≡_, _∙_}
 use mir.Facts.{toZ-ofZ}
 use mir.Val.{toZ, ofZ}
 use mir.Syntax.{w8, w32}
-use Rattle.wing_saved.specs.Saved.{headBytes}
+use Rattle.wing_saved.specs.Saved.{headUnder}
 use Rattle.wing_saved.proofs.Saving.Heads.{fields-put}
 use borrow.Author.Needs.{needs}
 use Rattle.wing_saved.proofs.head_of.Statement.{statement}
@@ -55,17 +55,11 @@ array-write-head-7 c = search needs
 slice-aggregate-put-u32 : tie.Need-slice-aggregate-put-u32
 slice-aggregate-put-u32 c = search needs
 
-cast-put-u32 : tie.Need-cast-put-u32
-cast-put-u32 c = search needs
-
 put-u32-requires : tie.Need-put-u32-requires
 put-u32-requires c κs = search needs
 
 slice-aggregate-put-u32-2 : tie.Need-slice-aggregate-put-u32-2
 slice-aggregate-put-u32-2 c = search needs
-
-cast-put-u32-2 : tie.Need-cast-put-u32-2
-cast-put-u32-2 c = search needs
 
 put-u32-requires-2 : tie.Need-put-u32-requires-2
 put-u32-requires-2 c κs = search needs
@@ -73,8 +67,8 @@ put-u32-requires-2 c κs = search needs
 slice-aggregate-put-u32-3 : tie.Need-slice-aggregate-put-u32-3
 slice-aggregate-put-u32-3 c = search needs
 
-cast-put-u32-3 : tie.Need-cast-put-u32-3
-cast-put-u32-3 c = search needs
+cast-put-u32 : tie.Need-cast-put-u32
+cast-put-u32 c = search needs
 
 put-u32-requires-3 : tie.Need-put-u32-requires-3
 put-u32-requires-3 c κs = search needs
@@ -86,20 +80,20 @@ put-u32-requires-4 : tie.Need-put-u32-requires-4
 put-u32-requires-4 c κs = search needs
 
 returns : tie.Need-returns
-unfolding headBytes
+unfolding headUnder
 returns c =
     let value = c .before in
     let stored = value .before .before .before in
     let left = stored .before .before .before .before in
-    let want = left .before .before .before .before in
-    let node = want .before .before .before .before in
+    let want = left .before .before .before in
+    let node = want .before .before .before in
     let pending = node .before .before .before in
     let channel = pending .before .before in
     let escaped = channel .before .before in
     let a = escaped .before .before .before .args .c in
     let k : toZ w8 (ofZ w8 (a .escape .channel)) ≡ a .escape .channel = toZ-ofZ (record { sfits = channel .before .struct-told .given .1 .0 .1 }) in
     let l : toZ w32 (ofZ w32 (a .node)) ≡ a .node = toZ-ofZ (record { sfits = node .before .struct-told2 .given .1 .0 .1 }) in
-    fields-put _ _ _ _ _ _ _ _ _ _ _ (node .put-i32 .ensures) (want .put-u32 .ensures) (left .put-u322 .ensures) (stored .put-u323 .ensures) (value .put-u324 .ensures)
+    fields-put _ _ _ _ _ _ _ _ _ _ _ _ (node .put-i32 .ensures) (want .put-u32 .ensures) (left .put-u322 .ensures) (stored .put-u323 .ensures) (value .put-u324 .ensures)
     ∙ rw (escaped .flag .ensures, channel .of-i8 .ensures, pending .before .pending-flag .ensures, pending .pending-byte .ensures, escaped .before .fields-of .ensures, k, l)
 
 pub head-of-spec : {M : Type 1} → statement M
@@ -121,13 +115,11 @@ head-of-spec =
     array-write-head-6
     array-write-head-7
     slice-aggregate-put-u32
-    cast-put-u32
     put-u32-requires
     slice-aggregate-put-u32-2
-    cast-put-u32-2
     put-u32-requires-2
     slice-aggregate-put-u32-3
-    cast-put-u32-3
+    cast-put-u32
     put-u32-requires-3
     slice-aggregate-put-u32-4
     put-u32-requires-4

@@ -5,7 +5,7 @@ use borrow.Author.Needs.{needs}
 use lib.Seq.{sets}
 use Rattle.wing_wire.specs.Write.{Laid}
 use Rattle.wing_wire.proofs.Laws.{writer-laws}
-use Rattle.wing_saved.specs.Saved.{headBytes}
+use Rattle.wing_saved.specs.Saved.{version, headBytes}
 use Rattle.wing_saved.proofs.Saving.Heads.{head-size}
 use Rattle.wing_saved.proofs.lay_head.Statement.{statement}
 use Rattle.wing_saved.proofs.lay_head.Tie as tie
@@ -13,7 +13,7 @@ use Rattle.wing_saved.proofs.lay_head.Tie as tie
 returns : tie.Need-returns
 returns c =
     let a = c .before .before .args in
-    writer-laws .short (headBytes (a .c)) (a .out .now) (omega (arith, head-size (a .c)))
+    writer-laws .short (headBytes (a .c)) (a .out .now) (omega (arith, head-size version (a .c)))
 
 head-of-requires : tie.Need-head-of-requires
 head-of-requires c κs = search needs
@@ -30,8 +30,8 @@ same-length c = search needs
 returns-2 : tie.Need-returns-2
 returns-2 c =
     let a = c .before .before .before .before .before .before .before .before .args in
-    let laid : Laid (headBytes (a .c)) 0 (a .out .now) (sets (a .out .now) 0 (headBytes (a .c))) 27 = record { bytes = refl; next = omega (arith, head-size (a .c)) } in
-    rw (c .before .before .lay .ensures, c .before .before .before .before .before .head-of .ensures) (writer-laws .whole laid (omega (arith, head-size (a .c))))
+    let laid : Laid (headBytes (a .c)) 0 (a .out .now) (sets (a .out .now) 0 (headBytes (a .c))) 27 = record { bytes = refl; next = omega (arith, head-size version (a .c)) } in
+    rw (c .before .before .lay .ensures, c .before .before .before .before .before .head-of .ensures) (writer-laws .whole laid (omega (arith, head-size version (a .c))))
 
 pub lay-head-spec : {M : Type 1} → statement M
 lay-head-spec =

@@ -3,7 +3,7 @@
 use native.Mathlib.Omega.{arith}
 use borrow.Author.Needs.{needs}
 use Rattle.wing_wire.proofs.Laws.{writer-laws}
-use Rattle.wing_saved.specs.Saved.{headBytes, stateBytes}
+use Rattle.wing_saved.specs.Saved.{version, headBytes, stateBytes}
 use Rattle.wing_saved.proofs.Saving.Fronts.{parts-written}
 use Rattle.wing_saved.proofs.Saving.Heads.{head-size}
 use Rattle.wing_saved.proofs.Saving.Trips.{state-size}
@@ -36,7 +36,7 @@ returns-2 c =
     let k = c .before .before .before .before .before .before .before .before .before in
     let a = k .before .before .before .before .before .before .before .args in
     rw (c .before .before .lay2 .ensures, k .lay .ensures, k .before .before .before .head-of .ensures)
-    (parts-written (headBytes (a .t2 .control)) (a .t2 .store) (a .out .now) (head-size (a .t2 .control)) (state-size (a .t2) (search needs)) (omega arith))
+    (parts-written (headBytes (a .t2 .control)) (a .t2 .store) (a .out .now) (head-size version (a .t2 .control)) (state-size (a .t2) (search needs)) (omega arith))
 
 pub lay-state-spec : {M : Type 1} → statement M
 lay-state-spec = tie.close (tie.spec returns head-of-requires slice-aggregate-lay lay-requires lay-requires-2 same-length returns-2)

@@ -15,11 +15,11 @@ use Rattle.wing_node.specs.Utf8.{utf8, charsFrom}
 use Rattle.wing_wire.specs.State.{bodyLimit}
 use Rattle.wing_wire.specs.Token.{Row, table, ruleIn, ruleOf, widthOf}
 use Rattle.wing_wire.specs.Escape.{decodeOf}
-use Rattle.wing_wire.specs.Unit.{completes, singleOf, isString, tokenOf, beginOf, countOf, numberOf, shiftIn, numberUnit, UnitEffect, cleared, stringDone, stringUnit, keeps, bodyDone, bodyNext, bodyUnit, unitOf}
+use Rattle.wing_wire.specs.Unit.{completes, singleOf, isString, tokenOf, beginOf, countOf, longCountOf, numberOf, shiftIn, numberUnit, UnitEffect, cleared, stringDone, stringUnit, keeps, bodyDone, bodyNext, bodyUnit, unitOf}
 use Rattle.wing_wire.specs.Stream.{StepEffect, isMore, pendingOf, settleOf, givenOf, firstOf, followOf, stepOf, runOf, advanceOf}
 use Rattle.wing_wire.specs.Range.{Within, TokenWithin, StepEffectWithin}
 use Rattle.wing_wire.specs.declared.token.Class.{Class}
-use Rattle.wing_wire.specs.declared.token.Class.the-variants.{NoEvent, Integer, String, Length, Int16, Int32, Float, Node, End, Count, ZeroCount}
+use Rattle.wing_wire.specs.declared.token.Class.the-variants.{NoEvent, Integer, String, Length, Int16, Int32, Float, Node, End, Count, LongCount}
 use Rattle.wing_wire.specs.declared.token.Rule.{Rule}
 use Rattle.wing_wire.specs.declared.state.Pending.{Pending}
 use Rattle.wing_wire.specs.declared.state.Pending.the-variants.{None, Byte}
@@ -83,10 +83,10 @@ single-in node Float t s = record { token = tt; within = tt }
 single-in node Node t s = record { token = tt; within = tt }
 single-in node End t s = record { token = tt; within = tt }
 single-in node Count t s = record { token = tt; within = tt }
-single-in node ZeroCount t s = record { token = tt; within = tt }
+single-in node LongCount t s = record { token = tt; within = tt }
 
 number-in : (node : ℤ) (class : Class) (v : ℕ) (s : List ℕ) → Bounded s (numberOf node class v)
-unfolding numberOf countOf
+unfolding numberOf countOf longCountOf
 number-in node NoEvent v s = record { token = tt; within = tt }
 number-in node Integer v s = record { token = tt; within = tt }
 number-in node String v s = record { token = tt; within = tt }
@@ -98,7 +98,8 @@ number-in node Node v s = record { token = tt; within = tt }
 number-in node End v s = record { token = tt; within = tt }
 number-in node Count v s =
     branch (Bounded s) (eqb (v % 0x10000) 0) _ _ (λ _. record { token = tt; within = tt }) (λ _. record { token = omega arith; within = tt })
-number-in node ZeroCount v s = record { token = tt; within = tt }
+number-in node LongCount v s =
+    branch (Bounded s) (eqb v 0) _ _ (λ _. record { token = tt; within = tt }) (λ _. record { token = omega arith; within = tt })
 
 begin-in : (node : ℤ) (u : ℕ) (s : List ℕ) → Bounded s (beginOf node u)
 unfolding beginOf tokenOf

@@ -9,12 +9,12 @@ use Rattle.wing_node.specs.Bool.{if, and}
 use Rattle.wing_node.proofs.Below.{and-T-left, and-T-right, below}
 use Rattle.wing_wire.specs.Token.{rule, classes, classOf, classNumber, ruleIn, ruleOf}
 use Rattle.wing_wire.specs.declared.token.Class.{Class}
-use Rattle.wing_wire.specs.declared.token.Class.the-variants.{NoEvent, Integer, String, Length, Int16, Int32, Float, Node, End, Count, ZeroCount}
+use Rattle.wing_wire.specs.declared.token.Class.the-variants.{NoEvent, Integer, String, Length, Int16, Int32, Float, Node, End, Count, LongCount}
 use Rattle.wing_wire.specs.declared.token.Rule.{Rule}
 
 -- a class again from its number
 named : ℕ → Class
-named n = getD (classes ++ (ZeroCount ∷ [])) n NoEvent
+named n = getD (classes ++ (LongCount ∷ [])) n NoEvent
 
 named-number : (c : Class) → named (classNumber c) ≡ c
 unfolding named classNumber
@@ -28,7 +28,7 @@ named-number Float = refl
 named-number Node = refl
 named-number End = refl
 named-number Count = refl
-named-number ZeroCount = refl
+named-number LongCount = refl
 
 same-class : (a b : Class) → classNumber a ≡ classNumber b → a ≡ b
 same-class a b e = sym (named-number a) ∙ ap named e ∙ named-number b

@@ -2,7 +2,7 @@
 use Prim.Native.Nat.{ℕ, zero, suc, _+_, _-_, _≤_, _<_}
 use mathlib.Core.Bool.{Bool, true, false}
 use mathlib.Core.Path.{_≡_, refl, sym, _∙_, ap, subst}
-use mathlib.Core.List.{List, [], _∷_, _++_, append-assoc}
+use mathlib.Core.List.{List, [], _∷_, _++_, append-assoc, append-nil}
 use mathlib.Core.Logic.{_⊎_, inl, inr}
 use native.Mathlib.Omega.{arith}
 use lib.Dec.{ltb, leb, eqb}
@@ -12,6 +12,7 @@ use lib.ListN.{length, take, drop, replicate, length-append, length-drop, length
 use lib.Seq.{length-take-le, take-append-seam}
 use borrow.Author.Tests.{leb-true, leb-false, eqb-true, eqb-false}
 use Rattle.wing_node.proofs.Branches.{branch}
+use Rattle.wing_node.specs.Digits.{numberFrom, numberIn}
 use Rattle.wing_node.specs.Field.{big}
 use Rattle.wing_node.specs.Signed.{signed}
 use Rattle.wing_node.specs.Value.{integer, float, string}
@@ -21,7 +22,7 @@ use Rattle.wing_wire.specs.Stream.{Fed}
 use Rattle.wing_wire.specs.Reader.{Event, value, body, end, refused, eventOf}
 use Rattle.wing_wire.specs.Range.{AreBytes, noBytes, byteThen, PendingByte, noPending, pendingByte}
 use Rattle.wing_wire.specs.Units.{StreamUnit, streamUnit, pendingUnits, byteUnits, settled, unitsOf}
-use Rattle.wing_wire.specs.Tokens.{values, appended, Further, TokenResult, event, nothing, newNode, stringOf, InTable, integer-t, string-80, string-c0, string-d0, string-d1, integer-16, integer-32, float-bits, new-node, skips-two, skips-one, end-unit, bodies, count-over, count-zero, no-event, Cut, token, waits, CutOf, nodeAfter, through, between, after, Holds, handedOn, Read, Tokens, UnitsAreBytes}
+use Rattle.wing_wire.specs.Tokens.{values, appended, Further, TokenResult, event, nothing, newNode, stringOf, InForce, short, long, InTable, integer-t, string-80, string-c0, string-d0, string-d1, integer-16, integer-32, float-bits, new-node, skips-two, skips-one, end-unit, bodies, count-over, counts-zero, no-event, Cut, token, waits, CutOf, nodeAfter, through, between, after, Holds, handedOn, Read, Tokens, UnitsAreBytes}
 use Rattle.wing_wire.specs.declared.state.Escape.{Escape}
 use Rattle.wing_wire.specs.declared.state.Pending.{Pending}
 use Rattle.wing_wire.specs.declared.state.Pending.the-variants.{None, Byte}
@@ -48,6 +49,10 @@ values-append (g ∷ us) vs (byteThen l b) c = byteThen l (values-append us vs b
 -- a unit that is yet to come
 abbrev zero-unit : StreamUnit
 zero-unit = streamUnit 0 true
+
+-- a unit of a count that is not 0
+abbrev one-unit : StreamUnit
+one-unit = streamUnit 1 true
 
 values-zeros : (n : ℕ) → AreBytes (values (replicate n zero-unit))
 values-zeros zero = noBytes
@@ -145,14 +150,55 @@ wants-none t a g r = record { number = 0; result = λ us. g; token = λ us f. su
 wants-d1 : (n : ℕ) (a b : Bool) → n < 256 → Wants (streamUnit 0xd1 a ∷ streamUnit n b ∷ [])
 wants-d1 n a b l = record { number = n + 1; result = λ us. stringOf (values us); token = λ us f. string-d1 n a b us l f }
 
--- df and its count
-wants-df : (a : Bool) (c : List StreamUnit) → Further 2 c → Wants (streamUnit 0xdf a ∷ c)
-wants-df a c f =
-    upto (big (values c)) 0
-    (λ l. record { number = 4; result = λ us. event (refused 3); token = λ us k. count-zero a c us f (omega arith) k })
+-- df and its count in force
+wants-df : (a : Bool) (c : List StreamUnit) (n : ℕ) → InForce c n → Wants (streamUnit 0xdf a ∷ c)
+wants-df a c n force =
+    upto n 0
     (λ l.
-    upto (big (values c)) bodyLimit (λ most. record { number = big (values c); result = λ us. event (body (appended us)); token = λ us k. bodies a c us f (omega arith) most k })
-    (λ over. record { number = big (values c); result = λ us. event (refused 2); token = λ us k. count-over a c us f over k }))
+    let z : n ≡ 0 = omega arith in
+    let r : InTable (streamUnit 0xdf a ∷ c) (event (refused 3)) = counts-zero a c (subst (InForce c) z force) in
+    record {
+      number = 0;
+      result = λ us. event (refused 3);
+      token = λ us k. subst (λ (l : List StreamUnit). InTable (streamUnit 0xdf a ∷ (c ++ l)) (event (refused 3))) (sym (nil us k)) (rw (append-nil c) r);
+    })
+    (λ l.
+    upto n bodyLimit (λ most. record { number = n; result = λ us. event (body (appended us)); token = λ us k. bodies a c us n force (omega arith) most k })
+    (λ over. record { number = n; result = λ us. event (refused 2); token = λ us k. count-over a c us n force over k }))
+
+-- df and a 16-bit count that is not 0
+wants-count : (a : Bool) (c d : StreamUnit) → c .unit < 256 → d .unit < 256 → 1 ≤ d .unit → Wants (streamUnit 0xdf a ∷ c ∷ d ∷ [])
+unfolding numberIn numberFrom
+wants-count a c d k j some =
+    wants-df a (c ∷ d ∷ []) (big (values (c ∷ d ∷ []))) (short (c ∷ d ∷ []) (record { number = refl; bytes = byteThen k (byteThen j noBytes) }) (omega arith))
+
+-- df, count 0 and what has come of the 32-bit count and of the units after it
+after-zero : (a : Bool) (z us : List StreamUnit) → Further 2 z → big (values z) ≡ 0 → AreBytes (values us) → Part (streamUnit 0xdf a ∷ (z ++ us)) ⊎ First (streamUnit 0xdf a ∷ (z ++ us))
+after-zero a z us f none b = upto 4 (length us) whole parted
+  where
+    whole : 4 ≤ length us → Part (streamUnit 0xdf a ∷ (z ++ us)) ⊎ First (streamUnit 0xdf a ∷ (z ++ us))
+    whole l =
+        let c = take 4 us in
+        let all : (z ++ c) ++ drop 4 us ≡ z ++ us = append-assoc z c (drop 4 us) ∙ ap (λ (l : List StreamUnit). z ++ l) (take-append-drop 4 us) in
+        subst (λ (l : List StreamUnit). Part (streamUnit 0xdf a ∷ l) ⊎ First (streamUnit 0xdf a ∷ l)) all
+        (begun (streamUnit 0xdf a ∷ (z ++ c)) (drop 4 us) (omega arith) (values-drop 4 us b)
+        (wants-df a (z ++ c) (big (values c)) (long z c f none (record { number = length-take-le 4 us l; bytes = values-take 4 us b }))))
+
+    parted : length us < 4 → Part (streamUnit 0xdf a ∷ (z ++ us)) ⊎ First (streamUnit 0xdf a ∷ (z ++ us))
+    parted l =
+        let rest = replicate (3 - length us) zero-unit in
+        let c = us ++ (zero-unit ∷ rest) in
+        let k : Further 4 c =
+        record {
+          number = omega (arith, length-append us (zero-unit ∷ rest), length-replicate (3 - length us) zero-unit);
+          bytes = values-append us (zero-unit ∷ rest) b (values-zeros (suc (3 - length us)));
+        } in
+        inl (unbegun (streamUnit 0xdf a ∷ (z ++ us)) zero-unit rest (rw (append-assoc z us (zero-unit ∷ rest)) (wants-df a (z ++ c) (big (values c)) (long z c f none k))))
+
+-- df, a 16-bit count and what has come after it
+after-count : (a : Bool) (c us : List StreamUnit) → Further 2 c → AreBytes (values us) → Part (streamUnit 0xdf a ∷ (c ++ us)) ⊎ First (streamUnit 0xdf a ∷ (c ++ us))
+after-count a c us f b =
+    upto (big (values c)) 0 (λ l. after-zero a c us f (omega arith) b) (λ l. begun (streamUnit 0xdf a ∷ c) us (omega arith) b (wants-df a c (big (values c)) (short c f (omega arith))))
 
 module _ (t : ℕ) (a : Bool) where
   -- such a first unit at a given number
@@ -195,11 +241,9 @@ first g us l b = by (eqb (g .unit) 0xd1) (eqb (g .unit) 0xdf) refl refl
     text (n ∷ us) (byteThen k c) = begun (streamUnit 0xd1 a ∷ n ∷ []) us (omega arith) c (wants-d1 (n .unit) a (n .appended) k)
 
     count : (us : List StreamUnit) → AreBytes (values us) → Part (streamUnit 0xdf a ∷ us) ⊎ First (streamUnit 0xdf a ∷ us)
-    count [] noBytes = inl (unbegun (streamUnit 0xdf a ∷ []) zero-unit (zero-unit ∷ []) (wants-df a (zero-unit ∷ zero-unit ∷ []) (record { number = refl; bytes = values-zeros 2 })))
-    count (c ∷ []) (byteThen k noBytes) =
-        inl (unbegun (streamUnit 0xdf a ∷ c ∷ []) zero-unit [] (wants-df a (c ∷ zero-unit ∷ []) (record { number = refl; bytes = byteThen k (values-zeros 1) })))
-    count (c ∷ d ∷ us) (byteThen k (byteThen j bs)) =
-        begun (streamUnit 0xdf a ∷ c ∷ d ∷ []) us (omega arith) bs (wants-df a (c ∷ d ∷ []) (record { number = refl; bytes = byteThen k (byteThen j noBytes) }))
+    count [] noBytes = inl (unbegun (streamUnit 0xdf a ∷ []) zero-unit (one-unit ∷ []) (wants-count a zero-unit one-unit (omega arith) (omega arith) (omega arith)))
+    count (c ∷ []) (byteThen k noBytes) = inl (unbegun (streamUnit 0xdf a ∷ c ∷ []) one-unit [] (wants-count a c one-unit k (omega arith) (omega arith)))
+    count (c ∷ d ∷ us) (byteThen k (byteThen j bs)) = after-count a (c ∷ d ∷ []) us (record { number = refl; bytes = byteThen k (byteThen j noBytes) }) bs
 
     by : (p q : Bool) → eqb t 0xd1 ≡ p → eqb t 0xdf ≡ q → Part (streamUnit t a ∷ us) ⊎ First (streamUnit t a ∷ us)
     by true q e f = let z : 0xd1 ≡ t = sym (eqb-true t 0xd1 e) in subst (λ (n : ℕ). Part (streamUnit n a ∷ us) ⊎ First (streamUnit n a ∷ us)) z (text us b)

@@ -16,11 +16,11 @@ use Rattle.wing_node.proofs.Numerals.Signs.{signed-in}
 use Rattle.wing_wire.specs.Token.{ruleOf}
 use Rattle.wing_wire.specs.State.{bodyLimit, escape, freshState}
 use Rattle.wing_wire.specs.Escape.{decodeOf, escapedOf, plainOf, otherOf}
-use Rattle.wing_wire.specs.Unit.{completes, singleOf, isString, tokenOf, beginOf, countOf, numberOf, shiftIn, numberUnit, UnitEffect, cleared, stringDone, stringUnit, keeps, bodyDone, bodyNext, bodyUnit, unitOf}
+use Rattle.wing_wire.specs.Unit.{completes, singleOf, isString, tokenOf, beginOf, countOf, longCountOf, numberOf, shiftIn, numberUnit, UnitEffect, cleared, stringDone, stringUnit, keeps, bodyDone, bodyNext, bodyUnit, unitOf}
 use Rattle.wing_wire.specs.Stream.{StepEffect, pendingOf, settleOf, givenOf, firstOf, released, Fed, handle, fedPending, fedByte, fedFrom, feedOf}
 use Rattle.wing_wire.specs.Range.{AreBytes, noBytes, byteThen, PendingByte, noPending, pendingByte, NumberIn, StoreIn, InRange, AnswerIn}
 use Rattle.wing_wire.specs.declared.token.Class.{Class}
-use Rattle.wing_wire.specs.declared.token.Class.the-variants.{NoEvent, Integer, String, Length, Int16, Int32, Float, Node, End, Count, ZeroCount}
+use Rattle.wing_wire.specs.declared.token.Class.the-variants.{NoEvent, Integer, String, Length, Int16, Int32, Float, Node, End, Count, LongCount}
 use Rattle.wing_wire.specs.declared.state.Token.{Token}
 use Rattle.wing_wire.specs.declared.state.Token.the-variants.{Between, Number, String as InString, Body as InBody}
 use Rattle.wing_wire.specs.declared.state.Pending.{Pending}
@@ -101,7 +101,7 @@ module _ (node : ℤ) (nodeIn : InBits 31 node) where
   single-in Node t h = plainly Between More tt tt
   single-in End t h = plainly Between anEnd tt tt
   single-in Count t h = plainly Between More tt tt
-  single-in ZeroCount t h = plainly Between More tt tt
+  single-in LongCount t h = plainly Between More tt tt
 
   token-in : (class : Class) (wants : ℕ) → NumberIn (tokenOf class wants)
   unfolding tokenOf
@@ -113,7 +113,11 @@ module _ (node : ℤ) (nodeIn : InBits 31 node) where
 
   count-in : (c : ℕ) → TakenIn (countOf node c)
   unfolding countOf
-  count-in c = branch TakenIn (eqb c 0) _ _ (λ _. plainly (Number ZeroCount 4 0) More (omega arith) tt) (λ _. plainly (InBody c c 0) More tt tt)
+  count-in c = branch TakenIn (eqb c 0) _ _ (λ _. plainly (Number LongCount 4 0) More (omega arith) tt) (λ _. plainly (InBody c c 0) More tt tt)
+
+  long-count-in : (c : ℕ) → TakenIn (longCountOf node c)
+  unfolding longCountOf
+  long-count-in c = branch TakenIn (eqb c 0) _ _ (λ _. plainly Between (Refused 3) tt tt) (λ _. plainly (InBody c c 0) More tt tt)
 
   number-in : (class : Class) (v : ℕ) → v < 2 ^ 32 → TakenIn (numberOf node class v)
   unfolding numberOf
@@ -127,7 +131,7 @@ module _ (node : ℤ) (nodeIn : InBits 31 node) where
   number-in Node v h = record { node = signed-in 31 v h; number = tt; answer = tt }
   number-in End v h = plainly Between More tt tt
   number-in Count v h = count-in (v % 0x10000)
-  number-in ZeroCount v h = plainly Between (Refused 3) tt tt
+  number-in LongCount v h = long-count-in v
 
   number-unit-in : (class : Class) (left v u : ℕ) → u < 256 → TakenIn (numberUnit node class left v u)
   unfolding numberUnit

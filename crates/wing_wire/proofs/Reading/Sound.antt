@@ -17,12 +17,12 @@ use Rattle.wing_node.specs.Utf8.{utf8}
 use Rattle.wing_wire.specs.Token.{ruleOf, widthOf}
 use Rattle.wing_wire.specs.State.{bodyLimit, zeros, escape, soundPending, soundEscape, underway, soundNumber, soundString, soundBody, soundCounts, storedBy, soundToken, soundState, freshState}
 use Rattle.wing_wire.specs.Escape.{decoded, ended, decodeOf, escapedOf, plainOf, otherOf, byteNext, pendingNext, decodeNextOf, DecodeNextSound}
-use Rattle.wing_wire.specs.Unit.{completes, singleOf, isString, tokenOf, beginOf, countOf, numberOf, shiftIn, numberUnit, UnitEffect, cleared, stringDone, stringUnit, keeps, bodyDone, bodyNext, bodyUnit, unitOf}
+use Rattle.wing_wire.specs.Unit.{completes, singleOf, isString, tokenOf, beginOf, countOf, longCountOf, numberOf, shiftIn, numberUnit, UnitEffect, cleared, stringDone, stringUnit, keeps, bodyDone, bodyNext, bodyUnit, unitOf}
 use Rattle.wing_wire.specs.Stream.{StepEffect, isMore, pendingOf, settleOf, givenOf, firstOf, followOf, stepOf, runOf, advanceOf, released, Fed, fedPending, fedByte, fedFrom, feedOf}
 use Rattle.wing_wire.specs.Reader.{nextFrom, nextOf}
 use Rattle.wing_wire.specs.Range.{AreBytes, noBytes, byteThen, PendingByte, noPending, pendingByte, Within, TokenWithin}
 use Rattle.wing_wire.specs.declared.token.Class.{Class}
-use Rattle.wing_wire.specs.declared.token.Class.the-variants.{NoEvent, Integer, String, Length, Int16, Int32, Float, Node, End, Count, ZeroCount}
+use Rattle.wing_wire.specs.declared.token.Class.the-variants.{NoEvent, Integer, String, Length, Int16, Int32, Float, Node, End, Count, LongCount}
 use Rattle.wing_wire.specs.declared.token.Rule.{Rule}
 use Rattle.wing_wire.specs.declared.state.Token.{Token}
 use Rattle.wing_wire.specs.declared.state.Token.the-variants.{Between, Number, String as InString, Body as InBody}
@@ -177,7 +177,7 @@ single-sound node Float t s z = z
 single-sound node Node t s z = z
 single-sound node End t s z = z
 single-sound node Count t s z = z
-single-sound node ZeroCount t s z = z
+single-sound node LongCount t s z = z
 
 pow-pos : (n : ℕ) → 1 ≤ 256 ^ n
 pow-pos zero = omega arith
@@ -199,13 +199,19 @@ begin-sound node t s z =
     branch (After s) (eqb (ruleOf t .wants) 0) _ _ (λ _. single-sound node (ruleOf t .class) t s z)
     (λ e. let ne : ruleOf t .wants ≡ 0 → ⊥ = eqb-false _ _ e in token-sound (ruleOf t) s (rule-fits t) (omega arith) z)
 
+counted-sound : (c : ℕ) (s : List ℕ) → eqb c 0 ≡ false → Zero s → InBytes c c 0 s
+counted-sound c s e z =
+    let ne : c ≡ 0 → ⊥ = eqb-false _ _ e in
+    record { some = omega arith; fits = omega arith; room = omega arith; unused = z }
+
 count-sound : (node : ℤ) (c : ℕ) (s : List ℕ) → Zero s → After s (countOf node c)
 unfolding countOf widthOf
 count-sound node c s z =
-    branch (After s) (eqb c 0) _ _ (λ _. record { some = omega arith; fits = omega arith; small = omega arith; unused = z })
-    (λ e.
-    let ne : c ≡ 0 → ⊥ = eqb-false _ _ e in
-    record { some = omega arith; fits = omega arith; room = omega arith; unused = z })
+    branch (After s) (eqb c 0) _ _ (λ _. record { some = omega arith; fits = omega arith; small = omega arith; unused = z }) (λ e. counted-sound c s e z)
+
+long-count-sound : (node : ℤ) (c : ℕ) (s : List ℕ) → Zero s → After s (longCountOf node c)
+unfolding longCountOf
+long-count-sound node c s z = branch (After s) (eqb c 0) _ _ (λ _. z) (λ e. counted-sound c s e z)
 
 number-sound : (node : ℤ) (class : Class) (v : ℕ) (s : List ℕ) → Zero s → After s (numberOf node class v)
 unfolding numberOf
@@ -219,7 +225,7 @@ number-sound node Float v s z = z
 number-sound node Node v s z = z
 number-sound node End v s z = z
 number-sound node Count v s z = count-sound node (v % 0x10000) s z
-number-sound node ZeroCount v s z = z
+number-sound node LongCount v s z = long-count-sound node v s z
 
 number-unit-sound : (node : ℤ) (class : Class) (left v u : ℕ) (s : List ℕ) → u < 256 → InNumber class left v s → After s (numberUnit node class left v u)
 unfolding numberUnit

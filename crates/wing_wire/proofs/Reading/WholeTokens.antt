@@ -20,14 +20,14 @@ use Rattle.wing_node.specs.Utf8.{utf8}
 use Rattle.wing_node.specs.Value.{integer, float, string}
 use Rattle.wing_wire.specs.Token.{Row, rule, table, ruleIn, ruleOf}
 use Rattle.wing_wire.specs.State.{bodyLimit, control, zeros}
-use Rattle.wing_wire.specs.Unit.{completes, awaits, singleOf, isString, tokenOf, beginOf, countOf, numberOf, shiftIn, numberUnit, UnitEffect, unitEffect, cleared, stringDone, stringUnit, keeps, bodyDone, bodyNext, bodyUnit, unitOf}
+use Rattle.wing_wire.specs.Unit.{completes, awaits, singleOf, isString, tokenOf, beginOf, countOf, longCountOf, numberOf, shiftIn, numberUnit, UnitEffect, unitEffect, cleared, stringDone, stringUnit, keeps, bodyDone, bodyNext, bodyUnit, unitOf}
 use Rattle.wing_wire.specs.Stream.{afterUnit, Fed, handle}
 use Rattle.wing_wire.specs.Reader.{Event, value, body, end, refused, eventOf}
 use Rattle.wing_wire.specs.Range.{AreBytes, noBytes, byteThen}
 use Rattle.wing_wire.specs.Units.{StreamUnit, streamUnit, unitTaken, unitsTaken}
-use Rattle.wing_wire.specs.Tokens.{emptyStore, values, appended, Further, From, Rest, TokenResult, event, nothing, newNode, stringOf, between, after, Holds, Token, InTable, integer-t, string-80, string-c0, string-d0, string-d1, integer-16, integer-32, float-bits, new-node, skips-two, skips-one, end-unit, bodies, count-over, count-zero, no-event}
+use Rattle.wing_wire.specs.Tokens.{emptyStore, values, appended, Further, From, Rest, TokenResult, event, nothing, newNode, stringOf, between, after, Holds, Token, InForce, short, long, InTable, integer-t, string-80, string-c0, string-d0, string-d1, integer-16, integer-32, float-bits, new-node, skips-two, skips-one, end-unit, bodies, count-over, counts-zero, no-event}
 use Rattle.wing_wire.specs.declared.token.Class.{Class}
-use Rattle.wing_wire.specs.declared.token.Class.the-variants.{NoEvent, Integer, String, Length, Int16, Int32, Float, Node, End, Count, ZeroCount}
+use Rattle.wing_wire.specs.declared.token.Class.the-variants.{NoEvent, Integer, String, Length, Int16, Int32, Float, Node, End, Count, LongCount}
 use Rattle.wing_wire.specs.declared.state.Escape.{Escape}
 use Rattle.wing_wire.specs.declared.state.Token.{Token as Progress}
 use Rattle.wing_wire.specs.declared.state.Token.the-variants.{Between, Number, String as InString, Body as InBody}
@@ -445,25 +445,33 @@ module _ {M : Type 0} (h : ℤ → Event → M → M) where
       (subst (λ (k : ℕ). Leads h e node m (stands h e node m (Number Count 2 0) emptyStore) c (done h e node m (unitEffect (countOf node k) emptyStore))) low
       (number-leads h e node m Count emptyStore 1 c f (omega arith)))
 
-  body-token : (a : Bool) (c us : List StreamUnit) → Further 2 c → 1 ≤ big (values c) → Further (big (values c)) us →
-      Token h (streamUnit 0xdf a ∷ (c ++ us)) (if (leb (big (values c)) bodyLimit) (event (body (appended us))) (event (refused 2)))
-  unfolding countOf
-  body-token a c us f some k =
-      let n : ℕ = big (values c) in
-      whole (streamUnit 0xdf a ∷ (c ++ us)) (if (leb n bodyLimit) (event (body (appended us))) (event (refused 2)))
-      (λ e node m.
-      let counted : Leads h e node m (between h e node m) (streamUnit 0xdf a ∷ c) (stands h e node m (InBody n n 0) emptyStore) =
-      rw (ne-eqb n 0 (λ z. omega arith)) at (count-leads e node m a c f) in
-      leads-on h e node m counted (body-leads h e node m n us k some))
+  -- count 0 and the 32-bit count after it
+  long-leads : (e : Escape) (node : ℤ) (m : M) (a : Bool) (z c : List StreamUnit) → Further 2 z → big (values z) ≡ 0 → Further 4 c →
+      Leads h e node m (between h e node m) (streamUnit 0xdf a ∷ (z ++ c)) (done h e node m (unitEffect (longCountOf node (big (values c))) emptyStore))
+  unfolding countOf numberOf
+  long-leads e node m a z c f none k =
+      let short : Leads h e node m (between h e node m) (streamUnit 0xdf a ∷ z) (stands h e node m (Number LongCount 4 0) emptyStore) =
+      rw (eq-eqb (big (values z)) 0 none) at (count-leads e node m a z f) in
+      leads-on h e node m short (number-leads h e node m LongCount emptyStore 3 c k (omega arith))
 
-  zero-token : (a : Bool) (c us : List StreamUnit) → Further 2 c → big (values c) ≡ 0 → Further 4 us → Token h (streamUnit 0xdf a ∷ (c ++ us)) (event (refused 3))
-  unfolding countOf numberOf eventOf
-  zero-token a c us f z k =
-      whole (streamUnit 0xdf a ∷ (c ++ us)) (event (refused 3))
-      (λ e node m.
-      let counted : Leads h e node m (between h e node m) (streamUnit 0xdf a ∷ c) (stands h e node m (Number ZeroCount 4 0) emptyStore) =
-      rw (eq-eqb (big (values c)) 0 z) at (count-leads e node m a c f) in
-      leads-on h e node m counted (number-leads h e node m ZeroCount emptyStore 3 us k (omega arith)))
+  -- a count in force that is not 0 wants as many units
+  force-leads : (e : Escape) (node : ℤ) (m : M) (a : Bool) (c : List StreamUnit) (n : ℕ) → InForce c n → 1 ≤ n →
+      Leads h e node m (between h e node m) (streamUnit 0xdf a ∷ c) (stands h e node m (InBody n n 0) emptyStore)
+  unfolding countOf longCountOf
+  force-leads e node m a c n (short d f some) l = rw (ne-eqb n 0 (λ z. omega arith)) at (count-leads e node m a c f)
+  force-leads e node m a c n (long z d f none k) l = rw (ne-eqb n 0 (λ z. omega arith)) at (long-leads e node m a z d f none k)
+
+  body-token : (a : Bool) (c us : List StreamUnit) (n : ℕ) → InForce c n → 1 ≤ n → Further n us →
+      Token h (streamUnit 0xdf a ∷ (c ++ us)) (if (leb n bodyLimit) (event (body (appended us))) (event (refused 2)))
+  body-token a c us n force some k =
+      whole (streamUnit 0xdf a ∷ (c ++ us)) (if (leb n bodyLimit) (event (body (appended us))) (event (refused 2)))
+      (λ e node m. leads-on h e node m (force-leads e node m a c n force some) (body-leads h e node m n us k some))
+
+  zero-token : (a : Bool) (c : List StreamUnit) (n : ℕ) → InForce c n → n ≡ 0 → Token h (streamUnit 0xdf a ∷ c) (event (refused 3))
+  unfolding longCountOf eventOf
+  zero-token a c n (short d f some) z = absurd (omega arith)
+  zero-token a c n (long y d f none k) z =
+      whole (streamUnit 0xdf a ∷ c) (event (refused 3)) (λ e node m. rw (eq-eqb (big (values d)) 0 z) at (long-leads e node m a y d f none k))
 
   -- a string from a row of first units
   row-token : (t low : ℕ) (a : Bool) (us : List StreamUnit) → ruleOf t ≡ rule String (t - low + 1) → t - low + 1 ≤ 256 → Further (t - low + 1) us → Token h (streamUnit t a ∷ us) (stringOf (values us))
@@ -488,7 +496,7 @@ module _ {M : Type 0} (h : ℤ → Event → M → M) where
   row us g (skips-two a vs f) = number-token 0xd2 a NoEvent 1 vs nothing refl refl (omega arith) f (λ e node m. refl)
   row us g (skips-one a vs f) = number-token 0xd9 a NoEvent 0 vs nothing refl refl (omega arith) f (λ e node m. refl)
   row us g (end-unit a) = alone 0xde a End (event end) refl (λ e node m. refl)
-  row us g (bodies a c vs f some most k) = rw (le-leb (big (values c)) bodyLimit most) at (body-token a c vs f some k)
-  row us g (count-over a c vs f over k) = rw (lt-leb (big (values c)) bodyLimit over) at (body-token a c vs f (omega arith) k)
-  row us g (count-zero a c vs f z k) = zero-token a c vs f z k
+  row us g (bodies a c vs n force some most k) = rw (le-leb n bodyLimit most) at (body-token a c vs n force some k)
+  row us g (count-over a c vs n force over k) = rw (lt-leb n bodyLimit over) at (body-token a c vs n force (omega arith) k)
+  row us g (counts-zero a c force) = zero-token a c 0 force refl
   row us g (no-event t a r) = alone t a NoEvent nothing (rule-rest t r) (λ e node m. refl)

@@ -10,9 +10,6 @@ Inv-loop log₀ text bytes c p₀ calls₀ log p calls = 0 ≤ calls
 abbrev μ-loop : tie.MeasureT-loop
 μ-loop log₀ text bytes c p₀ calls₀ log p calls = 200000 - calls
 
-by-number-requires : tie.Need-by-number-requires Inv-loop μ-loop
-by-number-requires c κs = search needs
-
 piece-end-requires : tie.Need-piece-end-requires Inv-loop μ-loop
 piece-end-requires c κs = search needs
 
@@ -43,7 +40,6 @@ read-all-spec =
     (tie.spec
     Inv-loop
     μ-loop
-    by-number-requires
     piece-end-requires
     loop-holds
     add-calls

@@ -10,6 +10,9 @@ use Rattle.wing_wire.proofs.state.sound_number.Tie as tie
 width-of-requires : tie.Need-width-of-requires
 width-of-requires c κs = search needs
 
+cast-is-underway : tie.Need-cast-is-underway
+cast-is-underway c = search needs
+
 is-underway-requires : tie.Need-is-underway-requires
 is-underway-requires c κs = search needs
 
@@ -38,6 +41,7 @@ sound-number-spec =
     tie.close
     (tie.spec
     width-of-requires
+    cast-is-underway
     is-underway-requires
     sub-is-within
     is-within-requires

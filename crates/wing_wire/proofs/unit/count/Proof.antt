@@ -13,12 +13,12 @@ returns : tie.Need-returns
 unfolding countOf
 returns c = simp (eq-eqb _ _ (c .before .if1 .taken), c .taken-of .ensures) (rw (toZ-ofZ (c .before .before .fits .node)))
 
-taken-of-requires-2 : tie.Need-taken-of-requires-2
-taken-of-requires-2 c κs = search needs
+body-of-requires : tie.Need-body-of-requires
+body-of-requires c κs = search needs
 
 returns-2 : tie.Need-returns-2
 unfolding countOf
-returns-2 c = simp (ne-eqb _ _ (c .before .if1 .left), c .taken-of2 .ensures) (rw (toZ-ofZ (c .before .before .fits .node)))
+returns-2 c = simp (ne-eqb _ _ (c .before .if1 .left), c .body-of .ensures) (rw (toZ-ofZ (c .before .before .fits .node)))
 
 pub count-spec : {M : Type 1} → statement M
-count-spec = tie.close (tie.spec taken-of-requires returns taken-of-requires-2 returns-2)
+count-spec = tie.close (tie.spec taken-of-requires returns body-of-requires returns-2)

@@ -101,8 +101,8 @@ count-requires c κs = search needs
 enum-told-11 : tie.Need-enum-told-11
 enum-told-11 c = search needs
 
-taken-of-requires-10 : tie.Need-taken-of-requires-10
-taken-of-requires-10 c κs = search needs
+long-count-requires : tie.Need-long-count-requires
+long-count-requires c κs = search needs
 
 returns : tie.Need-returns
 unfolding numberOf
@@ -157,7 +157,7 @@ returns-10 c = simp (c .before .enum-told10 .given .1, c .count .ensures) (rw (t
 
 returns-11 : tie.Need-returns-11
 unfolding numberOf
-returns-11 c = simp (c .before .enum-told11 .given .1, c .taken-of10 .ensures) (rw (toZ-ofZ (c .before .before .before .fits .node)))
+returns-11 c = simp (c .before .enum-told11 .given .1, c .long-count .ensures) (rw (toZ-ofZ (c .before .before .before .fits .node)))
 
 pub number-spec : {M : Type 1} → statement M
 number-spec =
@@ -192,7 +192,7 @@ number-spec =
     cast-count
     count-requires
     enum-told-11
-    taken-of-requires-10
+    long-count-requires
     returns
     returns-2
     returns-3
