@@ -118,7 +118,7 @@ extern "C" {
 #define WING_REFUSED_DEFINITION_STRING 5   /* a definition's string that is not UTF-8 */
 #define WING_REFUSED_NO_PLACE 6            /* a new node, and no place left; a listing of more records than places */
 #define WING_REFUSED_TABLE 7               /* the table is not sound, or its places are not 1 to 1,024 */
-#define WING_REFUSED_STATE 8               /* the bytes are no sound state's */
+#define WING_REFUSED_STATE 8               /* the bytes are no sound state's, or an old state's that cannot be carried over */
 #define WING_REFUSED_OUTPUT_SHORT 9        /* the output is too short for the whole */
 #define WING_REFUSED_STRING_LONG 10        /* a string over 256 bytes */
 #define WING_REFUSED_METERS 11             /* more than 64 meters */

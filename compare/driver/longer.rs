@@ -3,7 +3,7 @@
 use crate::inputs;
 use crate::oracle;
 use crate::orders::{Order, HELD};
-use crate::queries::{count_units, damaged, escaped, meter_items, token, tokens, Dice};
+use crate::queries::{damaged, escaped, meter_items, token, tokens, Dice};
 
 type Each<'a> = &'a mut dyn FnMut(&'static str, Order);
 
@@ -209,7 +209,12 @@ fn large_counts(d: &mut Dice, n: usize, each: Each) {
             _ => 65536 + d.below(4465),
         };
         let mut s = if d.one_in(2) { vec![0xdf, 0xd1, 0xdf] } else { vec![0xdf, 0xdf] };
-        s.extend(count_units(d, count));
+        if count > 65535 || d.one_in(2) {
+            s.extend([0, 0]);
+            s.extend(escaped(&(count as u32).to_be_bytes()));
+        } else {
+            s.extend(escaped(&(count as u16).to_be_bytes()));
+        }
         let body: Vec<u8> = (0..count).map(|_| if d.one_in(40) { d.telling() } else { d.below(0xdf) as u8 }).collect();
         s.extend(escaped(&body));
         let after = tokens(d, 3);

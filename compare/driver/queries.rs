@@ -213,8 +213,8 @@ fn definition_token(d: &mut Dice, out: &mut Vec<u8>) {
     out.extend(escaped(&b));
 }
 
-/// A count, one in four times, and always over 65,535, as a 32-bit one after count 0; now and then one that no stream has the units of.
-pub fn count_units(d: &mut Dice, n: usize) -> Vec<u8> {
+// A count, one in four times, and always over 65,535, as a 32-bit one after count 0; now and then one that no stream has the units of.
+fn count_units(d: &mut Dice, n: usize) -> Vec<u8> {
     if n <= 65535 && !d.one_in(4) {
         return escaped(&(n as u16).to_be_bytes());
     }

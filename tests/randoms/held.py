@@ -67,7 +67,7 @@ def full(source):
 def long_body(source):
     """A body whose count comes as 02's long one, around the limits of 16 bits and of the store, and the tokens after it."""
     count = source.pick(0, 1, 4095, 4096, 4097, 65534, 65535, 65536, 65537, 70000)
-    front = source.short_stream(40) + escaped(source.count_units(count))
+    front = source.short_stream(40) + escaped(b"\xdf\x00\x00" + unsigned_bytes(count, 4))
     unit = source.pick(b"A", b"\xdf\xde", b"\xdf\xdf", b"\xdf\xd4A")
     times = min(count, 60000 // len(unit)) if len(unit) > 1 else count
     lines = ["more " + pairs(front), "mores %d %s" % (min(times, 60000), pairs(unit)), "mores %d 42" % max(0, min(times - 60000, 15000))]

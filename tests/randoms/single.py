@@ -15,7 +15,7 @@ WIDE = 10**6
 # Rooms around which the code goes another way: the largest number, id, meter request and string, and the limits of the orders.
 SWITCHES = (0, 1, 9, 10, 11, 17, 18, 19, 211, 212, 213, 394, 395, 396, 511, 512, 513, 16383, 16384)
 EDGES = (0x7F, 0x80, 0x8F, 0x90, 0x9F, 0xA0, 0xBF, 0xC0, 0xC1, 0xC2, 0xDF, 0xE0, 0xED, 0xEF, 0xF0, 0xF4, 0xF5, 0xFF)
-SOUND = (0, 5, 6, 7, 10, 11, 16, 18, 22, 23, 24, 28, 29, 31, 33)        # the numbers of the sound states
+SOUND = (0, 5, 6, 7, 10, 11, 16, 18, 22, 23, 28, 29, 31, 33)        # the numbers of the sound states
 # Lists of sizes out of form.
 ODD_LISTS = ("0", "-", "+", "x", ",", "1,", ",1", "1,,2", "1,0,2", "-1", "65536", "1,65536", "00000000001", "1;2", ",".join(["1"] * 65))
 

@@ -26,7 +26,7 @@ def token(s, data):
     refuse_if(kind > 3 or kind == 0 and (want or left or stored) or kind == 2 and stored, 8)
     # The counts had 16 bits.
     refuse_if(max(want, left, stored) >= 2**16, 8)
-    s.kind, s.want, s.left = (None, "skipped", "string", "body")[kind], want, left
+    s.kind, s.want, s.left = {0: None, 2: "string", 3: "body"}[kind], want, left
     s.stored = want - left if kind == 2 else stored
 
 

@@ -11,9 +11,9 @@ pub struct Refusal(u8);
 impl Refusal {
     /// 1: a string that is not UTF-8.
     pub const STRING: Refusal = Refusal(1);
-    /// 2: a definition's count over 4,096, or a body to be written that is longer.
+    /// 2: a definition's count in force over 4,096, or a body to be written that is longer.
     pub const BODY_LONG: Refusal = Refusal(2);
-    /// 3: a definition's count 0.
+    /// 3: both counts of a definition 0: its 16-bit count, and the 32-bit one after it.
     pub const BODY_EMPTY: Refusal = Refusal(3);
     /// 4: a definition's field past the end.
     pub const DEFINITION_SHORT: Refusal = Refusal(4);
@@ -23,7 +23,7 @@ impl Refusal {
     pub const NO_PLACE: Refusal = Refusal(6);
     /// 7: a table that is not sound, or whose places are not 1 to 1,024.
     pub const TABLE: Refusal = Refusal(7);
-    /// 8: bytes that are no sound decoder state's.
+    /// 8: bytes that are no sound decoder state's, or an old state's that cannot be carried over.
     pub const STATE: Refusal = Refusal(8);
     /// 9: an output too short for the whole.
     pub const OUTPUT_SHORT: Refusal = Refusal(9);
@@ -56,7 +56,7 @@ impl Refusal {
         match self.0 {
             1 => "a string is not UTF-8",
             2 => "a definition's count or body is over 4,096",
-            3 => "a definition's count is 0",
+            3 => "both counts of a definition are 0",
             4 => "a definition's field goes past the end",
             5 => "a definition's string is not UTF-8",
             6 => "a new node, and no place left, or more records than places",

@@ -88,15 +88,15 @@ number-says node Float v = not-refused (aFloat v) Between refl
 number-says node Node v = not-refused More Between refl
 number-says node End v = not-refused More Between refl
 number-says node Count v =
-    branch SaysTaken (eqb (v % 0x10000) 0) _ _ (λ _. not-refused More (Number LongCount 4 0) refl) (λ _. not-refused More (InBody (v % 0x10000) (v % 0x10000) 0) refl)
-number-says node LongCount v = branch SaysTaken (eqb v 0) _ _ (λ _. refuses 3 (inr (inr (inl refl)))) (λ _. not-refused More (InBody v v 0) refl)
+    branch SaysTaken (eqb (v % 0x10000) 0) _ _ (λ _. not-refused More (Number LongCount 4 0) refl) (λ _. not-refused More (InBody 0 (v % 0x10000) (v % 0x10000)) refl)
+number-says node LongCount v = branch SaysTaken (eqb v 0) _ _ (λ _. refuses 3 (inr (inr (inl refl)))) (λ _. not-refused More (InBody 0 v v) refl)
 
 body-says : (node : ℤ) (want left stored : ℕ) → SaysTaken (bodyNext node want left stored)
 unfolding bodyNext bodyDone
 body-says node want left stored =
     branch SaysTaken (leb left 1) _ _
     (λ _. branch SaysTaken (leb want bodyLimit) _ _ (λ _. not-refused (aBody stored) Between refl) (λ _. refuses 2 (inr (inl refl))))
-    (λ _. not-refused More (InBody want (left - 1) stored) refl)
+    (λ _. not-refused More (InBody stored want (left - 1)) refl)
 
 -- one unit
 unit-says : (node : ℤ) (t : Token) (s : List ℕ) (u : ℕ) (a : Bool) → SaysUnitEffect (unitOf node t s u a)
@@ -110,7 +110,7 @@ unit-says node (InString want left) s u a =
     branch SaysUnitEffect (leb left 1) _ _
     (λ _. branch SaysUnitEffect (utf8 (take want (set s (want - left) u))) _ _ (λ _. not-refused (aString want) Between refl) (λ _. refuses 1 (inl refl)))
     (λ _. not-refused More (InString want (left - 1)) refl)
-unit-says node (InBody want left stored) s u a =
+unit-says node (InBody stored want left) s u a =
     branch SaysUnitEffect (keeps want stored a) _ _ (λ _. body-says node want left (stored + 1)) (λ _. body-says node want left stored)
 
 -- ---- from one unit to a call

@@ -102,8 +102,9 @@ pub fn demand_3_whole()
     ensures { λ _. ⌜ Histories full ⌝ }
 {}
 
-// An old decoder state carried over (02): whatever bytes a fresh old decoder and a fresh new one were fed alike, of which none is a unit of the four after a
+// An old decoder state carried over (02): whatever bytes a fresh old decoder and a fresh new one were fed alike, none of whose units is one of the four after a
 // count 0, the old one's state is carried over as the new one's; and any old state, carried over, answers further bytes as it did as long as no such unit comes.
+// With the first such unit a sound state gets 8.
 pub fn carried_over()
     ensures { λ _. ⌜ CarriesOver listed ⌝ }
 {}
@@ -133,7 +134,7 @@ pub fn search_reads()
     ensures { λ _. ⌜ SearchReads full ⌝ }
 {}
 
-// The cases that 01 marks #: what the definitions give in each is what 01 wants.
+// The cases that 01 marks #, and 02's counts: what the definitions give in each is what is wanted.
 pub fn marked_cases()
     ensures { λ _. ⌜ (map (λ (c : Case). c .got) cases ≡ map (λ (c : Case). c .wanted) cases) ⌝ }
 {}

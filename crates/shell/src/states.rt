@@ -79,11 +79,11 @@ fn low_16(n: u32) -> u16 {
     (n % 0x10000) as u16
 }
 
-// A token by the first letter of its kind, or of the class of the end or of a long count.
-fn token_of(letter: u8, want: u32, count: u32, more: u16) -> Token {
+// A token by the first letter of its kind, or of the class of the end or of a long count, with the units wanted and left.
+fn token_of(letter: u8, want: u32, units: u32, more: u16) -> Token {
     let value = more as u32;
     let stored = more;
-    let left = low_16(count);
+    let left = low_16(units);
     match letter {
         b'i' => {
             let class = Class::Int16;
@@ -102,7 +102,7 @@ fn token_of(letter: u8, want: u32, count: u32, more: u16) -> Token {
             Token::String { want, left }
         }
         b'b' => {
-            let left = count;
+            let left = units;
             Token::Body { want, left, stored }
         }
         _ => Token::Between,

@@ -44,7 +44,7 @@ unfoldable pub carriedKept : Result State → List ℕ → WriteEffect
 carriedKept (ok s) out = saveOf s out
 carriedKept (refused n) out = writeEffect (NotWritten n) out
 
--- what an output that held a state reads as then: the state carried over, else what it read as before
+-- what an output of a state's size reads as then: the state carried over, else what it read as before
 unfoldable pub stateCarried : Result State → Result State → Result State
 stateCarried (ok s) before = ok s
 stateCarried (refused n) before = before

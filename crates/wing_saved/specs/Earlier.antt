@@ -34,14 +34,14 @@ unfoldable pub isNarrow : Token → Bool
 isNarrow Between = true
 isNarrow (Number class left value) = true
 isNarrow (String want left) = true
-isNarrow (Body want left stored) = and (ltb want 0x10000) (ltb left 0x10000)
+isNarrow (Body stored want left) = and (ltb want 0x10000) (ltb left 0x10000)
 
 -- the token as it was; the remainders keep a body's counts in 16 bits
 unfoldable pub narrowed : Token → EarlierToken
 narrowed Between = between
 narrowed (Number class left value) = number class left value
 narrowed (String want left) = string want left
-narrowed (Body want left stored) = body (want % 0x10000) (left % 0x10000) stored
+narrowed (Body stored want left) = body (want % 0x10000) (left % 0x10000) stored
 
 -- the old state of a control that the fields say and of the store after them; 8 for counts that had no room
 unfoldable pub earlierWith : Result Control → List ℕ → Result EarlierState

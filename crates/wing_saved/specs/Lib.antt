@@ -1,3 +1,3 @@
 pub mod Saved
-pub mod Cases
 pub mod Earlier
+pub mod Cases

@@ -59,7 +59,7 @@ unfoldable pub fieldsOf : Token → TokenFields
 fieldsOf Between = tokenFields 0 0 0 0 0 0
 fieldsOf (Number class left value) = tokenFields 1 (classNumber class) 0 left 0 value
 fieldsOf (String want left) = tokenFields 2 0 want left 0 0
-fieldsOf (Body want left stored) = tokenFields 3 0 want left stored 0
+fieldsOf (Body stored want left) = tokenFields 3 0 want left stored 0
 
 -- the fields before the store under a version, 27 bytes: version, escaped, channel, whether a byte is pending and which (a byte each), the node (four bytes),
 -- the token's kind and class (a byte each), the units wanted and left, the bytes stored and the value (four bytes each)
@@ -98,7 +98,7 @@ unfoldable pub tokenIn : TokenFields → Token
 tokenIn k =
     if (eqb (k .kind) 1) (Number (classIn (k .class)) (k .left % 0x10000) (k .value))
     (if (eqb (k .kind) 2) (String (k .want % 0x10000) (k .left % 0x10000))
-    (if (eqb (k .kind) 3) (Body (k .want) (k .left) (k .stored)) Between))
+    (if (eqb (k .kind) 3) (Body (k .stored) (k .want) (k .left)) Between))
 
 -- the numbers at their places. What is stored has 16 bits, the last two of its four bytes
 unfoldable pub fieldsIn : List ℕ → TokenFields
@@ -170,7 +170,7 @@ abbrev pub CountIn : Token → Type 0
 CountIn Between = Unit {0}
 CountIn (Number class left value) = Unit {0}
 CountIn (String want left) = Unit {0}
-CountIn (Body want left stored) = want < 2 ^ 32
+CountIn (Body stored want left) = want < 2 ^ 32
 
 -- what the types of the code say of a state
 pub record Typed (s : State) : Type 0 where

@@ -26,7 +26,7 @@ use wing_wire::write::Written;
 
 pub mod earlier;
 
-// The version of the form, its first byte. 1 had the same fields, the counts of a body of 16 bits (earlier.rt).
+// The version of the form, its first byte. Version 1 had the same fields; a body's counts had 16 bits (earlier.rt).
 pub const VERSION: u8 = 2;
 
 // The bytes of the fields before the store.
@@ -187,7 +187,7 @@ fn head_of(version: u8, c: Control) -> [u8; HEAD]
 }
 
 // Bytes at a place.
-pub(crate) fn lay(out: &mut [u8], at: usize, src: &[u8])
+fn lay(out: &mut [u8], at: usize, src: &[u8])
     requires { ⌜ at + length (now src) ≤ length (now out) ⌝ }
     ensures { λ _. ⌜ now (out .exit) ≡ sets (now (out .entry)) at (now (src .entry)) ⌝ }
 {
@@ -261,8 +261,8 @@ fn class_in(n: u8) -> Class
     }
 }
 
-// The counts of a number and of a string have 16 bits.
-pub(crate) fn low_16(n: u32) -> u16
+// The last 16 bits of n.
+fn low_16(n: u32) -> u16
     ensures { λ r. ⌜ r ≡ n % 0x10000 ⌝ }
 {
     (n % 0x10000) as u16
@@ -309,7 +309,7 @@ fn fields_in(s: &[u8]) -> TokenFields
     }
 }
 
-// What the fields say, whatever the bytes. head then lays the control's own fields and takes it only if they are these bytes, so that no
+// What the fields say, whatever the bytes. head_under then lays the control's own fields and takes it only if they are these bytes, so that no
 // other number, such as a flag of 2 or a byte where none is pending, needs a test of its own.
 fn control_in(s: &[u8]) -> Control
     requires { ⌜ length (now s) ≡ savedSize ⌝ }
@@ -351,8 +351,9 @@ fn no_head() -> HeadRead
     }
 }
 
-// The same under a version.
-pub(crate) fn head_under(version: u8, bytes: &[u8]) -> HeadRead
+// The control of a state's bytes under a version, which are its fields and then the store; 8 if they are not as many, or begin with no control's
+// fields. Whether the state is sound is not tested.
+fn head_under(version: u8, bytes: &[u8]) -> HeadRead
     ensures { λ r. ⌜ r ≡ headAs (headFromUnder version (now (bytes .entry))) ⌝ }
 {
     if bytes.len() == SIZE {
@@ -369,15 +370,14 @@ pub(crate) fn head_under(version: u8, bytes: &[u8]) -> HeadRead
     no_head()
 }
 
-// The control of a state's bytes, which are its fields and then the store; 8 if they are not as many, or begin with no control's fields. Whether
-// the state is sound is not tested.
+// The same under today's version.
 pub fn head(bytes: &[u8]) -> HeadRead
     ensures { λ r. ⌜ r ≡ headAs (headFrom (now (bytes .entry))) ⌝ }
 {
     head_under(VERSION, bytes)
 }
 
-pub(crate) fn refuse(why: u8) -> Loaded
+fn refuse(why: u8) -> Loaded
     ensures { λ r. ⌜ r ≡ loadedAs (refused why) ⌝ }
 {
     Loaded {

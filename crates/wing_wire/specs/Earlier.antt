@@ -85,7 +85,7 @@ unfoldable pub carriedToken : EarlierToken → Token
 carriedToken Between = between
 carriedToken (Number class left value) = number class left value
 carriedToken (String want left) = string want left
-carriedToken (Body want left stored) = body want left stored
+carriedToken (Body want left stored) = body stored want left
 
 -- 02: the same stored bytes, and all else the same
 abbrev pub carried : EarlierState → State

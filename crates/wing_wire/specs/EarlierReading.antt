@@ -7,17 +7,17 @@ use lib.Dec.{leb, eqb}
 use lib.IntN.{ℤ}
 use lib.ListN.{take, set}
 use Rattle.wing_node.specs.Bool.{if, and}
-use Rattle.wing_node.specs.Result.{ok}
+use Rattle.wing_node.specs.Result.{ok, refused}
 use Rattle.wing_node.specs.Signed.{signed}
 use Rattle.wing_node.specs.Utf8.{utf8}
 use Rattle.wing_wire.specs.State.{bodyLimit, freshState, control}
 use Rattle.wing_wire.specs.Token.{ruleOf}
 use Rattle.wing_wire.specs.Unit.{singleOf, isString, shiftIn, cleared, keeps}
 use Rattle.wing_wire.specs.Stream.{isMore, released, Fed, feedOf}
-use Rattle.wing_wire.specs.Units.{StreamUnit, unitsOf}
+use Rattle.wing_wire.specs.Units.{StreamUnit, unitsOf, unitsTaken}
 use Rattle.wing_wire.specs.Range.{AreBytes}
 use Rattle.wing_wire.specs.DecoderLaws.{stateIn}
-use Rattle.wing_wire.specs.Earlier.{earlierControl, earlierState, earlierFresh, isLongCount, carriedToken, carryOf}
+use Rattle.wing_wire.specs.Earlier.{earlierControl, earlierState, earlierFresh, earlierSound, isLongCount, carriedToken, carryOf}
 use Rattle.wing_wire.specs.declared.token.Class.{Class}
 use Rattle.wing_wire.specs.declared.token.Class.the-variants.{NoEvent, Integer, String, Length, Int16, Int32, Float, Node, End, Count, LongCount}
 use Rattle.wing_wire.specs.declared.state.Escape.{Escape}
@@ -165,8 +165,13 @@ module _ {M : Type 0} (h : ℤ → Answer → List ℕ → M → M) where
 
   -- 02: for any handler of answers
   pub record CarriesOver : Type 0 where
-    -- an old sound state, or any other, carried over answers further bytes as it did, and is left as it was left, as long as no long count is started
+    -- any old state, sound or not, carried over answers further bytes as it did, and is left as it was left, as long as no long count is started
     pub further : (x : EarlierFed M) (bytes : List ℕ) → noLongCount x bytes → feedOf h (carriedFed x) bytes ≡ carriedFed (earlierFeed x bytes)
+    -- the same unit by unit, so of a state between two units as well, where a byte may be pending: the escapes are the same in both
+    pub units : (x : EarlierFed M) (us : List StreamUnit) → unstarted x us ≡ true → unitsTaken h (carriedFed x) us ≡ carriedFed (earlierUnits x us)
+    -- a sound state within the four units after a count 0 gets 8 as soon as one of them is taken
+    pub started : (x : EarlierFed M) (g : StreamUnit) → earlierSound (earlierIn x) ≡ true → wantsLong (x .control .token) ≡ true →
+        wantsLong (earlierTake x g .control .token) ≡ true → carryOf (earlierIn (earlierTake x g)) ≡ refused 8
     -- what bytes without a started long count leave of a fresh old decoder is carried over, and is what they leave of a fresh new one
     pub fresh : (m : M) (bytes : List ℕ) → AreBytes bytes → noLongCount (freshEarlier m) bytes →
         carryOf (earlierIn (earlierFeed (freshEarlier m) bytes)) ≡ ok (stateIn (feedOf h (freshNow m) bytes))

@@ -80,7 +80,7 @@ unfoldable pub tokenAhead : Token → List ℕ → ℕ → List ℕ → AheadEff
 tokenAhead Between s n bs = aheadEffect (tokenAt Between n) s
 tokenAhead (Number class left v) s n bs = aheadEffect (numberAhead class left v n bs) s
 tokenAhead (String want left) s n bs = stringAhead want left s n bs
-tokenAhead (Body want left stored) s n bs = aheadEffect (tokenAt (Body want left stored) n) s
+tokenAhead (Body stored want left) s n bs = aheadEffect (tokenAt (Body stored want left) n) s
 
 -- unescaped, and nothing pending
 abbrev pub isPlain : Escape → Bool

@@ -41,7 +41,7 @@ abbrev pub TokenWithin : Token → Type 0
 TokenWithin Between = Unit {0}
 TokenWithin (Number class left v) = Unit {0}
 TokenWithin (InString want left) = want ≤ 256
-TokenWithin (InBody want left stored) = stored ≤ bodyLimit
+TokenWithin (InBody stored want left) = stored ≤ bodyLimit
 
 -- what a step leaves is within these bounds, and n bytes stand in the store
 pub record StepEffectWithin (n : ℕ) (o : StepEffect) : Type 0 where
@@ -54,7 +54,7 @@ abbrev pub NumberIn : Token → Type 0
 NumberIn Between = Unit {0}
 NumberIn (Number class left v) = v < 2 ^ 32
 NumberIn (InString want left) = Unit {0}
-NumberIn (InBody want left stored) = Unit {0}
+NumberIn (InBody stored want left) = Unit {0}
 
 -- a store is 4,096 bytes
 pub record StoreIn (s : List ℕ) : Type 0 where

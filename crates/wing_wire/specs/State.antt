@@ -76,14 +76,14 @@ unfoldable pub soundCounts : Token → Bool
 soundCounts Between = true
 soundCounts (Number class left value) = soundNumber class left value
 soundCounts (String want left) = soundString want left
-soundCounts (Body want left stored) = soundBody want left stored
+soundCounts (Body stored want left) = soundBody want left stored
 
 -- 01: a string's stored bytes exactly as many as its string units collected
 unfoldable pub storedBy : Token → ℕ
 storedBy Between = 0
 storedBy (Number class left value) = 0
 storedBy (String want left) = want - left
-storedBy (Body want left stored) = stored
+storedBy (Body stored want left) = stored
 
 -- 01: unused store bytes 0
 unfoldable pub soundToken : Token → List ℕ → Bool

@@ -70,7 +70,7 @@ beginOf node t =
 
 -- 01: count c, then c units
 abbrev pub counted : ℤ → ℕ → Taken
-counted node c = awaits node (InBody c c 0)
+counted node c = awaits node (InBody 0 c c)
 
 -- 01: df: 16-bit count; 02: after count 0 comes a 32-bit count
 unfoldable pub countOf : ℤ → ℕ → Taken
@@ -138,7 +138,7 @@ bodyDone node want stored = if (leb want bodyLimit) (completes node (aBody store
 -- one unit less is wanted; the last one gives the body
 unfoldable pub bodyNext : ℤ → ℕ → ℕ → ℕ → Taken
 bodyNext node want left stored =
-    if (leb left 1) (bodyDone node want stored) (awaits node (InBody want (left - 1) stored))
+    if (leb left 1) (bodyDone node want stored) (awaits node (InBody stored want (left - 1)))
 
 -- 01: a body's units, appended or not
 unfoldable pub bodyUnit : ℤ → ℕ → ℕ → ℕ → List ℕ → ℕ → Bool → UnitEffect
@@ -151,4 +151,4 @@ unfoldable pub unitOf : ℤ → Token → List ℕ → ℕ → Bool → UnitEffe
 unitOf node Between s u appended = unitEffect (beginOf node u) s
 unitOf node (Number class left v) s u appended = unitEffect (numberUnit node class left v u) s
 unitOf node (InString want left) s u appended = stringUnit node want left s u
-unitOf node (InBody want left stored) s u appended = bodyUnit node want left stored s u appended
+unitOf node (InBody stored want left) s u appended = bodyUnit node want left stored s u appended

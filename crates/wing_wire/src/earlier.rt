@@ -1,5 +1,5 @@
-// A decoder state of the time when a body's counts had 16 bits and a count of 0 was skipped with the four units after it (02, Job 4),
-// and how it is carried over.
+// A decoder state of the time when a body's counts had 16 bits, and a count of 0 took four units more and was refused (02, Job 4); and how it is
+// carried over.
 ghost use mathlib.Core.Path.{_≡_};
 ghost use Rattle.wing_wire.specs.Earlier.{isLongCount, isStarted, carriedToken, carried, carriedAs, carryOf};
 ghost use Rattle.wing_node.specs.Result.{ok, refused};
@@ -83,7 +83,7 @@ fn is_started(token: Token) -> bool
 }
 
 // The same token, a body's counts in 32 bits.
-fn token_over(token: Token) -> state::Token
+fn carried_token(token: Token) -> state::Token
     ensures { λ r. ⌜ r ≡ carriedToken token ⌝ }
 {
     match token {
@@ -106,13 +106,13 @@ fn token_over(token: Token) -> state::Token
 }
 
 // The same state, its token carried over.
-fn state_over(s: State) -> state::State
+fn carried_state(s: State) -> state::State
     ensures { λ r. ⌜ r ≡ carried s ⌝ }
 {
     let c = s.control;
     let escape = c.escape;
     let token = c.token;
-    let over = token_over(token);
+    let over = carried_token(token);
     let store = s.store;
     state::State {
         control: state::Control {
@@ -143,7 +143,7 @@ pub fn carry_over(s: State) -> Carried
     if is_started(token) {
         return refuse();
     }
-    let over = state_over(s);
+    let over = carried_state(s);
     if is_sound(over) {
         return Carried {
             answer: CarryAnswer::Good,

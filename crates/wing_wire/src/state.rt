@@ -23,12 +23,12 @@ pub struct Escape {
 }
 
 // The token in progress, by the units that it still wants. A string's bytes, and those that a body's units
-// appended, stand at the front of the store.
+// appended, stand at the front of the store. How many are stored of a body comes first: so a token has 12 bytes and not 16.
 pub enum Token {
     Between,
     Number { class: Class, left: u16, value: u32 },
     String { want: u16, left: u16 },
-    Body { want: u32, left: u32, stored: u16 },
+    Body { stored: u16, want: u32, left: u32 },
 }
 
 // The state without its store.

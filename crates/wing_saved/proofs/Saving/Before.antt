@@ -37,7 +37,7 @@ unfolding isNarrow narrowed carriedToken
 wide-back Between e = refl
 wide-back (Number class left v) e = refl
 wide-back (String want left) e = refl
-wide-back (Body want left stored) e =
+wide-back (Body stored want left) e =
     rw (low-same want (ltb-true _ _ (and-left (ltb want 0x10000) (ltb left 0x10000) e)), low-same left (ltb-true _ _ (and-right (ltb want 0x10000) (ltb left 0x10000) e)))
 
 -- one that has 16 bits, carried over, is narrow, and what it was
@@ -66,7 +66,7 @@ unfolding narrowed
 counts-in Between = tt
 counts-in (Number class left v) = tt
 counts-in (String want left) = tt
-counts-in (Body want left stored) = omega arith
+counts-in (Body stored want left) = omega arith
 
 -- ---- what the answer of head says of the bytes
 

@@ -92,7 +92,7 @@ abbrev pub Narrow : Token → Type 0
 Narrow Between = Unit {0}
 Narrow (Number class left value) = left < 2 ^ 16
 Narrow (InString want left) = (want < 2 ^ 16) × (left < 2 ^ 16)
-Narrow (InBody want left stored) = Unit {0}
+Narrow (InBody stored want left) = Unit {0}
 
 pub low-same : (n : ℕ) → n < 2 ^ 16 → n % 0x10000 ≡ n
 low-same n h = omega arith
@@ -102,7 +102,7 @@ unfolding tokenIn fieldsOf
 token-back Between h = refl
 token-back (Number class left value) h = ap (λ (k : Class). Number k (left % 0x10000) value) (class-back class) ∙ ap (λ (n : ℕ). Number class n value) (low-same left h)
 token-back (InString want left) (h, k) = rw (low-same want h, low-same left k)
-token-back (InBody want left stored) h = refl
+token-back (InBody stored want left) h = refl
 
 -- the numbers are within their fields
 pub record FieldsFit (k : TokenFields) : Type 0 where

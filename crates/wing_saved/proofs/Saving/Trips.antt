@@ -66,7 +66,7 @@ token-fits (Number class left value) store g w v n =
 token-fits (InString want left) store g w v n =
     let few : left < 2 ^ 16 = omega (arith, g .fits) in
     record { fields = record { want = omega arith; left = omega arith; stored = omega arith; value = omega arith }; narrow = (omega arith, few) }
-token-fits (InBody want left stored) store g w v n =
+token-fits (InBody stored want left) store g w v n =
     record { fields = record { want = n; left = omega (arith, g .fits); stored = omega arith; value = omega arith }; narrow = tt }
 
 module _ (v : ℕ) (s : State) (range : InRange (s .control) (s .store)) (count : CountIn (s .control .token)) (sound : soundState s ≡ true) where

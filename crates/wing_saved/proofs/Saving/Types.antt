@@ -32,13 +32,13 @@ number-typed : (t : Token) (vs : List Val) → Is (rowᵉ tokens.the-type) t vs 
 number-typed Between vs r = tt
 number-typed (Number class left value) vs r = r .1 .1 .1 .1 .1 .1 .0 .1
 number-typed (String want left) vs r = tt
-number-typed (Body want left stored) vs r = tt
+number-typed (Body stored want left) vs r = tt
 
 count-typed : (t : Token) (vs : List Val) → Is (rowᵉ tokens.the-type) t vs → CountIn t
 count-typed Between vs r = tt
 count-typed (Number class left value) vs r = tt
 count-typed (String want left) vs r = tt
-count-typed (Body want left stored) vs r = r .1 .1 .1 .1 .0 .1
+count-typed (Body stored want left) vs r = r .1 .1 .1 .1 .1 .0 .1
 
 -- a list whose elements are bytes at every place
 pub are-bytes : (s : List ℕ) → ((i : ℕ) → getD s i 0 < 256) → AreBytes s

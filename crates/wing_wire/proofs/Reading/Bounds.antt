@@ -164,7 +164,7 @@ unfolding unitOf
 unit-bounded node Between s u a h = record { taken = begin-in node u s; size = refl }
 unit-bounded node (Number class left v) s u a h = record { taken = number-unit-in node class left v u s; size = refl }
 unit-bounded node (InString want left) s u a h = string-in node want left u s h
-unit-bounded node (InBody want left stored) s u a h = body-in node want left stored u s a h
+unit-bounded node (InBody stored want left) s u a h = body-in node want left stored u s a h
 
 -- ---- through the bytes
 

@@ -1,9 +1,10 @@
 -- A state of the decoder as it was before, carried over: it is sound exactly if it was, and reads on as it did.
-use Prim.Native.Nat.{ℕ, _+_, _-_, _%_}
+use Prim.Native.Nat.{ℕ, _+_, _-_, _%_, _^_, _≤_}
 use mathlib.Core.Bool.{Bool, true, false, not}
 use mathlib.Core.Path.{_≡_, refl, sym, _∙_, ap}
 use mathlib.Core.List.{List, [], _∷_}
 use native.Mathlib.Omega.{arith}
+use borrow.Author.Tests.{lt-ltb}
 use lib.Dec.{ltb, leb, eqb}
 use lib.IntN.{ℤ}
 use lib.ListN.{take, drop, set}
@@ -12,8 +13,8 @@ use Rattle.wing_node.specs.Result.{Result, ok, refused}
 use Rattle.wing_node.specs.Signed.{signed}
 use Rattle.wing_node.specs.Utf8.{utf8}
 use Rattle.wing_node.proofs.Branches.{branch, and-left, and-right}
-use Rattle.wing_wire.specs.State.{bodyLimit, soundEscape, soundCounts, storedBy, soundToken, soundState, zeros, freshState}
-use Rattle.wing_wire.specs.Token.{Row, table, ruleIn, ruleOf}
+use Rattle.wing_wire.specs.State.{bodyLimit, underway, soundNumber, soundEscape, soundCounts, storedBy, soundToken, soundState, zeros, freshState}
+use Rattle.wing_wire.specs.Token.{Row, table, ruleIn, ruleOf, widthOf}
 use Rattle.wing_wire.specs.Unit.{taken, completes, awaits, singleOf, isString, tokenOf, beginOf, countOf, numberOf, shiftIn, numberUnit, UnitEffect, unitEffect, cleared, stringDone, stringUnit, keeps, bodyDone, bodyNext, bodyUnit, unitOf}
 use Rattle.wing_wire.specs.Stream.{afterUnit, Fed, handle, feedOf}
 use Rattle.wing_wire.specs.Units.{StreamUnit, unitsOf, withEscape, unitTaken, unitsTaken}
@@ -32,6 +33,7 @@ use Rattle.wing_wire.specs.declared.earlier.State.{State as EarlierState
 use Rattle.wing_wire.specs.declared.unit.Answer.{Answer}
 use Rattle.wing_wire.specs.declared.unit.Answer.the-variants.{String as aString, Body as aBody, Refused}
 use Rattle.wing_wire.specs.declared.unit.Taken.{Taken}
+use Rattle.wing_wire.proofs.Reading.Underway.{underway-le}
 use Rattle.wing_wire.proofs.Reading.Pieces.{clash}
 use Rattle.wing_wire.proofs.Reading.ByUnits.{feed-units}
 use Rattle.wing_wire.proofs.Laws.{decoder-laws}
@@ -118,7 +120,7 @@ count-over : (node : ℤ) (c : ℕ) → countOf node c ≡ over (earlierCount no
 unfolding countOf earlierCount carriedToken
 count-over node c = go (eqb c 0)
   where
-    go : (q : Bool) → if q (awaits node (number LongCount 4 0)) (awaits node (body c c 0)) ≡ over (if q (awaited node (Number LongCount 4 0)) (awaited node (InBody c c 0)))
+    go : (q : Bool) → if q (awaits node (number LongCount 4 0)) (awaits node (body 0 c c)) ≡ over (if q (awaited node (Number LongCount 4 0)) (awaited node (InBody c c 0)))
     go true = refl
     go false = refl
 
@@ -149,7 +151,7 @@ next-over : (node : ℤ) (want left stored : ℕ) → bodyNext node want left st
 unfolding bodyNext bodyDone earlierNext carriedToken
 next-over node want left stored = go (leb left 1) (leb want bodyLimit)
   where
-    go : (p q : Bool) → if p (if q (completes node (aBody stored)) (completes node (Refused 2))) (awaits node (body want (left - 1) stored)) ≡
+    go : (p q : Bool) → if p (if q (completes node (aBody stored)) (completes node (Refused 2))) (awaits node (body stored want (left - 1))) ≡
         over (if p (if q (completed node (aBody stored)) (completed node (Refused 2))) (awaited node (InBody want (left - 1) stored)))
     go true true = refl
     go true false = refl
@@ -252,6 +254,37 @@ unit-fine node (InString want left) s u a e =
 unit-fine node (InBody want left stored) s u a e =
     branch (λ (o : EarlierEffect). Fine (o .taken)) (keeps want stored a) _ _ (λ _. next-fine node want left (stored + 1)) (λ _. next-fine node want left stored)
 
+-- a number after a unit more, by whether it was the last
+abbrev after-unit : ℤ → Class → ℕ → ℕ → Bool → EarlierToken
+after-unit node class left w last = if last (earlierNumber node class w) (awaited node (Number class (left - 1) w)) .token
+
+long-taken : (node : ℤ) (class : Class) (left v w : ℕ) (last : Bool) → soundNumber class left v ≡ true → isLongCount class ≡ true →
+    wantsLong (after-unit node class left w last) ≡ true → isStarted (after-unit node class left w last) ≡ true
+unfolding isLongCount soundNumber wantsLong earlierNumber isStarted widthOf
+long-taken node NoEvent left v w last c e l = absurd (clash e refl)
+long-taken node Integer left v w last c e l = absurd (clash e refl)
+long-taken node String left v w last c e l = absurd (clash e refl)
+long-taken node Length left v w last c e l = absurd (clash e refl)
+long-taken node Int16 left v w last c e l = absurd (clash e refl)
+long-taken node Int32 left v w last c e l = absurd (clash e refl)
+long-taken node Float left v w last c e l = absurd (clash e refl)
+long-taken node Node left v w last c e l = absurd (clash e refl)
+long-taken node End left v w last c e l = absurd (clash e refl)
+long-taken node Count left v w last c e l = absurd (clash e refl)
+long-taken node LongCount left v w true c e l = absurd (clash l refl)
+long-taken node LongCount left v w false c e l =
+    let most : left ≤ 4 = underway-le left 4 (and-left (underway left 4) (ltb v (256 ^ (4 - left))) c) in
+    lt-ltb (left - 1) 4 (omega arith)
+
+-- of the four units after a count 0 one more is taken, and not the last
+one-taken : (node : ℤ) (t : EarlierToken) (s : List ℕ) (u : ℕ) (a : Bool) → earlierCounts t ≡ true → wantsLong t ≡ true →
+    wantsLong (earlierUnit node t s u a .taken .token) ≡ true → isStarted (earlierUnit node t s u a .taken .token) ≡ true
+unfolding earlierCounts wantsLong earlierUnit
+one-taken node Between s u a c w l = absurd (clash w refl)
+one-taken node (Number class left v) s u a c w l = long-taken node class left v (shiftIn v u) (leb left 1) c w l
+one-taken node (InString want left) s u a c w l = absurd (clash w refl)
+one-taken node (InBody want left stored) s u a c w l = absurd (clash w refl)
+
 -- ---- bytes
 
 not-true : (b : Bool) → not b ≡ true → b ≡ false
@@ -283,6 +316,16 @@ module _ {M : Type 0} (h : ℤ → Answer → List ℕ → M → M) where
   units-fine x (g ∷ gs) e f =
       units-fine (earlierTake h x g) gs (then-none x g gs e) (unit-fine (x .control .node) (x .control .token) (x .store) (g .unit) (g .appended) (wants-none x g gs e))
 
+  started : (x : EarlierFed M) (g : StreamUnit) → earlierSound (earlierIn x) ≡ true → wantsLong (x .control .token) ≡ true →
+      wantsLong (earlierTake h x g .control .token) ≡ true → carryOf (earlierIn (earlierTake h x g)) ≡ refused 8
+  unfolding carryOf earlierSound
+  started x g s w l =
+      let t = x .control .token in
+      let counts = and-left (earlierCounts t) _ (and-right (soundEscape (x .control .escape)) _ s) in
+      let k : isStarted (earlierUnit (x .control .node) t (x .store) (g .unit) (g .appended) .taken .token) ≡ true =
+      one-taken (x .control .node) t (x .store) (g .unit) (g .appended) counts w l in
+      rw k
+
   further : (x : EarlierFed M) (bytes : List ℕ) → noLongCount h x bytes → feedOf h (carriedFed x) bytes ≡ carriedFed (earlierFeed h x bytes)
   unfolding earlierFeed
   further x bytes e =
@@ -302,4 +345,4 @@ module _ {M : Type 0} (h : ℤ → Answer → List ℕ → M → M) where
       rw (fine, was, same)
 
   pub carries-over : CarriesOver h
-  carries-over = record { further = further; fresh = fresh }
+  carries-over = record { further = further; units = units-over; started = started; fresh = fresh }

@@ -139,7 +139,7 @@ module _ (e : Escape) (plain : isPlain e ≡ true) (node : ℤ) where
   token-run bytes Between s n = refl
   token-run bytes (Number class left v) s n = number-run bytes class s left v n (drop n bytes) refl
   token-run bytes (InString want left) s n = string-run bytes want left s n (drop n bytes) refl
-  token-run bytes (InBody want left stored) s n = refl
+  token-run bytes (InBody stored want left) s n = refl
 
 -- no bytes are taken back
 number-up : (class : Class) (left v n : ℕ) (bs : List ℕ) → n ≤ numberAhead class left v n bs .at
@@ -167,7 +167,7 @@ unfolding tokenAhead
 token-up Between s n bs = omega arith
 token-up (Number class left v) s n bs = number-up class left v n bs
 token-up (InString want left) s n bs = string-up want left s n bs
-token-up (InBody want left stored) s n bs = omega arith
+token-up (InBody stored want left) s n bs = omega arith
 
 -- ---- one turn of the loop
 

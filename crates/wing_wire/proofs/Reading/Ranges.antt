@@ -113,11 +113,11 @@ module _ (node : ℤ) (nodeIn : InBits 31 node) where
 
   count-in : (c : ℕ) → TakenIn (countOf node c)
   unfolding countOf
-  count-in c = branch TakenIn (eqb c 0) _ _ (λ _. plainly (Number LongCount 4 0) More (omega arith) tt) (λ _. plainly (InBody c c 0) More tt tt)
+  count-in c = branch TakenIn (eqb c 0) _ _ (λ _. plainly (Number LongCount 4 0) More (omega arith) tt) (λ _. plainly (InBody 0 c c) More tt tt)
 
   long-count-in : (c : ℕ) → TakenIn (longCountOf node c)
   unfolding longCountOf
-  long-count-in c = branch TakenIn (eqb c 0) _ _ (λ _. plainly Between (Refused 3) tt tt) (λ _. plainly (InBody c c 0) More tt tt)
+  long-count-in c = branch TakenIn (eqb c 0) _ _ (λ _. plainly Between (Refused 3) tt tt) (λ _. plainly (InBody 0 c c) More tt tt)
 
   number-in : (class : Class) (v : ℕ) → v < 2 ^ 32 → TakenIn (numberOf node class v)
   unfolding numberOf
@@ -155,7 +155,7 @@ module _ (node : ℤ) (nodeIn : InBits 31 node) where
   body-next-in want left stored =
       branch TakenIn (leb left 1) _ _
       (λ _. branch TakenIn (leb want bodyLimit) _ _ (λ _. plainly Between (aBody stored) tt tt) (λ _. plainly Between (Refused 2) tt tt))
-      (λ _. plainly (InBody want (left - 1) stored) More tt tt)
+      (λ _. plainly (InBody stored want (left - 1)) More tt tt)
 
   body-in : (want left stored u : ℕ) (s : List ℕ) (a : Bool) → u < 256 → StoreIn s → UnitEffectIn (bodyUnit node want left stored s u a)
   unfolding bodyUnit
@@ -168,7 +168,7 @@ module _ (node : ℤ) (nodeIn : InBits 31 node) where
   unit-in Between s u a h g = (begin-in u h, g)
   unit-in (Number class left v) s u a h g = (number-unit-in class left v u h, g)
   unit-in (InString want left) s u a h g = string-in want left u s h g
-  unit-in (InBody want left stored) s u a h g = body-in want left stored u s a h g
+  unit-in (InBody stored want left) s u a h g = body-in want left stored u s a h g
 
 -- ---- the escapes
 

@@ -98,7 +98,7 @@ abbrev pub Sound : Token → List ℕ → Type 0
 Sound Between s = Zero s
 Sound (Number class left v) s = InNumber class left v s
 Sound (InString want left) s = InText want left s
-Sound (InBody want left stored) s = InBytes want left stored s
+Sound (InBody stored want left) s = InBytes want left stored s
 
 -- the test gives the parts
 underway-parts : (left want : ℕ) → underway left want ≡ true → (1 ≤ left) × (left ≤ want)
@@ -131,15 +131,15 @@ parts (InString want left) s e =
       most = leb-true _ _ (and-right (underway left want) (leb want 256) c);
       unused = and-right (soundCounts (InString want left)) (zeros (drop (want - left) s)) e;
     }
-parts (InBody want left stored) s e =
+parts (InBody stored want left) s e =
     let in-count : Bool = if (leb want bodyLimit) (leb stored (want - left)) (eqb stored 0) in
-    let c = and-left (soundCounts (InBody want left stored)) (zeros (drop stored s)) e in
+    let c = and-left (soundCounts (InBody stored want left)) (zeros (drop stored s)) e in
     let u = underway-parts left want (and-left (underway left want) in-count c) in
     record {
       some = u .0;
       fits = u .1;
       room = room-parts (leb want bodyLimit) stored (want - left) (and-right (underway left want) in-count c);
-      unused = and-right (soundCounts (InBody want left stored)) (zeros (drop stored s)) e;
+      unused = and-right (soundCounts (InBody stored want left)) (zeros (drop stored s)) e;
     }
 
 -- the parts give the test
@@ -152,7 +152,7 @@ unfolding soundToken soundCounts storedBy soundNumber soundString soundBody unde
 tested Between s g = g
 tested (Number class left v) s g = rw (le-leb _ _ (g .some), le-leb _ _ (g .fits), lt-ltb _ _ (g .small)) (g .unused)
 tested (InString want left) s g = rw (le-leb _ _ (g .some), le-leb _ _ (g .fits), le-leb _ _ (g .most)) (g .unused)
-tested (InBody want left stored) s g =
+tested (InBody stored want left) s g =
     rw (le-leb _ _ (g .some), le-leb _ _ (g .fits), room-tested (leb want bodyLimit) stored (want - left) (g .room)) (g .unused)
 
 -- ---- a unit
@@ -309,7 +309,7 @@ unfolding unitOf
 unit-sound node Between s u a h g = begin-sound node u s g
 unit-sound node (Number class left v) s u a h g = number-unit-sound node class left v u s h g
 unit-sound node (InString want left) s u a h g = string-unit-sound node want left u s g
-unit-sound node (InBody want left stored) s u a h g = body-unit-sound node want left stored u s a g
+unit-sound node (InBody stored want left) s u a h g = body-unit-sound node want left stored u s a g
 
 -- ---- what is given out is within bounds
 
@@ -317,7 +317,7 @@ token-within : (t : Token) (s : List ℕ) → Sound t s → TokenWithin t
 token-within Between s g = tt
 token-within (Number class left v) s g = tt
 token-within (InString want left) s g = g .most
-token-within (InBody want left stored) s g = go (leb want bodyLimit) refl (g .room)
+token-within (InBody stored want left) s g = go (leb want bodyLimit) refl (g .room)
   where
     go : (t : Bool) → leb want bodyLimit ≡ t → stored ≤ (if t (want - left) 0) → stored ≤ bodyLimit
     go true e h = let l = leb-true want bodyLimit e in omega arith

@@ -65,7 +65,7 @@ abbrev leftOf : Progress → ℕ
 leftOf Between = 0
 leftOf (Number class left v) = left
 leftOf (InString want left) = left
-leftOf (InBody want left stored) = left
+leftOf (InBody stored want left) = left
 
 -- nothing yet, and n units are still wanted
 record StillWants (node : ℤ) (n : ℕ) (o : UnitEffect) : Type 0 where
@@ -80,10 +80,10 @@ unfolding unitOf numberUnit stringUnit bodyUnit bodyNext
 still-wants node Between s u a h = absurd (omega arith)
 still-wants node (Number class left v) s u a h = record { token = Number class (left - 1) (shiftIn v u); store = s; same = rw (lt-leb left 1 h); left = refl }
 still-wants node (InString want left) s u a h = record { token = InString want (left - 1); store = set s (want - left) u; same = rw (lt-leb left 1 h); left = refl }
-still-wants node (InBody want left stored) s u a h =
+still-wants node (InBody stored want left) s u a h =
     branch (StillWants node (left - 1)) (keeps want stored a) _ _
-    (λ _. record { token = InBody want (left - 1) (stored + 1); store = set s stored u; same = rw (lt-leb left 1 h); left = refl })
-    (λ _. record { token = InBody want (left - 1) stored; store = s; same = rw (lt-leb left 1 h); left = refl })
+    (λ _. record { token = InBody (stored + 1) want (left - 1); store = set s stored u; same = rw (lt-leb left 1 h); left = refl })
+    (λ _. record { token = InBody stored want (left - 1); store = s; same = rw (lt-leb left 1 h); left = refl })
 
 -- ---- units through every answer
 
@@ -237,7 +237,7 @@ module _ {M : Type 0} (h : ℤ → Event → M → M) where
 
     -- of a count up to 4,096 what the units append is kept
     body-units : (s : List ℕ) (want : ℕ) (us : List StreamUnit) (stored : ℕ) → 1 ≤ length us → want ≤ bodyLimit → stored + length us ≤ bodyLimit →
-        unitsTaken handed (stands (InBody want (length us) stored) s) us ≡ done (unitEffect (bodyDone node want (stored + length (appended us))) (sets s stored (appended us)))
+        unitsTaken handed (stands (InBody stored want (length us)) s) us ≡ done (unitEffect (bodyDone node want (stored + length (appended us))) (sets s stored (appended us)))
     unfolding unitsTaken unitOf bodyUnit bodyNext keeps
     body-units s want [] stored some l room = absurd (omega arith)
     body-units s want (g ∷ []) stored some l room = go (g .appended)
@@ -255,7 +255,7 @@ module _ {M : Type 0} (h : ℤ → Event → M → M) where
         rest = appended (k ∷ us)
 
         go : (q : Bool) →
-            ((s′ : List ℕ) (n : ℕ) → n + suc (length us) ≤ bodyLimit → unitsTaken handed (stands (InBody want (suc (length us)) n) s′) (k ∷ us) ≡ done (unitEffect (bodyDone node want (n + length rest)) (sets s′ n rest))) →
+            ((s′ : List ℕ) (n : ℕ) → n + suc (length us) ≤ bodyLimit → unitsTaken handed (stands (InBody n want (suc (length us))) s′) (k ∷ us) ≡ done (unitEffect (bodyDone node want (n + length rest)) (sets s′ n rest))) →
             unitsTaken handed (done (bodyUnit node want left stored s (g .unit) q)) (k ∷ us) ≡
             done (unitEffect (bodyDone node want (stored + length (if q (g .unit ∷ rest) rest))) (sets s stored (if q (g .unit ∷ rest) rest)))
         go true ih =
@@ -270,7 +270,7 @@ module _ {M : Type 0} (h : ℤ → Event → M → M) where
 
     -- of a count over 4,096 nothing is
     over-units : (s : List ℕ) (want : ℕ) (us : List StreamUnit) (stored : ℕ) → 1 ≤ length us → bodyLimit < want →
-        unitsTaken handed (stands (InBody want (length us) stored) s) us ≡ done (unitEffect (bodyDone node want stored) s)
+        unitsTaken handed (stands (InBody stored want (length us)) s) us ≡ done (unitEffect (bodyDone node want stored) s)
     unfolding unitsTaken unitOf bodyUnit bodyNext keeps
     over-units s want [] stored some l = absurd (omega arith)
     over-units s want (g ∷ []) stored some l = go (g .appended)
@@ -283,7 +283,7 @@ module _ {M : Type 0} (h : ℤ → Event → M → M) where
         left : ℕ
         left = suc (suc (length us))
 
-        go : (q : Bool) → unitsTaken handed (stands (InBody want (suc (length us)) stored) s) (k ∷ us) ≡ done (unitEffect (bodyDone node want stored) s) →
+        go : (q : Bool) → unitsTaken handed (stands (InBody stored want (suc (length us))) s) (k ∷ us) ≡ done (unitEffect (bodyDone node want stored) s) →
             unitsTaken handed (done (bodyUnit node want left stored s (g .unit) q)) (k ∷ us) ≡ done (unitEffect (bodyDone node want stored) s)
         go true ih =
             let fewer : left - 1 ≡ suc (length us) = omega arith in
@@ -296,7 +296,7 @@ module _ {M : Type 0} (h : ℤ → Event → M → M) where
     abbrev bodyOf : ℕ → List StreamUnit → TokenResult
     bodyOf c us = if (leb c bodyLimit) (event (body (appended us))) (event (refused 2))
 
-    body-ends : (us : List StreamUnit) → 1 ≤ length us → unitsTaken handed (stands (InBody (length us) (length us) 0) emptyStore) us ≡ after h e node m (bodyOf (length us) us)
+    body-ends : (us : List StreamUnit) → 1 ≤ length us → unitsTaken handed (stands (InBody 0 (length us) (length us)) emptyStore) us ≡ after h e node m (bodyOf (length us) us)
     unfolding bodyDone eventOf
     body-ends us some = go (leb (length us) bodyLimit) refl
       where
@@ -304,7 +304,7 @@ module _ {M : Type 0} (h : ℤ → Event → M → M) where
         t = appended us
 
         go : (q : Bool) → leb (length us) bodyLimit ≡ q →
-            unitsTaken handed (stands (InBody (length us) (length us) 0) emptyStore) us ≡ after h e node m (if q (event (body t)) (event (refused 2)))
+            unitsTaken handed (stands (InBody 0 (length us) (length us)) emptyStore) us ≡ after h e node m (if q (event (body t)) (event (refused 2)))
         go true q =
             let l : length us ≤ bodyLimit = leb-true (length us) bodyLimit q in
             let few : length t ≤ bodyLimit = omega (arith, appended-few us) in
@@ -313,11 +313,11 @@ module _ {M : Type 0} (h : ℤ → Event → M → M) where
         go false q = over-units emptyStore (length us) us 0 some (leb-false (length us) bodyLimit q) ∙ rw q
 
     -- all units of a body
-    body-leads : (c : ℕ) (us : List StreamUnit) → Further c us → 1 ≤ c → Leads (stands (InBody c c 0) emptyStore) us (after h e node m (bodyOf c us))
+    body-leads : (c : ℕ) (us : List StreamUnit) → Further c us → 1 ≤ c → Leads (stands (InBody 0 c c) emptyStore) us (after h e node m (bodyOf c us))
     body-leads c us f some =
         record {
-          each = each-waits (InBody c c 0) emptyStore us (omega (arith, f .number));
-          ends = subst (λ (n : ℕ). unitsTaken handed (stands (InBody n n 0) emptyStore) us ≡ after h e node m (bodyOf n us)) (f .number) (body-ends us (omega (arith, f .number)));
+          each = each-waits (InBody 0 c c) emptyStore us (omega (arith, f .number));
+          ends = subst (λ (n : ℕ). unitsTaken handed (stands (InBody 0 n n) emptyStore) us ≡ after h e node m (bodyOf n us)) (f .number) (body-ends us (omega (arith, f .number)));
         }
 
 -- ---- the table
@@ -456,7 +456,7 @@ module _ {M : Type 0} (h : ℤ → Event → M → M) where
 
   -- a count in force that is not 0 wants as many units
   force-leads : (e : Escape) (node : ℤ) (m : M) (a : Bool) (c : List StreamUnit) (n : ℕ) → InForce c n → 1 ≤ n →
-      Leads h e node m (between h e node m) (streamUnit 0xdf a ∷ c) (stands h e node m (InBody n n 0) emptyStore)
+      Leads h e node m (between h e node m) (streamUnit 0xdf a ∷ c) (stands h e node m (InBody 0 n n) emptyStore)
   unfolding countOf longCountOf
   force-leads e node m a c n (short d f some) l = rw (ne-eqb n 0 (λ z. omega arith)) at (count-leads e node m a c f)
   force-leads e node m a c n (long z d f none k) l = rw (ne-eqb n 0 (λ z. omega arith)) at (long-leads e node m a z d f none k)

@@ -20,8 +20,8 @@ returns c =
     let u = sym (c .before .before .is-started .ensures) ∙ c .before .if1 .taken in
     rw u (c .refuse .ensures)
 
-state-over-requires : tie.Need-state-over-requires
-state-over-requires c κs = search needs
+carried-state-requires : tie.Need-carried-state-requires
+carried-state-requires c κs = search needs
 
 is-sound-requires : tie.Need-is-sound-requires
 is-sound-requires c κs = search needs
@@ -30,7 +30,7 @@ returns-2 : tie.Need-returns-2
 unfolding carryOf carriedAs
 returns-2 c =
     let s = c .before .before .before .before .before .before .args .s in
-    let over = c .before .before .state-over .ensures in
+    let over = c .before .before .carried-state .ensures in
     let u = sym (c .before .before .before .before .is-started .ensures) ∙ c .before .before .before .if1 .left in
     let k : soundState (carried s) ≡ true = rw over at (sym (c .before .is-sound .ensures) ∙ c .if2 .taken) in
     rw (over, u, sym (sound-carried s) ∙ k)
@@ -43,7 +43,7 @@ unfolding carryOf
 returns-3 c =
     let s = c .before .before .before .before .before .before .before .args .s in
     let u = sym (c .before .before .before .before .before .is-started .ensures) ∙ c .before .before .before .before .if1 .left in
-    let k : soundState (carried s) ≡ false = rw (c .before .before .before .state-over .ensures) at (sym (c .before .before .is-sound .ensures) ∙ c .before .if2 .left) in
+    let k : soundState (carried s) ≡ false = rw (c .before .before .before .carried-state .ensures) at (sym (c .before .before .is-sound .ensures) ∙ c .before .if2 .left) in
     rw (u, sym (sound-carried s) ∙ k) (c .refuse2 .ensures)
 
 pub carry-over-spec : {M : Type 1} → statement M
@@ -53,7 +53,7 @@ carry-over-spec =
     is-started-requires
     refuse-requires
     returns
-    state-over-requires
+    carried-state-requires
     is-sound-requires
     returns-2
     refuse-requires-2

@@ -1,8 +1,8 @@
 -- Each arm is the line of `carriedToken` with that variant.
 use borrow.Author.Needs.{needs}
 use Rattle.wing_wire.specs.Earlier.{carriedToken}
-use Rattle.wing_wire.proofs.earlier.token_over.Statement.{statement}
-use Rattle.wing_wire.proofs.earlier.token_over.Tie as tie
+use Rattle.wing_wire.proofs.earlier.carried_token.Statement.{statement}
+use Rattle.wing_wire.proofs.earlier.carried_token.Tie as tie
 
 enum-told : tie.Need-enum-told
 enum-told c = search needs
@@ -38,8 +38,8 @@ returns-4 : tie.Need-returns-4
 unfolding carriedToken
 returns-4 c = simp (c .before .token3 .given .1)
 
-pub token-over-spec : {M : Type 1} → statement M
-token-over-spec =
+pub carried-token-spec : {M : Type 1} → statement M
+carried-token-spec =
     tie.close
     (tie.spec
     enum-told
