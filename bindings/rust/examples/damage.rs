@@ -134,10 +134,12 @@ impl Pool {
     fn fill(&mut self) {
         for _ in 0..200 {
             let body = [&[0xdf, 0xde, 0, 31][..], &self.bodies[5]].concat();
-            let long = [&[0xdf, 0xde, 0x10, 0x01][..], &[0; 4097]].concat();
+            // The last body is not whole: of a short count or of a long one.
+            let long = [&[0xdf, 0xde, 0x10, 0x01][..], &[0; 4096]].concat();
             let longer = [&[0xdf, 0xde, 0, 0, 0, 1, 0x11, 0x70][..], &[0; 200]].concat();
             let empty = [0xdf, 0xde, 0, 0, 0, 0, 0, 0];
-            let stream = [&self.capture[..], &body, &[0xd1, 0xff], &[b'x'; 256], &empty, &long, &longer].concat();
+            let last = if self.dice.one_in(2) { &long } else { &longer };
+            let stream = [&self.capture[..], &body, &[0xd1, 0xff], &[b'x'; 256], &empty, last].concat();
             let cut = stream.len() - if self.dice.one_in(8) { 0 } else { self.dice.below(stream.len() + 1) };
             let mut decoder = Decoder::new();
             decoder.events(&stream[..cut]).for_each(drop);
