@@ -1,16 +1,16 @@
 -- What is promised of an old decoder state carried over, as specs/Wire states it.
 use Prim.Native.Nat.{ℕ}
 use mathlib.Core.Bool.{Bool, true, false, not}
-use mathlib.Core.Path.{_≡_, refl, sym, _∙_, ap, subst}
+use mathlib.Core.Path.{_≡_, refl, sym, _∙_, subst}
 use native.Mathlib.Omega.{arith}
 use Rattle.wing_node.specs.Bool.{if}
 use Rattle.wing_node.specs.Result.{Result, ok, refused}
 use Rattle.wing_wire.specs.State.{soundState, freshState}
-use Rattle.wing_wire.specs.Earlier.{earlierSound, isStarted, carried, carryOf, carriedAs, carriedResult}
+use Rattle.wing_wire.specs.Earlier.{earlierSound, isStarted, carried, carryOf, carriedAs}
 use Rattle.wing_wire.specs.declared.state.State.{State}
 use Rattle.wing_wire.specs.declared.earlier.State.{State as EarlierState}
 use Rattle.wing_wire.proofs.Reading.CarriedOver.{sound-carried, carry-taken, carried-result}
-use Rattle.promises.specs.Lines.{by, Answers}
+use Rattle.promises.specs.Lines.{by}
 use Rattle.promises.specs.Wire.{carryLines, CarryCall}
 
 -- both tests give 8, so that their order does not show

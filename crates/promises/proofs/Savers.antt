@@ -14,7 +14,7 @@ use Rattle.wing_wire.specs.Write.{WriteEffect, writeEffect, writeOf}
 use Rattle.wing_wire.specs.Answers.{writtenResult}
 use Rattle.wing_wire.specs.declared.state.State.{State}
 use Rattle.wing_wire.specs.declared.write.Written.the-variants.{Bytes, Refused}
-use Rattle.wing_saved.specs.Saved.{stateBytes, stateFrom, saveOf, loadedAs, loadedResult, loadOf, Typed, Saves}
+use Rattle.wing_saved.specs.Saved.{stateBytes, stateFrom, saveOf, loadedAs, loadOf, Typed, Saves}
 use Rattle.wing_saved.proofs.Saving.Trips.{loaded-result, saved-laws}
 use Rattle.wing_saved.specs.Earlier.{earlierFrom, carriedFrom, loadEarlierOf}
 use Rattle.wing_saved.proofs.Saving.Before.{earlier-laws}

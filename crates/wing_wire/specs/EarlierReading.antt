@@ -20,7 +20,6 @@ use Rattle.wing_wire.specs.DecoderLaws.{stateIn}
 use Rattle.wing_wire.specs.Earlier.{earlierControl, earlierState, earlierFresh, earlierSound, isLongCount, carriedToken, carryOf}
 use Rattle.wing_wire.specs.declared.token.Class.{Class}
 use Rattle.wing_wire.specs.declared.token.Class.the-variants.{NoEvent, Integer, String, Length, Int16, Int32, Float, Node, End, Count, LongCount}
-use Rattle.wing_wire.specs.declared.state.Escape.{Escape}
 use Rattle.wing_wire.specs.declared.earlier.Token.{Token}
 use Rattle.wing_wire.specs.declared.earlier.Token.the-variants.{Between, Number, String as InString, Body as InBody}
 use Rattle.wing_wire.specs.declared.earlier.Control.{Control}
@@ -156,10 +155,11 @@ module _ {M : Type 0} (h : ℤ → Answer → List ℕ → M → M) where
   abbrev pub noLongCount : EarlierFed M → List ℕ → Type 0
   noLongCount x bytes = unstarted x (unitsOf (x .control .escape) bytes .units) ≡ true
 
-  -- a fresh old decoder and a fresh new one
+  -- a fresh old decoder
   abbrev pub freshEarlier : M → EarlierFed M
   freshEarlier m = record { control = earlierFresh .control; store = earlierFresh .store; memo = m }
 
+  -- a fresh new one
   abbrev pub freshNow : M → Fed M
   freshNow m = record { control = freshState .control; store = freshState .store; memo = m }
 

@@ -2,7 +2,7 @@
 // carried over.
 ghost use mathlib.Core.Path.{_≡_};
 ghost use Rattle.wing_wire.specs.Earlier.{isLongCount, isStarted, carriedToken, carried, carriedAs, carryOf};
-ghost use Rattle.wing_node.specs.Result.{ok, refused};
+ghost use Rattle.wing_node.specs.Result.{refused};
 use crate::state;
 use crate::state::Escape;
 use crate::state::is_sound;

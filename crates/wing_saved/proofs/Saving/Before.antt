@@ -1,13 +1,13 @@
 -- States saved under version 1: their bytes are loaded as they are carried over, and bytes that are loaded are theirs.
-use Prim.Native.Nat.{ℕ, _%_, _^_, _<_}
-use mathlib.Core.Bool.{Bool, true, false}
+use Prim.Native.Nat.{ℕ, _^_, _<_}
+use mathlib.Core.Bool.{true}
 use mathlib.Core.Path.{_≡_, refl, sym, _∙_, ap, subst}
 use mathlib.Core.List.{List, _++_}
 use native.Mathlib.Omega.{arith}
 use borrow.Author.Tests.{lt-ltb, ltb-true}
 use lib.Dec.{eqb, ltb}
 use lib.ListN.{length, drop}
-use Rattle.wing_node.specs.Bool.{if, and}
+use Rattle.wing_node.specs.Bool.{and}
 use Rattle.wing_node.specs.Result.{Result, ok, refused}
 use Rattle.wing_node.proofs.Branches.{branch, and-left, and-right}
 use Rattle.wing_wire.specs.State.{control, soundState}

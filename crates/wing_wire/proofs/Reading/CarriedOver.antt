@@ -10,7 +10,6 @@ use lib.IntN.{ℤ}
 use lib.ListN.{take, drop, set}
 use Rattle.wing_node.specs.Bool.{if, and}
 use Rattle.wing_node.specs.Result.{Result, ok, refused}
-use Rattle.wing_node.specs.Signed.{signed}
 use Rattle.wing_node.specs.Utf8.{utf8}
 use Rattle.wing_node.proofs.Branches.{branch, and-left, and-right}
 use Rattle.wing_wire.specs.State.{bodyLimit, underway, soundNumber, soundEscape, soundCounts, storedBy, soundToken, soundState, zeros, freshState}
@@ -24,7 +23,6 @@ use Rattle.wing_wire.specs.Earlier.{earlierCounts, earlierStored, earlie
 use Rattle.wing_wire.specs.EarlierReading.{EarlierTaken, completed, awaited, earlierBegin, earlierCount, earlierNumber, EarlierEffect, earlierEffect, earlierText, earlierNext, earlierUnit, EarlierFed, wantsLong, earlierIn, carriedFed, earlierTake, earlierUnits, earlierFeed, unstarted, noLongCount, freshEarlier, freshNow, CarriesOver}
 use Rattle.wing_wire.specs.declared.token.Class.{Class}
 use Rattle.wing_wire.specs.declared.token.Class.the-variants.{NoEvent, Integer, String, Length, Int16, Int32, Float, Node, End, Count, LongCount}
-use Rattle.wing_wire.specs.declared.state.Token.{Token}
 use Rattle.wing_wire.specs.declared.state.Token.the-variants.{Number as number, String as string, Body as body}
 use Rattle.wing_wire.specs.declared.state.State.{State}
 use Rattle.wing_wire.specs.declared.earlier.Token.{Token as EarlierToken}
