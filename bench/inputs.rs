@@ -171,6 +171,30 @@ pub fn packet(readings: usize) -> Vec<u8> {
     (0..4 + 2 * readings).map(|_| d.bits() as u8).collect()
 }
 
+/// What no string of UTF-8 has: characters cut short, stray tails, overlong forms, surrogates, numbers past the last character.
+pub const BROKEN: [&[u8]; 24] = [
+    &[0xc3], &[0xdf], &[0xe2], &[0xe2, 0x82], &[0xe0, 0xa0], &[0xed, 0x9f], &[0xef, 0xbf], &[0xf0], &[0xf0, 0x9f], &[0xf0, 0x9f, 0x98], &[0xf4, 0x8f, 0xbf],
+    &[0x80], &[0xbf], &[0xc3, 0xa9, 0x80], &[0xe2, 0x82, 0xac, 0xbf], &[0xf0, 0x9f, 0x98, 0x80, 0x80],
+    &[0xc0, 0x80], &[0xe0, 0x9f, 0xbf], &[0xf0, 0x8f, 0xbf, 0xbf], &[0xed, 0xa0, 0x80], &[0xed, 0xbf, 0xbf], &[0xf4, 0x90, 0x80, 0x80], &[0xf5, 0x80, 0x80, 0x80], &[0xff],
+];
+
+/// The bytes with others from a place on.
+pub fn with(s: &[u8], at: usize, piece: &[u8]) -> Vec<u8> {
+    [&s[..at], piece, &s[s.len().min(at + piece.len())..]].concat()
+}
+
+/// The mixed strings, each broken at a random place.
+pub fn broken_strings() -> Vec<Vec<u8>> {
+    let mut d = Dice(8);
+    let mut broken = |s: Vec<u8>| loop {
+        let bad = with(&s, d.below(s.len() as u64 + 1), BROKEN[d.below(BROKEN.len() as u64)]);
+        if std::str::from_utf8(&bad).is_err() {
+            return bad;
+        }
+    };
+    strings(true).into_iter().map(&mut broken).collect()
+}
+
 pub fn strings(mixed: bool) -> Vec<Vec<u8>> {
     let mut d = Dice(6);
     (0..1000).map(|_| {

@@ -8,7 +8,7 @@ mod inputs;
 mod listing;
 
 use definitions::{definitions, write, Given};
-use inputs::{bodies, capture, orders, strings, values, Order, START, STREAMS};
+use inputs::{bodies, broken_strings, capture, orders, strings, values, Order, START, STREAMS};
 use std::collections::HashMap;
 use std::hint::black_box;
 use std::time::Instant;
@@ -32,6 +32,7 @@ extern "C" {
     fn port_mirror_set(table: *mut u8, m: usize, count: usize, out: *mut u8, n: usize, id: i32, x: i32) -> usize;
     fn port_recall(table: *const u8, m: usize, count: usize, out: *mut u8, n: usize) -> usize;
     fn port_is_utf8(s: *const u8, n: usize) -> u32;
+    fn port_good(s: *const u8, n: usize) -> usize;
 }
 
 fn stream((len, seed, strings): (usize, u64, bool)) -> Vec<u8> {
@@ -277,6 +278,25 @@ fn characters(name: &'static str, mixed: bool) -> Part {
     }
 }
 
+fn good(s: &[u8]) -> usize {
+    match std::str::from_utf8(black_box(s)) {
+        Ok(t) => t.len(),
+        Err(e) => e.valid_up_to(),
+    }
+}
+
+fn broken_characters() -> Part {
+    let all = broken_strings();
+    let same = all.clone();
+    Part {
+        wanted: None,
+        name: "UTF-8 of broken strings (std)",
+        budget: 0.8,
+        libwing: Box::new(move || all.iter().map(|s| good(s) as u64).sum()),
+        port: Box::new(move || same.iter().map(|s| unsafe { port_good(black_box(s).as_ptr(), s.len()) as u64 }).sum()),
+    }
+}
+
 fn parts() -> Vec<Part> {
     vec![
         decoding("decode a value stream", 2.0, stream(STREAMS[0])),
@@ -293,6 +313,7 @@ fn parts() -> Vec<Part> {
         defining("write definitions (capacity)", 0.0, true),
         printing(),
         loading_listing(),
+        broken_characters(),
     ]
 }
 

@@ -10,8 +10,8 @@ once, else the build stops. OUT gets the edited sources and the program `compare
 alone, without overflow checks, for bench/.
 
 What the edits do: the sockets become bytes in memory (driver/memory.rs), timers, keep-alive while reading, discovery,
-the name map and JSON go, and the reader notes which token it is in and which body it hands to from_bytes, so that the
-driver can go on after a panic. Everything that decodes, parses and writes stays as it is.
+the name map and JSON go, and the reader notes which token it is in, which body it hands to from_bytes and how much of a
+string was good, so that the driver can go on after a panic and say what the error said. Everything that decodes, parses and writes stays as it is.
 """
 import os
 import subprocess
@@ -83,11 +83,14 @@ def console(folder):
     t.drop_line("self._keep_alive_meters(&mut m)?;")
     t.drop_line("set_read_timeout(Some(m.keep_alive_meters_timer")
     t.drop_from("    pub fn name_to_id", "impl Drop for WingConsole", "}\n\n")
-    # What the driver is told: the token that is read, the count and body of a definition, and the 32 bits after a count 0.
-    t.swap("    current_node_id:         i32,\n", "    current_node_id:         i32,\n    token: Option<u8>,\n    count: u32,\n    long: u32,\n    body: Option<Vec<u8>>,\n")
+    # What the driver is told: the token that is read, the count and body of a definition, the 32 bits after a count 0, and of a string
+    # that is not UTF-8 what its error says beside InvalidData.
+    t.swap("    current_node_id:         i32,\n", "    current_node_id:         i32,\n    token: Option<u8>,\n    good: usize,\n    count: u32,\n    long: u32,\n    body: Option<Vec<u8>>,\n")
     t.swap("let (ch, cmd) = self.decode_next(&mut main, &mut raw)?;",
            "main.token = None; let (ch, cmd) = self.decode_next(&mut main, &mut raw)?; main.token = Some(cmd);")
     t.swap("let _ = self.read_u32(&mut main, ch, &mut raw)?;", "let long = self.read_u32(&mut main, ch, &mut raw)?; main.long = long;")
+    t.swap("String::from_utf8(buf).map_err(|_| Error::InvalidData)",
+           "String::from_utf8(buf).map_err(|e| { r.good = e.utf8_error().valid_up_to(); Error::InvalidData })")
     t.swap("                raw.clear();\n", "                raw.clear(); main.count = def_len;\n")
     t.swap("return Ok(WingResponse::NodeDef(", "main.body = Some(raw.clone()); return Ok(WingResponse::NodeDef(")
     with open(os.path.join(HERE, "driver", "inside.rs"), encoding="utf-8") as f:

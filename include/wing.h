@@ -11,7 +11,12 @@
  * Status: 0 for a call that was taken (1 where that is said below), or a refusal's number with a minus sign: -9 is refusal 9. Where
  * several refusals apply, the first in the order given at the call is answered. A refused call has changed nothing that was lent, and
  * gives a count that was lent back as it was; the one exception are wing_next's own -1 to -3, said there. Where the status is a refusal,
- * all other fields of the answer are 0, but for the count of a set or a feed, an event's node and taken, a step's walk and a load's line.
+ * all other fields of the answer are 0, but for the good, the count of a set or a feed, an event's node and taken, a step's walk and a
+ * load's line.
+ *
+ * Good: -1 and -5 are about a string that is not UTF-8. Beside them an answer has `good`: how many leading bytes of that string form
+ * whole characters, the largest such number (0 to 255). The string is not stored; a box can show those bytes. With every other status the
+ * good is 0.
  *
  * A mirror is three things that the caller keeps: the bytes of a decoder state (WING_STATE_SIZE), a table buffer of 1 to
  * WING_PLACES_MAX places of WING_PLACE_WIDTH bytes each, whatever they hold at first, and the count. No call keeps anything
@@ -111,11 +116,11 @@ extern "C" {
 #define WING_METER_MATRIX2 0xaf
 
 /* Refusals: a status is one of these with a minus sign. */
-#define WING_REFUSED_STRING 1              /* a string that is not UTF-8 */
+#define WING_REFUSED_STRING 1              /* a string that is not UTF-8; its good stands beside it */
 #define WING_REFUSED_BODY_LONG 2           /* a definition's count in force over 4,096; a body to be written that is longer */
 #define WING_REFUSED_BODY_EMPTY 3          /* a definition's count 0, and the 32-bit count after it 0 too */
 #define WING_REFUSED_DEFINITION_SHORT 4    /* a definition's field past the end */
-#define WING_REFUSED_DEFINITION_STRING 5   /* a definition's string that is not UTF-8 */
+#define WING_REFUSED_DEFINITION_STRING 5   /* a definition's string that is not UTF-8; its good stands beside it */
 #define WING_REFUSED_NO_PLACE 6            /* a new node, and no place left; a listing of more records than places */
 #define WING_REFUSED_TABLE 7               /* the table is not sound, or its places are not 1 to 1,024 */
 #define WING_REFUSED_STATE 8               /* the bytes are no sound state's, or an old state's that cannot be carried over */
@@ -135,12 +140,14 @@ extern "C" {
 /* A command, or a definition or a listing that was written. */
 typedef struct WingWritten {
     int32_t status; /* 0, or a refusal */
+    uint16_t good;  /* with -1 and -5: how many leading bytes of the string form whole characters; else 0 */
     size_t len;     /* how many bytes stand at the front of the output; those after them are as they were */
 } WingWritten;
 
 /* A set through the mirror. */
 typedef struct WingSet {
     int32_t status; /* 0, or a refusal */
+    uint16_t good;  /* with -1: how many leading bytes of the string form whole characters; else 0 */
     size_t len;     /* how many bytes of the output to send */
     size_t count;   /* the records there are now; refused: as it was lent */
 } WingSet;
@@ -176,6 +183,7 @@ typedef struct WingRecord {
 /* An event of the decoder. */
 typedef struct WingEvent {
     int32_t status; /* 1 an event, 0 more bytes are wanted, or a refusal */
+    uint16_t good;  /* with -1: how many leading bytes of the string form whole characters; else 0 */
     int32_t node;   /* the current node, to which a value belongs; 0 with refusal 8 */
     uint32_t value; /* the 32 bits of an integer or a float; else 0 */
     uint16_t len;   /* the bytes of a string or a body, at the front of the output; else 0 */
@@ -186,6 +194,7 @@ typedef struct WingEvent {
 /* A load. */
 typedef struct WingLoaded {
     int32_t status; /* 0, or a refusal */
+    uint16_t good;  /* with -1: how many leading bytes of the line's string form whole characters; else 0 */
     size_t count;   /* the records there are now; refused: 0, and the table's own count stays */
     size_t line;    /* refused: the number of the line that decided, 1 is the header; 0 with 7, 14 and 6, and where the status is 0 */
 } WingLoaded;
@@ -207,6 +216,7 @@ typedef struct WingMeters {
 /* A definition. What its type has not is 0. */
 typedef struct WingDefinition {
     int32_t status;         /* 0, or a refusal */
+    uint16_t good;          /* with -5: how many leading bytes of the string form whole characters; else 0 */
     int32_t parent_id;      /* the node above */
     int32_t id;             /* the node */
     uint16_t index;         /* its number below the parent */
@@ -228,6 +238,7 @@ typedef struct WingDefinition {
 /* A walk over items. */
 typedef struct WingWalk {
     int32_t status;    /* 0, or a refusal */
+    uint16_t good;     /* with -5: how many leading bytes of the string form whole characters; else 0 */
     uint16_t left;     /* the items left */
     uint8_t node_type; /* the type */
     size_t at;         /* the place in the body reached */
@@ -236,6 +247,7 @@ typedef struct WingWalk {
 /* An item. */
 typedef struct WingItem {
     int32_t status;    /* 1 an item, 0 none, or a refusal */
+    uint16_t good;     /* with -5: how many leading bytes of the string form whole characters; else 0 */
     uint8_t kind;      /* WING_ITEM_STRINGS: two strings; WING_ITEM_FLOAT: float bits and a string */
     uint32_t bits;     /* the float's bits; else 0 */
     uint32_t len;      /* the short string's bytes; 0 for a float */
@@ -247,7 +259,7 @@ typedef struct WingItem {
 /* A step of a walk. */
 typedef struct WingStep {
     WingItem item; /* the item there */
-    WingWalk walk; /* the walk after it; where the item is a refusal, the walk as it was. Its status is always 0 */
+    WingWalk walk; /* the walk after it; where the item is a refusal, the walk as it was. Its status and good are always 0 */
 } WingStep;
 
 /* ---- What goes in ---- */
@@ -286,7 +298,8 @@ WingWritten wing_state_carry_over(const uint8_t *earlier, size_t earlier_len, ui
  * least WING_BODY_LIMIT bytes), at whose front a string's or body's bytes stand after an event of that kind, those after them as they
  * were. Call it again with the bytes from `taken` on until the status is 0 (all bytes are taken then); a call with no bytes can give
  * an event too. Status 1 is an event.
- * Refused: 8, 14, 9, which leave all as it was. 1, 2 and 3 say what the bytes held: the token is taken, the node stays, go on. */
+ * Refused: 8, 14, 9, which leave all as it was. 1 (with the good), 2 and 3 say what the bytes held: the token is taken, the node stays,
+ * go on. */
 WingEvent wing_next(uint8_t *state, size_t state_len, const uint8_t *bytes, size_t bytes_len, uint8_t *out, size_t out_len);
 
 /* ---- The mirror ---- */
@@ -311,7 +324,7 @@ WingSet wing_set_float(uint8_t *table, size_t table_len, size_t count, uint8_t *
 
 /* The same for a string of at most WING_STRING_MAX bytes, in UTF-8 (an order of at most WING_SET_STRING_MAX bytes). Lent to be read:
  * value; to be written: table, out.
- * Refused: 7, 10, 1, 6, 9. */
+ * Refused: 7, 10, 1 (with the good), 6, 9. */
 WingSet wing_set_string(uint8_t *table, size_t table_len, size_t count, uint8_t *out, size_t out_len, int32_t id,
                         const uint8_t *value, size_t value_len);
 
@@ -342,38 +355,38 @@ WingWritten wing_print(const uint8_t *table, size_t table_len, size_t count, uin
 /* Loads such a listing of at most WING_LISTING_MAX bytes into the places of a table, whatever they hold; the bytes after its records stay as
  * they were. Go on with the count that comes back and with a fresh decoder state (wing_state_fresh). Printed, the table gives the text
  * again. Lent to be read: text; to be written: table.
- * Refused: 7 (by the places alone), 14; then by the first bad line 17, 18, 10, 1; then 6. */
+ * Refused: 7 (by the places alone), 14; then by the first bad line 17, 18, 10, 1 (with the good); then 6. */
 WingLoaded wing_load(const uint8_t *text, size_t text_len, uint8_t *table, size_t table_len);
 
 /* ---- Definitions ---- */
 
 /* The fields of a definition's body, and where its names stand in it. Lent to be read: body.
- * Refused: 4, 5, by the first field that fails. */
+ * Refused: 4, 5 (with the good), by the first field that fails. */
 WingDefinition wing_definition(const uint8_t *body, size_t body_len);
 
 /* A walk over the body's items, at the first one; a type without items has none left. Lent to be read: body.
- * Refused: 4, 5. */
+ * Refused: 4, 5 (with the good). */
 WingWalk wing_items_begin(const uint8_t *body, size_t body_len);
 
 /* One step of a walk: the item there (its status 1, or 0 for none) and the walk after it. Lent to be read: body; at, left and node_type
  * are those of the walk. Whatever they are, the call stays within the body; a type over 7 counts as type 0.
- * Refused (the item's status): 4, 5. */
+ * Refused (the item's status): 4, 5 (with the item's good). */
 WingStep wing_item_step(const uint8_t *body, size_t body_len, size_t at, uint16_t left, uint8_t node_type);
 
 /* An item by its number, from 0 (status 1). Lent to be read: body.
- * Refused: 4, 5, 14. */
+ * Refused: 4, 5 (with the good), 14. */
 WingItem wing_item(const uint8_t *body, size_t body_len, size_t number);
 
 /* Writes a definition's body (at most WING_BODY_LIMIT bytes), the unused bits of its flags 0. Lent to be read: name and long_name (at most
  * WING_NAME_MAX bytes each), and items as they stand in a body: each has two strings (type 5), or the four bytes of a float and a string
  * (6), and a string is its length in one byte and its bytes. All strings are in UTF-8. Lent to be written: out.
- * Refused: 15, 16, 5, 2, 9. */
+ * Refused: 15, 16, 5 (with the good of the first that is not: name, long name, items in order), 2, 9. */
 WingWritten wing_write_definition(WingFields fields, const uint8_t *name, size_t name_len, const uint8_t *long_name,
                                   size_t long_name_len, const uint8_t *items, size_t items_len, uint8_t *out, size_t out_len);
 
 /* Reads a body and writes its definition anew (at most WING_BODY_LIMIT bytes). The bytes are the same exactly if type and unit in the flags
  * are below 8 each, the flags' unused bits are 0 and nothing follows the last field. Lent to be read: body; to be written: out.
- * Refused: 4, 5, 2, 9. */
+ * Refused: 4, 5 (with the good), 2, 9. */
 WingWritten wing_write_anew(const uint8_t *body, size_t body_len, uint8_t *out, size_t out_len);
 
 /* ---- Commands without a mirror ---- */
@@ -387,7 +400,7 @@ WingWritten wing_order_int(uint8_t *out, size_t out_len, int32_t id, int32_t val
 WingWritten wing_order_float(uint8_t *out, size_t out_len, int32_t id, uint32_t bits);
 
 /* The same for a string (at most WING_SET_STRING_MAX bytes). Lent to be read: value; to be written: out.
- * Refused: 10, 1, 9. */
+ * Refused: 10, 1 (with the good), 9. */
 WingWritten wing_order_string(uint8_t *out, size_t out_len, int32_t id, const uint8_t *value, size_t value_len);
 
 /* Asks for a node's definition (at most WING_REQUEST_MAX bytes); id 0 is the root. Lent to be written: out.
@@ -416,6 +429,10 @@ WingMeters wing_read_meters(const uint8_t *packet, size_t packet_len, int16_t *o
 
 /* Whether the bytes are UTF-8 (RFC 3629). Lent to be read: s. Never refused. */
 bool wing_is_utf8(const uint8_t *s, size_t s_len);
+
+/* How many leading bytes form whole characters: the largest such number, and all of them exactly if wing_is_utf8 says so. Lent to be read:
+ * s, of any length. Never refused. */
+size_t wing_utf8_good(const uint8_t *s, size_t s_len);
 
 #ifdef __cplusplus
 }

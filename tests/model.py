@@ -119,7 +119,9 @@ def mirrored(data):
 def complaint(refusal):
     """What the program recall says of a listing that is refused, with its line where it has one."""
     line = "line %d: " % refusal.line if isinstance(refusal, BadLine) else ""
-    return ("recall: %s%d, %s\n" % (line, refusal.number, CAUSES[refusal.number])).encode()
+    number, good = refusal.why
+    of_string = "" if good is None else " good %d" % good
+    return ("recall: %s%d%s, %s\n" % (line, number, of_string, CAUSES[number])).encode()
 
 
 def recalled(text):

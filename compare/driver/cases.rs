@@ -100,7 +100,7 @@ pub fn all() -> Vec<Case> {
         case("count over 4,096", format!("stream {}", pairs(&count_4097())), || read(&count_4097()), "definition of 4097 bytes",
             s("r02@00001006.000000001000000000")),
         case("a field past the end of a body", s("definition -"), || parse(&[]), "panics: out of bounds", s("r04")),
-        case("a string of a body not UTF-8", format!("definition {}", pairs(&NAME_80)), || parse(&NAME_80), "panics: Utf8Error", s("r05")),
+        case("a string of a body not UTF-8", format!("definition {}", pairs(&NAME_80)), || parse(&NAME_80), "panics: Utf8Error", s("r05g0000")),
         case("bytes that end inside a token", s("stream 80"), || read(&[0x80]), "ConnectionError", s(".0ffffffff000000001")),
         case("df in a written integer", s("setint 256 1 223"), || write(|c| c.set_int(1, 223).unwrap()), "d700000001d300df",
             s("0000d700000001d300dfde1")),

@@ -16,6 +16,7 @@ impl WingConsole {
                 rx_has_in_pipe: None,
                 current_node_id: 0,
                 token: None,
+                good: 0,
                 count: 0,
                 long: 0,
                 body: None,
@@ -42,6 +43,11 @@ impl WingConsole {
 
     pub fn token_over(&self) {
         self.main.lock().unwrap().token = None;
+    }
+
+    /// How many leading bytes of the last string that was not UTF-8 were good, by the error's valid_up_to.
+    pub fn good(&self) -> usize {
+        self.main.lock().unwrap().good
     }
 
     pub fn count(&self) -> u32 {

@@ -268,8 +268,87 @@ fn benchmark(each: Each) {
     inputs::bodies().into_iter().for_each(|b| each(name, Order::Definition(b)));
     inputs::orders().into_iter().for_each(|o| each(name, set_order(o)));
     [40, 4094].iter().for_each(|n| each(name, Order::Packet { room: 4100, bytes: inputs::packet(*n) }));
-    let strings = inputs::strings(false).into_iter().chain(inputs::strings(true));
+    let strings = inputs::strings(false).into_iter().chain(inputs::strings(true)).chain(inputs::broken_strings());
     strings.for_each(|s| each(name, Order::Utf8(s)));
+}
+
+fn broken_piece(d: &mut Dice) -> &'static [u8] {
+    inputs::BROKEN[d.below(inputs::BROKEN.len() as u64)]
+}
+
+// A string of 1 to about 256 bytes that is not UTF-8, mostly; now and then a piece ends it.
+fn broken_string(d: &mut Dice) -> Vec<u8> {
+    let n = d.length().max(1);
+    let s = d.string(n);
+    let mut s = inputs::with(&s, d.below(n as u64 + 1), broken_piece(d));
+    s.truncate(n.max(4));
+    s.truncate(256);
+    s
+}
+
+fn string_token(d: &mut Dice, s: &[u8]) -> Vec<u8> {
+    let n = s.len() - 1;
+    let mut out = match d.below(3) {
+        0 if n < 16 => vec![0xc0 + n as u8],
+        1 if n < 64 => vec![0x80 + n as u8],
+        _ => [&[0xd1], &escaped(&[n as u8])[..]].concat(),
+    };
+    out.extend(escaped(s));
+    out
+}
+
+// A body with two names and a string enum's item or two, or a float enum's; some of the strings are broken.
+fn broken_body(d: &mut Dice) -> Vec<u8> {
+    let kind = 5 + d.below(2);
+    let mut text = |b: &mut Vec<u8>| {
+        let mut s = if d.one_in(4) { broken_string(d) } else { d.string(5) };
+        s.truncate(255);
+        b.push(s.len() as u8);
+        b.extend(s);
+    };
+    let mut b = vec![0; 10];
+    text(&mut b);
+    text(&mut b);
+    b.extend([0, 16 * kind as u8, 0, 2]);
+    for _ in 0..2 {
+        if kind == 6 {
+            b.extend([0x3f, 0x80, 0, 0]);
+        }
+        (0..7 - kind).for_each(|_| text(&mut b));
+    }
+    b
+}
+
+// Strings that are not UTF-8, through every call that says how much of them was good.
+fn broken(d: &mut Dice, n: usize, each: Each) {
+    let name = "strings broken in every way";
+    for _ in 0..n {
+        let s = broken_string(d);
+        let token = string_token(d, &s);
+        let size = 1 + d.below(9) as u16;
+        each(name, Order::Utf8(s.clone()));
+        each(name, Order::SetString { room: 512 - d.below(300), id: 1, bytes: s });
+        each(name, Order::Stream(token.clone()));
+        each(name, Order::Pieces(vec![size], token));
+        each(name, Order::Definition(broken_body(d)));
+    }
+}
+
+// Pieces at every place of a string of 256 bytes: the broken ones, those after a character and before one, and random ones.
+fn places(d: &mut Dice, n: usize, each: Each) {
+    let name = "pieces at every place of a string";
+    for piece in inputs::BROKEN {
+        each(name, Order::Places(piece.to_vec()));
+    }
+    for _ in 0..n {
+        let at = d.below(5);
+        let piece = match d.below(3) {
+            0 => inputs::with("aé€\u{1f600}".as_bytes(), 2 * at, broken_piece(d)),
+            1 => d.telling_bytes(1 + at),
+            _ => broken_string(d),
+        };
+        each(name, Order::Places(piece));
+    }
 }
 
 /// All of them, the random ones as many times over as the scale says.
@@ -282,4 +361,6 @@ pub fn all(d: &mut Dice, scale: usize, each: Each) {
     outputs(d, 400 * scale, each);
     large_counts(d, 4 * scale, each);
     past_count(d, 1000 * scale, each);
+    broken(d, 400 * scale, each);
+    places(d, 40 * scale, each);
 }

@@ -21,7 +21,7 @@ fn bytes(d: &mut Dice) -> String {
 }
 
 /// Orders that libwing has no answer to, 02's among them. N stands for a number and H for bytes.
-const FORMS: [&str; 52] = [
+const FORMS: [&str; 54] = [
     "new N", "new N N", "new N N N", "feed H", "feed H", "feed H", "repeat N H", "int N N N", "int N N 18", "float N H N", "string N H N", "string N H 512",
     "dump", "lookup N", "record N", "recall N", "recall 16384", "poke N H", "count N", "peek N N", "more H", "mores N H", "earlier H H H", "stream +", "pieces N +", "piecelist N,N,N +",
     "packet N +", "definition +", "sum stream +", "sum piecelist N,1,N +", "cuts H", "item N H", "step N N N H", "walk H", "units H", "state N N H",
@@ -29,6 +29,7 @@ const FORMS: [&str; 52] = [
     "define N N N N N N H H N N N H H H N", "define N N 7 N N 1 00000000 3f800000 N N 16 H H H N", "define 1 -2 7 5 1 0 00000000 00000000 0 1 0 41 - H 64", "again H",
     "load H", "loads N H", "load 69642c6b696e642c76616c75650a2d322c662c33663830303030300a312c692c350a322c732c343134320a",
     "lines 69642c6b696e642c76616c75650a312c692c350aH", "print N", "print 16384",
+    "places H", "sum places H",
 ];
 
 fn formed(d: &mut Dice) -> String {

@@ -29,23 +29,45 @@ fn refused(out: &mut Vec<u8>, why: u8) {
     out.extend_from_slice(&[b'r', b'0' + why / 10, b'0' + why % 10]);
 }
 
+fn length(out: &mut Vec<u8>, n: usize) {
+    hex(out, &(n as u16).to_be_bytes());
+}
+
+// 1 or 5, and how many leading bytes of the string are good.
+fn refused_string(out: &mut Vec<u8>, why: u8, good: usize) {
+    refused(out, why);
+    out.push(b'g');
+    length(out, good);
+}
+
 fn flag(out: &mut Vec<u8>, yes: bool) {
     out.push(b'0' + yes as u8);
 }
 
-/// A panic's words, as the refusal that stands for them in the list.
-fn refusal_of(panic: Box<dyn std::any::Any + Send>) -> Option<u8> {
+/// What from_bytes panics for.
+enum Cause {
+    PastTheEnd,
+    /// With the good that the error says.
+    NotUtf8(usize),
+}
+
+/// A panic's words, as the cause that stands for them in the list.
+fn cause_of(panic: Box<dyn std::any::Any + Send>) -> Option<Cause> {
     let words = match panic.downcast_ref::<String>() {
         Some(s) => s.as_str(),
         None => panic.downcast_ref::<&str>()?,
     };
     if words.contains("out of bounds") || words.contains("out of range") {
-        Some(4)
-    } else if words.contains("Utf8Error") {
-        Some(5)
+        Some(Cause::PastTheEnd)
     } else {
-        None
+        Some(Cause::NotUtf8(good_in(words)?))
     }
+}
+
+// Of the words of a Utf8Error.
+fn good_in(words: &str) -> Option<usize> {
+    let (_, rest) = words.split_once("Utf8Error { valid_up_to: ")?;
+    rest.split(|c: char| !c.is_ascii_digit()).next()?.parse().ok()
 }
 
 fn string(out: &mut Vec<u8>, mark: u8, s: &str) {
@@ -116,10 +138,14 @@ fn fields(out: &mut Vec<u8>, d: &WingNodeDef) {
 }
 
 fn body_refused(out: &mut Vec<u8>, panic: Box<dyn std::any::Any + Send>, t: &mut Tally) {
-    match refusal_of(panic) {
-        Some(why) => {
-            t.met(if why == 4 { "a definition field past the end" } else { "a definition string not UTF-8" });
-            refused(out, why);
+    match cause_of(panic) {
+        Some(Cause::PastTheEnd) => {
+            t.met("a definition field past the end");
+            refused(out, 4);
+        }
+        Some(Cause::NotUtf8(good)) => {
+            t.met("a definition string not UTF-8");
+            refused_string(out, 5, good);
         }
         None => out.extend_from_slice(b"!panic"),
     }
@@ -201,7 +227,7 @@ fn after_panic(out: &mut Vec<u8>, c: &mut WingConsole, t: &mut Tally) -> Result<
             let units = c.units(256)?;
             match String::from_utf8(units) {
                 Ok(s) => value(out, c.node(), &WingNodeData::with_string(s)),
-                Err(_) => refused(out, 1),
+                Err(e) => refused_string(out, 1, e.utf8_error().valid_up_to()),
             }
             Ok(true)
         }
@@ -225,7 +251,7 @@ fn event(out: &mut Vec<u8>, c: &mut WingConsole, t: &mut Tally) -> Result<bool, 
             let body = c.body().unwrap();
             definition_read(out, c, &body, Ok(d), t)?;
         }
-        Ok(Err(Error::InvalidData)) => refused(out, 1),
+        Ok(Err(Error::InvalidData)) => refused_string(out, 1, c.good()),
         Ok(Err(e)) => return Err(e),
         Err(panic) => {
             c.unpoison();
@@ -318,9 +344,10 @@ fn set_string(out: &mut Vec<u8>, room: usize, id: i32, s: &[u8], t: &mut Tally) 
             let bytes = set(&c, id, t);
             written(out, room, 0, &bytes);
         }
-        Err(_) => {
+        Err(e) => {
             t.met("a string to write that no &str can be");
-            not_written(out, 1)
+            refused_string(out, 1, e.valid_up_to());
+            flag(out, true)
         }
     }
 }
@@ -461,8 +488,25 @@ fn one_more(front: &[u8], mut each: impl FnMut(&[u8])) {
     }
 }
 
+fn good(b: &[u8]) -> usize {
+    match std::str::from_utf8(b) {
+        Ok(s) => s.len(),
+        Err(e) => e.valid_up_to(),
+    }
+}
+
 fn characters(out: &mut Vec<u8>, b: &[u8]) {
     flag(out, std::str::from_utf8(b).is_ok());
+    length(out, good(b));
+}
+
+// The bytes at every place of a string of 256 bytes.
+fn places(out: &mut Vec<u8>, b: &[u8]) {
+    for at in 0..=256 - b.len() {
+        let mut s = [b'a'; 256];
+        s[at..at + b.len()].copy_from_slice(b);
+        length(out, good(&s));
+    }
 }
 
 /// The sum that stands for an answer: its bytes as digits to the base 257, mod 4294967291.
@@ -493,6 +537,7 @@ pub fn answer(out: &mut Vec<u8>, order: &Order, t: &mut Tally) {
         Order::Definition(b) => definition(out, b, t),
         Order::Utf8(b) => characters(out, b),
         Order::Utf8s(b) => one_more(b, |s| characters(out, s)),
+        Order::Places(b) => places(out, b),
         Order::Getters(kind, b) => getters(out, *kind, b, t),
         Order::Packet { room, bytes } => packet(out, *room, bytes, t),
         _ => answer_write(out, order, t),

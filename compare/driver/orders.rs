@@ -11,6 +11,8 @@ pub enum Order {
     Definition(Vec<u8>),
     Utf8(Vec<u8>),
     Utf8s(Vec<u8>),
+    /// 1 to 256 bytes, at every place of a string of 256.
+    Places(Vec<u8>),
     SetInt { room: usize, id: i32, value: i32 },
     SetFloat { room: usize, id: i32, bits: u32 },
     SetString { room: usize, id: i32, bytes: Vec<u8> },
@@ -61,6 +63,7 @@ impl Order {
             Definition(_) => "definition ".into(),
             Utf8(_) => "utf8 ".into(),
             Utf8s(_) => "utf8s ".into(),
+            Places(_) => "places ".into(),
             SetInt { room, id, value } => format!("setint {room} {id} {value}"),
             SetFloat { room, id, bits } => format!("setfloat {room} {id} {bits:08x}"),
             SetString { room, id, .. } => format!("setstring {room} {id} "),
@@ -78,7 +81,7 @@ impl Order {
     /// The bytes at the end of the line, of orders that have them.
     pub fn bytes(&self) -> Option<&[u8]> {
         match self {
-            Stream(b) | Pieces(_, b) | Streams(b) | Definition(b) | Utf8(b) | Utf8s(b) | Getters(_, b) => Some(b),
+            Stream(b) | Pieces(_, b) | Streams(b) | Definition(b) | Utf8(b) | Utf8s(b) | Places(b) | Getters(_, b) => Some(b),
             SetString { bytes, .. } | Packet { bytes, .. } => Some(bytes),
             AskMeters { items, .. } => Some(items),
             _ => None,
@@ -121,7 +124,11 @@ impl Order {
 
     /// How many of the comparison's cases it stands for.
     pub fn cases(&self) -> u64 {
-        if matches!(self, Streams(_) | Utf8s(_)) { 256 } else { 1 }
+        match self {
+            Streams(_) | Utf8s(_) => 256,
+            Places(b) => 257 - b.len() as u64,
+            _ => 1,
+        }
     }
 
     /// The order as one line, without its end.
@@ -180,6 +187,7 @@ fn of_bytes(word: &str, b: Vec<u8>) -> Option<Order> {
         "definition" => Definition(b),
         "utf8" => Utf8(b),
         "utf8s" => Utf8s(b),
+        "places" if (1..=256).contains(&b.len()) => Places(b),
         _ => return None,
     })
 }

@@ -3,15 +3,16 @@ from orders.words import pairs
 from rules.refusal import Refusal
 
 
-def refused(number):
-    return "refused %d" % number
+def refused(why):
+    """02, Job 5: the good stands beside 1 and 5."""
+    return "refused %d" % why.number + ("" if why.good is None else " good %d" % why.good)
 
 
 def or_refused(call):
     try:
         return call()
     except Refusal as r:
-        return refused(r.number)
+        return refused(r.why)
 
 
 def output_text(done, call):

@@ -15,8 +15,9 @@ def flag(yes):
     return "1" if yes else "0"
 
 
-def refused(number):
-    return "r%02d" % number
+def refused(why):
+    """02, Job 5: the good stands beside 1 and 5."""
+    return "r%02d" % why.number + ("" if why.good is None else "g" + bits16(why.good))
 
 
 def summed(text):

@@ -36,7 +36,7 @@ class ListingOrders:
         try:
             return self.loaded(text)
         except Refusal as r:
-            return "%s line %d" % (refused(r.number), getattr(r, "line", 0))
+            return "%s line %d" % (refused(r.why), getattr(r, "line", 0))
 
     def print(self, room):
         room = count(room, PRINT_ROOM)

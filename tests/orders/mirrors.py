@@ -3,6 +3,7 @@ from orders.answers import or_refused, output_text, refused
 from orders.words import UINT32, count, demand, hex_of, hex_width, int32, pairs
 from rules.listing import record_text
 from rules.mirror import WIDTH, Mirror
+from rules.refusal import Why
 
 MOST_PLACES = 1026
 MEMORY = MOST_PLACES * WIDTH
@@ -66,7 +67,7 @@ class MirrorOrders:
         """The places alone do not make it refused."""
         records = self.mirror.records()
         if records is None:
-            return refused(7)
+            return refused(Why(7))
         rest = self.mirror.table[len(records) * WIDTH:]
         clean = "clean" if rest.count(self.fill) == len(rest) else "dirt"
         return " ".join(["%d records %s" % (len(records), clean)] + [record_text(r) for r in records])

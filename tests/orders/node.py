@@ -1,4 +1,6 @@
 """Orders on definition bodies and their items."""
+from orders import answers
+from orders.answers import or_refused
 from orders.compact import bits16, bits32, flag, refused
 from orders.words import UINT32, count, hex_of
 from rules.definition import (INTEGER, LINEAR, LOG, STRING, Definition, begin_items, has_items, item_by_number, refusal_of,
@@ -15,7 +17,7 @@ def numbered_text(body, number):
     try:
         return item_text(item_by_number(body, number))
     except Refusal as r:
-        return refused(r.number)
+        return refused(r.why)
 
 
 def items_text(body, items):
@@ -39,7 +41,7 @@ def definition_text(body):
     try:
         d = Definition(body)
     except Refusal as r:
-        return refused(r.number)
+        return refused(r.why)
     head = bits32(d.parent) + bits32(d.id) + bits16(d.index)
     names = "n" + d.name[0].hex() + "l" + d.long_name[0].hex()
     return head + names + "k%02x%02x" % (d.kind, d.unit) + flag(d.read_only) + details_text(body, d)
@@ -55,15 +57,12 @@ def cuts(word):
             runs[-1][1] = length
         else:
             runs.append([length, length, why])
-    return ", ".join("%d-%d %s" % (a, b, "refused %d" % why if why else "good") for a, b, why in runs)
+    return ", ".join("%d-%d %s" % (a, b, answers.refused(why) if why else "good") for a, b, why in runs)
 
 
 def item_order(number, word):
     number, body = count(number, UINT32), hex_of(word)
-    try:
-        return item_text(item_by_number(body, number))
-    except Refusal as r:
-        return "refused %d" % r.number
+    return or_refused(lambda: item_text(item_by_number(body, number)))
 
 
 def step_text(body, at, left, kind):
@@ -73,7 +72,7 @@ def step_text(body, at, left, kind):
         item, after = step(body, at, left, kind)
         text = "none" if item is None else item_text(item)
     except Refusal as r:
-        text = "refused %d" % r.number
+        text = answers.refused(r.why)
     return "%s at %d left %d" % ((text,) + after[:2]), after
 
 
@@ -87,7 +86,7 @@ def walk_order(word):
     try:
         walk_at = begin_items(body)
     except Refusal as r:
-        return "refused %d" % r.number
+        return answers.refused(r.why)
     texts = ["at %d left %d" % walk_at[:2]]
     for _ in range(walk_at[1] + 1):
         text, walk_at = step_text(body, *walk_at)

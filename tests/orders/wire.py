@@ -41,7 +41,7 @@ def read_text(s, data):
     try:
         check_call(s, data)
     except Refusal as r:
-        return refused(r.number) + "@" + bits32(0) + last_text(s)
+        return refused(r.why) + "@" + bits32(0) + last_text(s)
     return events_text(s, data) + last_text(s)
 
 
@@ -98,7 +98,7 @@ def earlier(head, store, word):
     try:
         s = carry_over(saved + bytes(max(0, SIZE - len(saved))))
     except Refusal as r:
-        return refused(r.number)
+        return refused(r.why)
     return "carried " + read_text(s, data) + inside_text(s)
 
 

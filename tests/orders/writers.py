@@ -4,12 +4,13 @@ from orders.words import UINT16, count, demand, hex_of, hex_width, int32
 from rules.command import data_request, definition_request, format_id, into, keep_alives, meter_request, packet, set_command
 from rules.numbers import signed
 from rules.refusal import Refusal
-from rules.utf8 import is_utf8
+from rules.utf8 import good, is_utf8
 from rules.value import integer_of, string_of
 
 ROOM = 16384                # the largest output of a command
 KEEP_ALIVE_ROOM = 851968    # 13 bytes, the longest keep-alive, 65,536 times
 READINGS = 4200             # the largest output of a packet's readings
+PLACES = 256                # the bytes of a string that the order places makes
 RTA = 0xAA
 
 
@@ -18,7 +19,7 @@ def written(call):
     try:
         meter_id, data = call()
     except Refusal as r:
-        return refused(r.number) + "1"
+        return refused(r.why) + "1"
     return bits16(meter_id) + data.hex() + "1"
 
 
@@ -88,12 +89,12 @@ def packet_text(room, data):
     try:
         number, readings = packet(room, data)
     except Refusal as r:
-        return refused(r.number) + "1"
+        return refused(r.why) + "1"
     return bits16(number) + bits32(len(readings)) + ":" + "".join(map(bits16, readings)) + "1"
 
 
 def utf8_text(data):
-    return flag(is_utf8(data))
+    return flag(is_utf8(data)) + bits16(good(data))
 
 
 def utf8_order(word):
@@ -105,6 +106,18 @@ def utf8s_order(word):
     front = hex_of(word)
     demand(len(front) <= 255)
     return "".join(utf8_text(front + bytes([last])) for last in range(256))
+
+
+def placed(piece, at):
+    """The bytes at a place of a string of 256 bytes that is a everywhere else."""
+    return b"a" * at + piece + b"a" * (PLACES - at - len(piece))
+
+
+def places_order(word):
+    """The good of the bytes at every place that a string of 256 bytes has for them."""
+    piece = hex_of(word)
+    demand(1 <= len(piece) <= PLACES)
+    return "".join(bits16(good(placed(piece, at))) for at in range(PLACES - len(piece) + 1))
 
 
 def value_of(kind, data):
@@ -139,7 +152,7 @@ TABLE = {
     b"setint": ((3,), set_int), b"setfloat": ((3,), set_float), b"setstring": ((3,), set_string),
     b"format": ((4,), format_order), b"askdefinition": ((2,), ask_definition), b"askdata": ((2,), ask_data),
     b"askmeters": ((5,), ask_meters), b"askmetersfill": ((6,), ask_meters_fill), b"keepalive": ((3,), keep_alive),
-    b"utf8": ((1,), utf8_order), b"utf8s": ((1,), utf8s_order), b"getters": ((2,), getters),
-    b"getstring": ((2,), get_string),
+    b"utf8": ((1,), utf8_order), b"utf8s": ((1,), utf8s_order), b"places": ((1,), places_order),
+    b"getters": ((2,), getters), b"getstring": ((2,), get_string),
 }
 LONG = {b"packet": (2, packet_order)}

@@ -118,17 +118,23 @@ class Definitions:
         """5: an item more, first or last, with a string that is not UTF-8."""
         if not has_items(g.kind):
             return self.bad_name(g)
-        bad = name_bytes(self.s.broken(self.s.good_text(self.r.randrange(9)), NAME_LIMIT))
         good = name_bytes(self.s.good_text(self.r.randrange(9)))
-        item = self.s.field(4) + bad if g.kind == FLOAT_ENUM else self.s.pick(bad + good, good + bad)
+        bad, other = [name_bytes(self.s.broken(self.s.good_text(self.r.randrange(9)), NAME_LIMIT)) for _ in range(2)]
+        item = self.s.field(4) + bad if g.kind == FLOAT_ENUM else self.s.pick(bad + good, good + bad, bad + other)
         return g._replace(count=one_more(g), items=self.s.pick(item + g.items, g.items + item))
+
+    def bad_strings(self, g):
+        """5, of the first of some strings: name, long name, items in order."""
+        for _ in range(self.s.pick(2, 2, 3, 4)):
+            g = self.s.pick(self.bad_name, self.bad_item, self.bad_item)(g)
+        return g
 
     def faulty(self):
         """With no fault, one or some."""
         g = self.good()
         for _ in range(self.s.pick(0, 0, 0, 0, 0, 1, 1, 1, 1, 2, 2, 3)):
             g = self.s.pick(self.long_name, self.over_seven, self.other_count, self.other_items, self.other_kind, self.bad_name,
-                            self.bad_item, self.bad_item)(g)
+                            self.bad_item, self.bad_strings, self.bad_strings)(g)
         return g
 
     def room(self, g):
@@ -162,7 +168,7 @@ class Definitions:
         return (body_of(g) + later)[:LINE_BYTES]
 
     def bad(self, g):
-        return body_of(self.s.pick(self.bad_name, self.bad_item)(g))
+        return body_of(self.s.pick(self.bad_name, self.bad_item, self.bad_strings)(g))
 
     def body(self):
         g = self.good()

@@ -75,7 +75,7 @@ class History:
         if kind == "int":
             number = self.s.int32()
             return kind, str(number), ("i", number)
-        data = self.s.field(4) if kind == "float" else self.s.text(self.s.pick(3, 64, 260, 300), 0.3)
+        data = self.s.field(4) if kind == "float" else self.s.text(self.s.pick(3, 64, 256, 300), 0.4)
         return kind, pairs(data), (kind[0], data)
 
     def set(self):

@@ -143,7 +143,7 @@ class Faults:
         form = (self.bad_id, self.bad_integer, self.bad_kind, self.bad_float, self.bad_pairs, self.comma, self.bad_header,
                 self.empty_line, self.line_ends, self.mark, self.mark)
         formed = (self.long_pairs, self.broken_pairs, self.again, self.swapped, self.unsigned, self.low_id, self.low_string)
-        return self.r.choice(form + formed * 2)(lines)
+        return self.r.choice(form + formed * 2 + (self.broken_pairs,) * 4)(lines)
 
     def some(self, lines, number):
         """So many faults. A listing without records mostly gets one first."""

@@ -14,7 +14,9 @@ ODD = (
     "count 1 1", "stream", "stream 0", "stream 00 00", "stream xx", "stream ++", "pieces 00", "pieces -1 00",
     "pieces 65536 00", "pieces 1", "piecelist 0 00", "piecelist , 00", "piecelist 1, 00", "piecelist ,1 00",
     "piecelist 65536 00", "piecelist - 00", "streams " + "00" * 64, "streams +", "definition", "definition 0", "utf8",
-    "utf8 ", "utf8s " + "41" * 256, "utf8 +", "setint 16385 0 0", "setint 0 0", "setint 9 2147483648 0", "setint 9 0 0 0",
+    "utf8 ", "utf8s " + "41" * 256, "utf8 +", "places", "places ", "places -", "places +", "places 0",
+    "places C3", "places c3 c3", "places " + "41" * 257, "sum places -", "place c3",
+    "setint 16385 0 0", "setint 0 0", "setint 9 2147483648 0", "setint 9 0 0 0",
     "setfloat 9 0 000000", "setfloat 9 0 -", "setstring 9 0", "setstring 9 x 41", "format 9 0 4 -", "format 9 0 - -",
     "format 9 0 4142 -", "format 9 0 41 4142", "format 9 0 41", "askdefinition 9", "askdata 9 0 0", "askmeters 9 65536 0 0 -",
     "askmeters 9 0 65536 0 -", "askmeters 9 0 0 256 -", "askmeters 9 0 0 0", "askmetersfill 9 0 0 0 00 -",
@@ -51,7 +53,8 @@ def changed(source, line):
 
 EDGES = (
     "repeat 65600 40", "repeat 4294967295 -", "repeat 32800 4041", "peek 0 0", "poke 0 -", "count 4294967295", "count 0",
-    "streams " + "40" * 63, "utf8s " + "41" * 255, "splits " + "41" * 200, "getters 2 " + "41" * 256, "item 4294967295 00",
+    "streams " + "40" * 63, "utf8s " + "41" * 255, "places " + "41" * 256, "places " + "41" * 255 + "c3", "places ff",
+    "splits " + "41" * 200, "getters 2 " + "41" * 256, "item 4294967295 00",
     "state 34 65600 40", "mores 65600 00", "mores 0 00", "mores 4294967295 -", "state 0 65536 40", "pieces 65535 05", "lookup -2147483648", "lookup 2147483647", "lookup -0",
     "lookup 0000000001", "record 4294967295", "keepalive 851968 1 0", "packet 4200 00000000", "packet 0 00000000", "more -",
     "stream +", "definition +", "piecelist " + ",".join(["1"] * 64) + " 0505", "piecelist " + ",".join(["1"] * 65) + " 0505",

@@ -4,8 +4,8 @@ from orders.words import UINT32, pairs
 from orders.writers import KEEP_ALIVE_ROOM
 from randoms.define import Definitions
 from randoms.listing import Listings
-from randoms.source import LINE_BYTES
-from rules.command import data_request, definition_request, format_id, keep_alives, meter_request, set_bytes
+from randoms.source import BROKEN, LETTERS, LINE_BYTES
+from rules.command import data_request, definition_request, escaped, format_id, keep_alives, meter_request, set_bytes
 from rules.decoder import State, events
 from rules.definition import Definition, refusal_of
 from rules.earlier import earlier_bytes
@@ -60,7 +60,9 @@ class Single:
         return self.s.pick("", "", "sum ") + order + " +"
 
     def streams(self):
-        return "streams " + pairs(self.s.short_stream(self.s.pick(3, 20, 63)))
+        """Some fronts lack a string's last byte alone."""
+        string = escaped(self.s.string_units())[:-1]
+        return "streams " + pairs(self.s.pick(self.s.short_stream(self.s.pick(3, 20, 63)), string)[:63])
 
     def definition(self):
         return "definition " + pairs(self.s.definition())
@@ -74,13 +76,22 @@ class Single:
     def listing(self):
         return Listings(self.s).single()
 
+    def near(self):
+        """Bytes at the edges of the grammar's rows."""
+        return bytes(self.r.choice(EDGES) for _ in range(self.r.randrange(1, 7)))
+
     def utf8(self):
-        """A string, or bytes at the edges of the grammar's rows."""
-        near = bytes(self.r.choice(EDGES) for _ in range(self.r.randrange(1, 7)))
-        return "utf8 " + pairs(self.s.pick(self.s.text(300), self.s.text(8), near))
+        return "utf8 " + pairs(self.s.pick(self.s.text(300, 0.5), self.s.text(8, 0.5), self.near()))
 
     def utf8s(self):
         return "utf8s " + pairs(self.s.text(self.s.pick(3, 255)))
+
+    def places(self):
+        """A broken piece, a character whole or cut, a string, or bytes at the edges of the grammar's rows."""
+        letter = self.r.choice(LETTERS).encode()
+        piece = self.s.pick(self.r.choice(BROKEN), self.r.choice(BROKEN), letter, letter[:self.r.randrange(len(letter)) + 1], self.near(),
+                            self.s.text(12, 0.5), self.s.text(256, 0.5))
+        return "places " + pairs(piece)
 
     def set_int(self):
         node, value = self.s.node(), self.s.int32()
@@ -91,7 +102,7 @@ class Single:
         return "setfloat %d %d %s" % (self.room(len(set_bytes(node, ("f", bits)))), node, bits.hex())
 
     def set_string(self):
-        node, text = self.s.node(), self.s.text(self.s.pick(3, 64, 260, 260))
+        node, text = self.s.node(), self.s.text(self.s.pick(3, 64, 256, 260), 0.3)
         if self.s.chance(0.1):
             text = self.s.pick(b"\xdf\xbf" * 128, b"\xdf\xbf" * 112, b"z" * 2000, b"z" * 256 + b"\xff", b"\x80" * 300)
         exact = len(set_bytes(node, ("s", text))) if len(text) <= 256 else 300
@@ -157,23 +168,31 @@ class Single:
         return "getstring %d %s" % (self.s.pick(len(text), 0, 255, 256, 257, 65535, self.r.randrange(300)), pairs(text))
 
     def cuts(self):
-        return "cuts " + pairs(self.s.definition()[:300])
+        return "cuts " + pairs(self.s.pick(self.s.definition(), self.s.broken_definition())[:300])
 
     def item(self):
         """Mostly a number that the body has, or the one past it."""
-        body = self.s.pick(self.s.definition(), self.s.definition(), self.s.enumeration(), self.s.enumeration())
+        body = self.s.pick(self.s.definition(), self.s.broken_definition(), self.s.enumeration(), self.s.enumeration())
         count = 0 if refusal_of(body) else Definition(body).count
         number = self.s.pick(0, self.r.randrange(count + 1), max(count - 1, 0), count, 65535, 65536, UINT32)
         return "item %d %s" % (number, pairs(body))
 
+    def items_at(self):
+        """Items of a type, broken ones among them, with the place of one."""
+        kind, front = self.s.pick(5, 6), self.s.field(self.r.randrange(20))
+        items = [self.s.item(kind, self.s.pick(0.02, 0.5)) for _ in range(3)]
+        return front + b"".join(items), len(front) + self.s.pick(0, len(items[0]), len(items[0] + items[1])), kind
+
     def step(self):
-        body = self.s.pick(self.s.definition(), b"".join(self.s.item(self.s.pick(5, 6)) for _ in range(3)))
-        at = self.s.pick(0, len(body), len(body) - 1, self.r.randrange(len(body) + 1), self.s.uint16())
-        kind = self.s.pick(5, 5, 6, 6, 6, 0, 7, 8, 21, 65535)
-        return "step %d %d %d %s" % (max(at, 0), self.s.pick(0, 1, 2, 65535), kind, pairs(body))
+        body, at, kind = self.items_at()
+        if self.s.chance(0.6):
+            body = self.s.pick(self.s.definition(), body)
+            at = self.s.pick(0, len(body), len(body) - 1, self.r.randrange(len(body) + 1), self.s.uint16())
+            kind = self.s.pick(5, 5, 6, 6, 6, 0, 7, 8, 21, 65535)
+        return "step %d %d %d %s" % (max(at, 0), self.s.pick(0, 1, 1, 2, 2, 65535), kind, pairs(body))
 
     def walk(self):
-        return "walk " + pairs(self.s.pick(self.s.definition(), self.s.enumeration()))
+        return "walk " + pairs(self.s.pick(self.s.definition(), self.s.broken_definition(), self.s.enumeration()))
 
     def units(self):
         return "units " + pairs(self.s.pick(self.s.telling(40), self.s.short_stream(200)))
@@ -208,7 +227,7 @@ class Single:
 
     def summed(self):
         return "sum " + self.r.choice((
-            self.stream, self.pieces, self.piece_list, self.streams, self.definition, self.utf8s, self.set_string,
+            self.stream, self.pieces, self.piece_list, self.streams, self.definition, self.utf8s, self.places, self.set_string,
             self.ask_meters, self.ask_meters_fill, self.keep_alive, self.packet, self.getters, self.cuts, self.item, self.step, self.walk, self.units,
             self.state, self.earlier, self.lent))()
 
@@ -219,9 +238,9 @@ class Single:
         """Some kinds stand more than once, so that they come more often."""
         return ((self.stream, self.definition, self.define) * 6 + (self.again,) * 5 + (self.listing,) * 4
                 + (self.pieces, self.set_int, self.set_string, self.ask_meters, self.step) * 3
-                + (self.piece_list, self.utf8, self.set_float, self.packet, self.item, self.walk, self.units, self.lent,
+                + (self.piece_list, self.utf8, self.places, self.cuts, self.set_float, self.packet, self.item, self.walk, self.units, self.lent,
                    self.state, self.earlier, self.earlier, self.summed, self.getters, self.ask_meters_fill) * 2
-                + (self.format, self.ask, self.keep_alive, self.get_string, self.cuts, self.splits, self.more, self.taking))
+                + (self.format, self.ask, self.keep_alive, self.get_string, self.splits, self.more, self.taking))
 
     def rare(self):
         """Orders whose answers are long."""

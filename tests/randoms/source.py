@@ -9,7 +9,9 @@ LETTERS = ("a", "B", "0", "ß", "é", "€", "漢", "\U0001F39A", "\x7f", "\x00"
            "\U00010000", "\U0010ffff")
 BROKEN = (b"\x80", b"\xbf", b"\xc0\x80", b"\xc1\xbf", b"\xed\xa0\x80", b"\xed\xbf\xbf", b"\xe0\x80\x80", b"\xe0\x9f\xbf",
           b"\xf4\x90\x80\x80", b"\xf0\x80\x80\x80", b"\xf0\x8f\xbf\xbf", b"\xf5\x80\x80\x80", b"\xf8\x88\x80\x80\x80", b"\xff",
-          b"\xc3", b"\xe2\x82", b"\xf0\x9f\x8e", b"\xdf", b"\xdf\xdf", b"\xc3\xc3")
+          b"\xc3", b"\xe2\x82", b"\xf0\x9f\x8e", b"\xdf", b"\xdf\xdf", b"\xc3\xc3", b"\xc2", b"\xe0", b"\xe0\xa0", b"\xe2", b"\xed\x9f",
+          b"\xef\xbf", b"\xf0", b"\xf0\x90", b"\xf0\x90\x80", b"\xf0\x9f", b"\xf4\x8f", b"\xf4\x8f\xbf", b"\xc3\xa9\x80",
+          b"\xe2\x82\xac\xbf", b"\xf0\x9f\x98\x80\x80", b"\xe2\x82\xc3\xa9", b"\xf0\x9f\xe2\x82\xac")
 LENGTHS = (0, 1, 1, 2, 3, 15, 16, 17, 63, 64, 65, 222, 223, 224, 225, 255, 256, 257)
 # Bytes that the decoder tells apart.
 TELLING = (0xDF,) * 6 + (0xDE,) * 4 + tuple(range(0xD0, 0xDE)) + (0xD7,) * 4 + (0x00, 0x01, 0x3F, 0x40, 0x7F, 0x80, 0x81, 0xBF,
@@ -55,18 +57,20 @@ class Source:
         return out
 
     def broken(self, text, most):
-        """With a fault somewhere; no longer than this."""
-        at, wrong = self.r.randrange(len(text) + 1), self.r.choice(BROKEN)
-        return (text[:at] + wrong + text[at + len(wrong):])[:most]
+        """With a fault somewhere; no longer than this. The fault may end the string, and may stand inside a character of it."""
+        wrong = self.r.choice(BROKEN)
+        at = self.r.randrange(max(min(len(text), most - len(wrong)), 0) + 1)
+        rest = b"" if self.chance(0.2) else text[at + len(wrong):]
+        return (text[:at] + wrong + rest)[:most]
 
-    def text(self, most, faults=0.1):
+    def text(self, most, faults=0.15):
         length = min(self.pick(self.r.choice(LENGTHS), self.r.randrange(most + 1)), most)
         text = self.good_text(length)
         return self.broken(text, most) if self.chance(faults) else text
 
-    def name(self, most=20):
+    def name(self, faults=0.02):
         """As it stands in a definition. A body has many of these, so faults are rare in each."""
-        text = self.text(most if self.chance(0.95) else 255, 0.02)
+        text = self.text(20 if self.chance(0.95) else 255, faults)
         return bytes([len(text)]) + text
 
     def damaged(self, data, times):
@@ -78,28 +82,32 @@ class Source:
             out[at:at + (how > 0)] = b"" if how == 1 else bytes([self.pick(self.r.choice(TELLING), self.r.randrange(256))])
         return bytes(out)
 
-    def item(self, kind):
-        return (self.name() if kind == 5 else self.field(4)) + self.name()
+    def item(self, kind, faults=0.02):
+        return (self.name(faults) if kind == 5 else self.field(4)) + self.name(faults)
 
-    def details(self, kind):
+    def details(self, kind, faults):
         """What stands after the flags, by the type."""
         if kind in (5, 6):
             items = self.pick(0, 1, 2, 3, self.r.randrange(12))
             count = items if self.chance(0.93) else self.pick(items + 1, 65535, max(items - 1, 0))
-            return unsigned_bytes(count, 2) + b"".join(self.item(kind) for _ in range(items))
+            return unsigned_bytes(count, 2) + b"".join(self.item(kind, faults) for _ in range(items))
         return self.field({1: 12, 2: 12, 4: 8, 7: 2}.get(kind, 0))
 
     def enumeration(self):
         """A definition with items."""
         return self.good_definition(self.pick(5, 6))
 
-    def good_definition(self, of_type=None):
+    def broken_definition(self):
+        """With a string that is not UTF-8, or some, or none: either name or a string of any item; of all types, enums mostly."""
+        return self.good_definition(self.pick(None, 5, 6), self.pick(0.1, 0.3))
+
+    def good_definition(self, of_type=None, faults=0.02):
         kind = of_type or (self.r.randrange(8) if self.chance(0.9) else self.r.randrange(16))
         flags = kind * 16 + self.r.randrange(16) + self.pick(0, 512) + self.pick(0, 0, 256, 1024, 0xFC00)
-        return self.field(10) + self.name() + self.name() + unsigned_bytes(flags, 2) + self.details(kind)
+        return self.field(10) + self.name(faults) + self.name(faults) + unsigned_bytes(flags, 2) + self.details(kind, faults)
 
     def definition(self):
-        body = self.good_definition()
+        body = self.broken_definition() if self.chance(0.15) else self.good_definition()
         how = self.r.random()
         if how < 0.15:
             return body[:self.r.randrange(len(body) + 1)]

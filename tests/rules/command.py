@@ -1,7 +1,6 @@
 """01, 'Writers' and 'Meters and requests': the bytes of each command, and what a packet says."""
 from rules.numbers import signed, signed_bytes, unsigned, unsigned_bytes
-from rules.refusal import refuse_if
-from rules.utf8 import is_utf8
+from rules.refusal import refuse_if, refuse_not_utf8
 
 STRING_LIMIT = 256
 METER_LIMIT = 64
@@ -56,7 +55,7 @@ def check_value(value):
     kind, content = value
     if kind == "s":
         refuse_if(len(content) > STRING_LIMIT, 10)
-        refuse_if(not is_utf8(content), 1)
+        refuse_not_utf8(content, 1)
 
 
 def set_command(room, node, value):

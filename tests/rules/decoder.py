@@ -1,7 +1,6 @@
 """01, 'Escapes' and 'Tokens', with 02's rule on counts: a console's bytes become units, and units become events."""
 from rules.numbers import signed, unsigned
-from rules.refusal import refuse_if
-from rules.utf8 import is_utf8
+from rules.refusal import Why, not_utf8, refuse_if
 
 BODY_LIMIT = 4096       # 01: "body (4,096 bytes)"; a count over it is refused
 CALL_LIMIT = 65536      # 01: "The next call takes up to 65,536 bytes"
@@ -143,12 +142,13 @@ def collect(s, unit, appended):
 
 
 def string_event(s, data):
-    return ("value", s.node, ("s", data)) if is_utf8(data) else ("refused", 1)
+    why = not_utf8(data, 1)
+    return ("refused", why) if why else ("value", s.node, ("s", data))
 
 
 def body_event(want, data):
     """01: "Count over 4,096 reads all c units, then answers 2"; 02: "2 that the count in force is over 4,096"."""
-    return ("body", data) if want <= BODY_LIMIT else ("refused", 2)
+    return ("body", data) if want <= BODY_LIMIT else ("refused", Why(2))
 
 
 def number_event(s, kind, number, want):
@@ -159,7 +159,7 @@ def number_event(s, kind, number, want):
     if kind == "float":
         return "value", s.node, ("f", data)
     if kind == "longcount" and number == 0:
-        return "refused", 3     # 02: "Refusal 3 now means that both counts are 0"
+        return "refused", Why(3)    # 02: "Refusal 3 now means that both counts are 0"
     if kind == "node":
         s.node = signed(data)
     elif kind == "length":

@@ -4,8 +4,7 @@ from typing import NamedTuple
 from rules.command import into
 from rules.definition import FLOAT_ENUM, INTEGER, LINEAR, LOG, STRING, Definition, has_items
 from rules.numbers import signed_bytes, unsigned_bytes
-from rules.refusal import refuse_if
-from rules.utf8 import is_utf8
+from rules.refusal import refuse_if, refuse_not_utf8
 
 NAME_LIMIT = 255        # 02: "a name over 255 bytes is 15"
 BODY_LIMIT = 4096       # 02: "a body over 4,096 gets 2"
@@ -100,12 +99,12 @@ def body_of(g):
 
 
 def write(g, room):
-    """02: "the writer's order is 15, 16, 5, 2, 9"; else the body."""
+    """02: "the writer's order is 15, 16, 5, 2, 9"; else the body. 5 tells of the first string that fails."""
     names = [g.name, g.long_name]
     refuse_if(any(len(name) > NAME_LIMIT for name in names), 15)
     refuse_if(g.kind > 7 or g.unit > 7, 16)
-    strings = names + item_strings(g)
-    refuse_if(not all(map(is_utf8, strings)), 5)
+    for text in names + item_strings(g):
+        refuse_not_utf8(text, 5)
     body = body_of(g)
     refuse_if(len(body) > BODY_LIMIT, 2)
     return into(room, body)

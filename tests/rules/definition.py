@@ -1,7 +1,6 @@
 """01, 'Definitions': the fields of a body that is read, and its items."""
 from rules.numbers import signed, unsigned
-from rules.refusal import Refusal, refuse_if
-from rules.utf8 import is_utf8
+from rules.refusal import Refusal, refuse_if, refuse_not_utf8
 
 NODE, LINEAR, LOG, FADER, INTEGER, STRING_ENUM, FLOAT_ENUM, STRING = range(8)
 
@@ -27,7 +26,7 @@ class Fields:
     def name(self):
         """01: "name (length byte, bytes)". The bytes, and the place where they start."""
         text = self.take(self.unsigned(1))
-        refuse_if(not is_utf8(text), 5)
+        refuse_not_utf8(text, 5)
         return text, self.at - len(text)
 
     def item(self, kind):
@@ -79,12 +78,12 @@ def details(f, kind):
 
 
 def refusal_of(body):
-    """The parser's 4 or 5, or 0 for a body that it takes."""
+    """Why the parser refuses a body, 4 or 5; None for one that it takes."""
     try:
         Definition(body)
-        return 0
+        return None
     except Refusal as r:
-        return r.number
+        return r.why
 
 
 def begin_items(body):

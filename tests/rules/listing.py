@@ -3,7 +3,7 @@ import re
 
 from rules.command import check_value, into
 from rules.decoder import State
-from rules.refusal import Refusal, refuse_if
+from rules.refusal import Refusal, Why, refuse_if
 
 HEADER = b"id,kind,value"
 TEXT_LIMIT = 65536      # 02: "up to 65,536 bytes"
@@ -16,8 +16,8 @@ VALUES = {b"i": INTEGER, b"f": re.compile(rb"[0-9a-f]{8}"), b"s": re.compile(rb"
 class BadLine(Refusal):
     """A refusal of one line of the text; the header is line 1."""
 
-    def __init__(self, number, line):
-        super().__init__(number)
+    def __init__(self, why, line):
+        super().__init__(why)
         self.line = line
 
 
@@ -68,15 +68,15 @@ def records_of(text):
     """02: "the first bad line decides". The header is the first; text after the last newline is a line out of form."""
     *lines, rest = text.split(b"\n")
     if lines[:1] != [HEADER]:
-        raise BadLine(17, 1)
+        raise BadLine(Why(17), 1)
     records = []
     for number, line in enumerate(lines[1:], 2):
         try:
             records.append(record_of(line, records))
         except Refusal as r:
-            raise BadLine(r.number, number) from None
+            raise BadLine(r.why, number) from None
     if rest:
-        raise BadLine(17, len(lines) + 1)
+        raise BadLine(Why(17), len(lines) + 1)
     return tuple(records)
 
 

@@ -69,7 +69,7 @@ class Machine:
         if event[0] == "body":
             return REFUSED if refusal_of(event[1]) else READ
         if event[0] == "refused":
-            return STRING_REFUSED if event[1] == 1 else REFUSED
+            return STRING_REFUSED if event[1].number == 1 else REFUSED
         return ENDS
 
     def feed(self, state, data):

@@ -15,5 +15,11 @@ ROWS = (
 OCTETS = re.compile(b"(?:" + b"|".join(ROWS) + b")*", re.DOTALL)
 
 
+def good(data):
+    """02, Job 5: "how many leading bytes form whole characters: the largest such number". No character's octets begin another's, so
+    that the characters are found one after the other."""
+    return OCTETS.match(data).end()
+
+
 def is_utf8(data):
-    return OCTETS.fullmatch(data) is not None
+    return good(data) == len(data)

@@ -2,7 +2,8 @@
 //!
 //! States, tables, streams, definitions to be read and written, listings, packets, saved mirrors and orders, with bytes changed, left out or
 //! put in, each in a heap allocation of exactly its size, so that valgrind sees an access past the end. Every answer must be a value or a refusal that its
-//! call may give, and a refused call must have changed nothing. Ends with the totals; status 1 at the first fault.
+//! call may give, with the good of a string where Rust's own test has it, and a refused call must have changed nothing. Ends with the totals; status 1
+//! at the first fault.
 use std::process::exit;
 use whistleloam::raw;
 use whistleloam::{Decoder, Definition, Details, Mirror, Refusal, Value, BODY_LIMIT, PLACE_WIDTH, STATE_SIZE};
@@ -71,6 +72,12 @@ impl Totals {
         true
     }
 
+    /// The same of a status with a good beside it: 0, but with 1 and 5 less than the bytes of the longest string.
+    fn with_good(&mut self, call: &str, (status, good): (i32, u16), may: &[u8]) -> bool {
+        must(call, good <= if matches!(status, -1 | -5) { 255 } else { 0 });
+        self.note(call, status, may)
+    }
+
     fn of<T>(&mut self, call: &str, answer: Result<T, Refusal>, may: &[u8]) -> Option<T> {
         let status = answer.as_ref().map_or_else(|why| -i32::from(why.number()), |_| 0);
         self.note(call, status, may);
@@ -87,6 +94,11 @@ fn must(call: &str, good: bool) {
     if !good {
         fault(call, "a refused call changed what was lent, or an answer is out of bounds");
     }
+}
+
+/// How many leading bytes form whole characters, by Rust's own test.
+fn good_of(bytes: &[u8]) -> usize {
+    std::str::from_utf8(bytes).map_or_else(|e| e.valid_up_to(), str::len)
 }
 
 struct Pool {
@@ -167,7 +179,7 @@ impl Pool {
         let mut out = vec![0xaa; BODY_LIMIT - usize::from(self.dice.one_in(4))].into_boxed_slice();
         let unsound = self.totals.note("state_check", raw::state_check(&state), &[8]);
         let got = raw::next(&mut state, &bytes, &mut out);
-        if self.totals.note("next", got.status, &[8, 9, 1, 2, 3]) && got.status < -3 {
+        if self.totals.with_good("next", (got.status, got.good), &[8, 9, 1, 2, 3]) && got.status < -3 {
             must("next", state == before && out.iter().all(|b| *b == 0xaa) && got.taken == 0);
         }
         must("next", got.taken <= bytes.len() && usize::from(got.len) <= out.len());
@@ -192,7 +204,7 @@ impl Pool {
         }
         let mut out = vec![0xaa; STATE_SIZE - usize::from(self.dice.one_in(8))].into_boxed_slice();
         let over = raw::state_carry_over(&state, &mut out);
-        if self.totals.note("state_carry_over", over.status, &[8, 9]) {
+        if self.totals.with_good("state_carry_over", (over.status, over.good), &[8, 9]) {
             must("state_carry_over", out.iter().all(|b| *b == 0xaa) && over.len == 0);
         } else {
             must("state_carry_over", over.len == STATE_SIZE && out[1..] == state[1..] && raw::state_check(&out) == 0);
@@ -227,11 +239,11 @@ impl Pool {
         self.totals.note("same", same, &[7]);
         let mut out = vec![0xaa; self.dice.below(1500)].into_boxed_slice();
         let sent = raw::recall(&table, count, &mut out);
-        if self.totals.note("recall", sent.status, &[7, 9]) {
+        if self.totals.with_good("recall", (sent.status, sent.good), &[7, 9]) {
             must("recall", out.iter().all(|b| *b == 0xaa));
         }
         let printed = raw::print(&table, count, &mut out[sent.len..]);
-        if self.totals.note("print", printed.status, &[7, 9]) {
+        if self.totals.with_good("print", (printed.status, printed.good), &[7, 9]) {
             must("print", out[sent.len..].iter().all(|b| *b == 0xaa));
         }
         for status in [looked.status, read.status, same, sent.status, printed.status] {
@@ -254,7 +266,8 @@ impl Pool {
             1 => raw::set_float(table, count, &mut out, id, bits),
             _ => raw::set_string(table, count, &mut out, id, &value),
         };
-        if self.totals.note("set", set.status, &[7, 10, 1, 6, 9]) {
+        must("set", set.status != -1 || usize::from(set.good) == good_of(&value));
+        if self.totals.with_good("set", (set.status, set.good), &[7, 10, 1, 6, 9]) {
             must("set", *table == before[..] && out.iter().all(|b| *b == 0xaa) && set.count == count);
         } else {
             self.totals.note("table_check after a set", raw::table_check(table, set.count), &[]);
@@ -289,11 +302,15 @@ impl Pool {
         }
         let at = if self.dice.one_in(4) { usize::MAX - self.dice.below(9) } else { self.dice.below(60) };
         let step = raw::item_step(&body, at, self.dice.below(4) as u16, self.dice.below(9) as u8);
-        self.totals.note("item_step", step.item.status, &[4, 5]);
         let (item, len) = (step.item, body.len());
+        self.totals.with_good("item_step", (item.status, item.good), &[4, 5]);
         must("item_step", item.start + item.len as usize <= len && item.long_start + item.long_len as usize <= len);
-        self.totals.note("items_begin", raw::items_begin(&body).status, &[4, 5]);
-        self.totals.note("item", raw::item(&body, number).status, &[4, 5, 14]);
+        let (read, begun, item) = (raw::definition(&body), raw::items_begin(&body), raw::item(&body, number));
+        self.totals.with_good("items_begin", (begun.status, begun.good), &[4, 5]);
+        self.totals.with_good("item", (item.status, item.good), &[4, 5, 14]);
+        // Every call over a refused body answers what the parser does.
+        must("items_begin", (begun.status, begun.good) == (read.status, read.good));
+        must("item", read.status == 0 || (item.status, item.good) == (read.status, read.good));
     }
 
     /// Numbers that go together, or one of them changed.
@@ -334,16 +351,20 @@ impl Pool {
         let (long_name, items) = (self.dice.bytes(8).into_boxed_slice(), self.dice.damage(good.item_bytes(), true));
         let mut out = vec![0xaa; self.dice.below(400)].into_boxed_slice();
         let got = raw::write_definition(fields, &name, &long_name, &items, &mut out);
-        let refused = self.totals.note("write_definition", got.status, &[15, 16, 5, 2, 9]);
+        let refused = self.totals.with_good("write_definition", (got.status, got.good), &[15, 16, 5, 2, 9]);
+        // The name is good: where the long name is not, it comes before the items.
+        let broken = got.status == -5 && good_of(&long_name) < long_name.len();
+        must("write_definition", !broken || usize::from(got.good) == good_of(&long_name));
         must("write_definition", out[got.len..].iter().all(|b| *b == 0xaa) && (got.len == 0) == refused);
         let mut again = vec![0xaa; out.len()].into_boxed_slice();
         let anew = raw::write_anew(&out[..got.len], &mut again);
-        if !self.totals.note("write_anew", anew.status, if refused { &[4] } else { &[] }) {
+        if !self.totals.with_good("write_anew", (anew.status, anew.good), if refused { &[4] } else { &[] }) {
             must("write_anew", again == out && anew.len == got.len);
         }
         let body = self.dice.damage(good.body(), true);
-        let anew = raw::write_anew(&body, &mut again);
-        self.totals.note("write_anew", anew.status, &[4, 5, 9]);
+        let (anew, read) = (raw::write_anew(&body, &mut again), raw::definition(&body));
+        self.totals.with_good("write_anew", (anew.status, anew.good), &[4, 5, 9]);
+        must("write_anew", read.status == 0 || (anew.status, anew.good) == (read.status, read.good));
     }
 
     /// Lines doubled, left out or put elsewhere, and bytes changed; into a table that may hold anything. What is loaded is printed again.
@@ -372,7 +393,7 @@ impl Pool {
         let before = vec![self.dice.byte(); size].into_boxed_slice();
         let mut table = before.clone();
         let loaded = raw::load(&text, &mut table);
-        if self.totals.note("load", loaded.status, &[7, 14, 17, 18, 10, 1, 6]) {
+        if self.totals.with_good("load", (loaded.status, loaded.good), &[7, 14, 17, 18, 10, 1, 6]) {
             must("load", table == before && loaded.count == 0 && loaded.line <= lines.len() + 3);
             return;
         }
@@ -410,19 +431,22 @@ impl Pool {
         let mut out = vec![0xaa; self.dice.below(420)].into_boxed_slice();
         let id = self.dice.below(1 << 31) as i32;
         let last = if self.dice.one_in(8) { 65535 } else { self.dice.below(65536) as u16 };
-        let statuses = [
-            (raw::order_string(&mut out, id, &text).status, &[10, 1, 9][..]),
-            (raw::order_int(&mut out, -id, id).status, &[9]),
-            (raw::order_float(&mut out, id, id as u32).status, &[9]),
-            (raw::request_node_definition(&mut out, id).status, &[9]),
-            (raw::request_node_data(&mut out, -id).status, &[9]),
-            (raw::request_meter(&mut out, &pairs, last, last).status, &[11, 12, 9]),
-            (raw::keep_alive_meters(&mut out, last, last % 40).status, &[9]),
+        let order = raw::order_string(&mut out, id, &text);
+        must("order_string", order.status != -1 || usize::from(order.good) == good_of(&text));
+        let written = [
+            (order, &[10, 1, 9][..]),
+            (raw::order_int(&mut out, -id, id), &[9]),
+            (raw::order_float(&mut out, id, id as u32), &[9]),
+            (raw::request_node_definition(&mut out, id), &[9]),
+            (raw::request_node_data(&mut out, -id), &[9]),
+            (raw::keep_alive_meters(&mut out, last, last % 40), &[9]),
         ];
-        for (status, may) in statuses {
-            self.totals.note("orders", status, may);
+        for (got, may) in written {
+            self.totals.with_good("orders", (got.status, got.good), may);
         }
+        self.totals.note("request_meter", raw::request_meter(&mut out, &pairs, last, last).status, &[11, 12, 9]);
         must("is_utf8", raw::is_utf8(&text) == std::str::from_utf8(&text).is_ok());
+        must("utf8_good", raw::utf8_good(&text) == good_of(&text));
         if let Ok(text) = std::str::from_utf8(&text) {
             let mut mirror = self.mirrors[0].clone();
             self.totals.of("set", mirror.set(id, Value::from(text)), &[10, 6]);

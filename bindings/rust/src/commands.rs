@@ -6,7 +6,7 @@ use crate::{Refusal, KEEP_ALIVE_MAX, METER_REQUEST_MAX, READINGS_MAX, REQUEST_MA
 fn bytes(most: usize, call: impl FnOnce(&mut [u8]) -> WingWritten) -> Result<Vec<u8>, Refusal> {
     let mut out = vec![0; most];
     let written = call(&mut out);
-    Refusal::check(written.status)?;
+    Refusal::check_with(written.status, written.good)?;
     out.truncate(written.len);
     Ok(out)
 }
@@ -149,4 +149,15 @@ pub fn read_meters(packet: &[u8]) -> Result<(u16, Vec<i16>), Refusal> {
 /// Whether the bytes are UTF-8 (RFC 3629).
 pub fn is_utf8(bytes: &[u8]) -> bool {
     raw::is_utf8(bytes)
+}
+
+/// How many leading bytes form whole characters: the largest such number. It is the length exactly if [`is_utf8`] says so.
+///
+/// ```
+/// let name = b"B\xc3\xbchne \xe2\x82";
+/// assert_eq!(whistleloam::utf8_good(name), 7);
+/// assert_eq!(std::str::from_utf8(&name[..7]), Ok("B\u{fc}hne "));
+/// ```
+pub fn utf8_good(bytes: &[u8]) -> usize {
+    raw::utf8_good(bytes)
 }

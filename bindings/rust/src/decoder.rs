@@ -50,8 +50,8 @@ impl Decoder {
     /// taken. Go on with the bytes that were not taken.
     ///
     /// Refusals 1 to 5 say what the bytes held: a string or definition that cannot be read. It is taken like an event,
-    /// and the reading goes on after it; with 4 and 5, which say that a body is no definition, [`handed`](Decoder::handed)
-    /// has the body. Refused: 14, over 65,536 bytes, which takes nothing.
+    /// and the reading goes on after it; 1 and 5 say how much of the string is good; with 4 and 5, which say that a body is no
+    /// definition, [`handed`](Decoder::handed) has the body. Refused: 14, over 65,536 bytes, which takes nothing.
     pub fn next(&mut self, bytes: &[u8]) -> (Result<Option<Event>, Refusal>, usize) {
         let got = raw::next(&mut self.state, bytes, &mut self.out);
         self.handed = BODY_LIMIT.min(got.len.into());
@@ -76,7 +76,7 @@ impl Decoder {
     }
 
     fn event(&self, got: raw::WingEvent) -> Result<Option<Event>, Refusal> {
-        if Refusal::check(got.status)? == 0 {
+        if Refusal::check_with(got.status, got.good)? == 0 {
             return Ok(None);
         }
         Ok(Some(match got.kind {
@@ -172,7 +172,7 @@ impl Iterator for Events<'_> {
                 Ok(Some(event)) => return Some(Ok(event)),
                 Err(why) => {
                     // Another than 1 to 5 takes nothing and would come for ever. None does: the state is the decoder's own.
-                    self.ended = why > Refusal::DEFINITION_STRING;
+                    self.ended = why.number() > 5;
                     return Some(Err(why));
                 }
                 Ok(None) => self.ended = self.bytes.is_empty(),

@@ -142,11 +142,12 @@ pub struct Definition {
 fn text(body: &[u8], start: usize, len: u32) -> Result<String, Refusal> {
     let bytes = body.get(start..).and_then(|rest| rest.get(..len as usize));
     let bytes = bytes.ok_or(Refusal::DEFINITION_SHORT)?;
-    String::from_utf8(bytes.to_vec()).map_err(|_| Refusal::DEFINITION_STRING)
+    let text = std::str::from_utf8(bytes).map_err(|e| Refusal::DefinitionNotUtf8 { good: e.valid_up_to() })?;
+    Ok(text.to_string())
 }
 
 fn item_of(body: &[u8], item: raw::WingItem) -> Result<Option<Item>, Refusal> {
-    if Refusal::check(item.status)? == 0 {
+    if Refusal::check_with(item.status, item.good)? == 0 {
         return Ok(None);
     }
     let long_item = text(body, item.long_start, item.long_len)?;
@@ -157,10 +158,10 @@ fn item_of(body: &[u8], item: raw::WingItem) -> Result<Option<Item>, Refusal> {
 }
 
 impl Definition {
-    /// The definition of a body. Refused: 4, 5, by the first field that fails.
+    /// The definition of a body. Refused: 4, or 5 with what is good of the string, by the first field that fails.
     pub fn from_bytes(body: &[u8]) -> Result<Definition, Refusal> {
         let fields = raw::definition(body);
-        Refusal::check(fields.status)?;
+        Refusal::check_with(fields.status, fields.good)?;
         Ok(Definition {
             name: text(body, fields.name_start, fields.name_len)?,
             long_name: text(body, fields.long_name_start, fields.long_name_len)?,

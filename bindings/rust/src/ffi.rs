@@ -3,7 +3,9 @@
 //! [`Mirror`](crate::Mirror), [`Decoder`](crate::Decoder) and the rest of this crate are made of these. They are for a
 //! box that keeps its memory itself: whatever the slices hold, a call answers or refuses, and a refused one has changed
 //! nothing, but for [`next`]'s 1 to 3. A status is 0 (1 where that is said) or a refusal's number with a minus sign
-//! ([`Refusal::check`](crate::Refusal::check) tells them apart). `include/wing.h` says the same for C.
+//! ([`Refusal::check`](crate::Refusal::check) tells them apart). Where a call can answer 1 or 5, a string that is not UTF-8,
+//! `good` stands after the status: how many leading bytes of that string form whole characters, and 0 with every other
+//! status ([`Refusal::check_with`](crate::Refusal::check_with) takes both). `include/wing.h` says the same for C.
 //!
 //! This is the crate's only file with `unsafe` in it. Each function hands over slices as a pointer and a length; Rust's
 //! borrows say that the memory is there, that it is initialised, and that what is written is borrowed by nobody else.
@@ -15,6 +17,8 @@
 pub struct WingWritten {
     /// 0, or a refusal.
     pub status: i32,
+    /// With -1 and -5: how many leading bytes of the string form whole characters; else 0.
+    pub good: u16,
     /// How many bytes stand at the front of the output; those after them are as they were.
     pub len: usize,
 }
@@ -25,6 +29,8 @@ pub struct WingWritten {
 pub struct WingSet {
     /// 0, or a refusal.
     pub status: i32,
+    /// With -1: how many leading bytes of the string form whole characters; else 0.
+    pub good: u16,
     /// How many bytes of the output to send.
     pub len: usize,
     /// The records there are now; refused: as it was lent.
@@ -87,6 +93,8 @@ pub struct WingRecord {
 pub struct WingEvent {
     /// 1 an event, 0 more bytes are wanted, or a refusal.
     pub status: i32,
+    /// With -1: how many leading bytes of the string form whole characters; else 0.
+    pub good: u16,
     /// The current node, to which a value belongs; 0 with refusal 8.
     pub node: i32,
     /// The 32 bits of an integer or a float; else 0.
@@ -105,6 +113,8 @@ pub struct WingEvent {
 pub struct WingLoaded {
     /// 0, or a refusal.
     pub status: i32,
+    /// With -1: how many leading bytes of the line's string form whole characters; else 0.
+    pub good: u16,
     /// The records there are now; refused: 0, and the table's own count stays.
     pub count: usize,
     /// Refused: the number of the line that decided, 1 is the header; 0 with 7, 14 and 6, and where the status is 0.
@@ -141,6 +151,8 @@ pub struct WingMeters {
 pub struct WingDefinition {
     /// 0, or a refusal.
     pub status: i32,
+    /// With -5: how many leading bytes of the string form whole characters; else 0.
+    pub good: u16,
     /// The node above.
     pub parent_id: i32,
     /// The node.
@@ -181,6 +193,8 @@ pub struct WingDefinition {
 pub struct WingWalk {
     /// 0, or a refusal.
     pub status: i32,
+    /// With -5: how many leading bytes of the string form whole characters; else 0.
+    pub good: u16,
     /// The items left.
     pub left: u16,
     /// The type.
@@ -195,6 +209,8 @@ pub struct WingWalk {
 pub struct WingItem {
     /// 1 an item, 0 none, or a refusal.
     pub status: i32,
+    /// With -5: how many leading bytes of the string form whole characters; else 0.
+    pub good: u16,
     /// 0 two strings, 1 float bits and a string.
     pub kind: u8,
     /// The float's bits; else 0.
@@ -215,7 +231,7 @@ pub struct WingItem {
 pub struct WingStep {
     /// The item there.
     pub item: WingItem,
-    /// The walk after it; where the item is a refusal, the walk as it was. Its status is always 0.
+    /// The walk after it; where the item is a refusal, the walk as it was. Its status and good are always 0.
     pub walk: WingWalk,
 }
 
@@ -364,6 +380,7 @@ mod library {
         pub fn wing_keep_alive_meters(out: *mut u8, out_len: usize, port: u16, last_id: u16) -> WingWritten;
         pub fn wing_read_meters(packet: *const u8, packet_len: usize, out: *mut i16, out_len: usize) -> WingMeters;
         pub fn wing_is_utf8(s: *const u8, s_len: usize) -> bool;
+        pub fn wing_utf8_good(s: *const u8, s_len: usize) -> usize;
     }
 }
 
@@ -403,8 +420,8 @@ pub fn state_carry_over(earlier: &[u8], state: &mut [u8]) -> WingWritten {
 /// it again with the bytes from `taken` on until the status is 0 (all bytes are taken then); a call
 /// with no bytes can give an event too. Status 1 is an event.
 ///
-/// Refused: 8, 14, 9, which leave all as it was. 1, 2 and 3 say what the bytes held: the token is
-/// taken, the node stays, go on.
+/// Refused: 8, 14, 9, which leave all as it was. 1 (with the good), 2 and 3 say what the bytes held:
+/// the token is taken, the node stays, go on.
 pub fn next(state: &mut [u8], bytes: &[u8], out: &mut [u8]) -> WingEvent {
     // SAFETY: `state` and `out` are borrowed for this call alone; `bytes` is borrowed and only
     // read. The call stays within the lengths and keeps no address.
@@ -465,7 +482,7 @@ pub fn set_float(table: &mut [u8], count: usize, out: &mut [u8], id: i32, bits: 
 /// The same for a string of at most 256 bytes, in UTF-8 (an order of at most
 /// 395 bytes). Lent to be read: value; to be written: table, out.
 ///
-/// Refused: 7, 10, 1, 6, 9.
+/// Refused: 7, 10, 1 (with the good), 6, 9.
 pub fn set_string(table: &mut [u8], count: usize, out: &mut [u8], id: i32, value: &[u8]) -> WingSet {
     // SAFETY: `table` and `out` are borrowed for this call alone; `value` is borrowed and only
     // read. The call stays within the lengths and keeps no address.
@@ -537,7 +554,7 @@ pub fn print(table: &[u8], count: usize, out: &mut [u8]) -> WingWritten {
 /// records stay as they were. Go on with the count that comes back and with a fresh decoder state ([`state_fresh`]).
 /// Printed, the table gives the text again. Lent to be read: text; to be written: table.
 ///
-/// Refused: 7 (by the places alone), 14; then by the first bad line 17, 18, 10, 1; then 6.
+/// Refused: 7 (by the places alone), 14; then by the first bad line 17, 18, 10, 1 (with the good); then 6.
 pub fn load(text: &[u8], table: &mut [u8]) -> WingLoaded {
     // SAFETY: `table` is borrowed for this call alone; `text` is borrowed and only read. The call
     // stays within the lengths and keeps no address.
@@ -546,7 +563,7 @@ pub fn load(text: &[u8], table: &mut [u8]) -> WingLoaded {
 
 /// The fields of a definition's body, and where its names stand in it. Lent to be read: body.
 ///
-/// Refused: 4, 5, by the first field that fails.
+/// Refused: 4, 5 (with the good), by the first field that fails.
 pub fn definition(body: &[u8]) -> WingDefinition {
     // SAFETY: `body` is borrowed and only read. The call stays within the lengths and keeps no
     // address. `read_only` is a bool of proved code, which sets its byte to 0 or 1.
@@ -556,7 +573,7 @@ pub fn definition(body: &[u8]) -> WingDefinition {
 /// A walk over the body's items, at the first one; a type without items has none left. Lent to be
 /// read: body.
 ///
-/// Refused: 4, 5.
+/// Refused: 4, 5 (with the good).
 pub fn items_begin(body: &[u8]) -> WingWalk {
     // SAFETY: `body` is borrowed and only read. The call stays within the lengths and keeps no
     // address.
@@ -567,7 +584,7 @@ pub fn items_begin(body: &[u8]) -> WingWalk {
 /// be read: body; at, left and node_type are those of the walk. Whatever they are, the call stays
 /// within the body; a type over 7 counts as type 0.
 ///
-/// Refused (the item's status): 4, 5.
+/// Refused (the item's status): 4, 5 (with the item's good).
 pub fn item_step(body: &[u8], at: usize, left: u16, node_type: u8) -> WingStep {
     // SAFETY: `body` is borrowed and only read. The call stays within the lengths and keeps no
     // address.
@@ -576,7 +593,7 @@ pub fn item_step(body: &[u8], at: usize, left: u16, node_type: u8) -> WingStep {
 
 /// An item by its number, from 0 (status 1). Lent to be read: body.
 ///
-/// Refused: 4, 5, 14.
+/// Refused: 4, 5 (with the good), 14.
 pub fn item(body: &[u8], number: usize) -> WingItem {
     // SAFETY: `body` is borrowed and only read. The call stays within the lengths and keeps no
     // address.
@@ -588,7 +605,7 @@ pub fn item(body: &[u8], number: usize) -> WingItem {
 /// four bytes of a float and a string (6), and a string is its length in one byte and its bytes. All strings are
 /// in UTF-8. Lent to be written: out.
 ///
-/// Refused: 15, 16, 5, 2, 9.
+/// Refused: 15, 16, 5 (with the good of the first that is not: name, long name, items in order), 2, 9.
 pub fn write_definition(
     fields: WingFields,
     name: &[u8],
@@ -617,7 +634,7 @@ pub fn write_definition(
 /// unit in the flags are below 8 each, the flags' unused bits are 0 and nothing follows the last field. Lent to be
 /// read: body; to be written: out.
 ///
-/// Refused: 4, 5, 2, 9.
+/// Refused: 4, 5 (with the good), 2, 9.
 pub fn write_anew(body: &[u8], out: &mut [u8]) -> WingWritten {
     // SAFETY: `out` is borrowed for this call alone; `body` is borrowed and only read. The call stays
     // within the lengths and keeps no address.
@@ -645,7 +662,7 @@ pub fn order_float(out: &mut [u8], id: i32, bits: u32) -> WingWritten {
 /// The same for a string (at most 395 bytes). Lent to be read: value; to be written:
 /// out.
 ///
-/// Refused: 10, 1, 9.
+/// Refused: 10, 1 (with the good), 9.
 pub fn order_string(out: &mut [u8], id: i32, value: &[u8]) -> WingWritten {
     // SAFETY: `out` is borrowed for this call alone; `value` is borrowed and only read. The call
     // stays within the lengths and keeps no address.
@@ -708,4 +725,12 @@ pub fn is_utf8(s: &[u8]) -> bool {
     // SAFETY: `s` is borrowed and only read. The call stays within the lengths and keeps no
     // address. What comes back is a bool of proved code, a byte 0 or 1.
     unsafe { library::wing_is_utf8(s.as_ptr(), s.len()) }
+}
+
+/// How many leading bytes form whole characters: the largest such number, and all of them exactly if [`is_utf8`] says
+/// so. Lent to be read: s, of any length. Never refused.
+pub fn utf8_good(s: &[u8]) -> usize {
+    // SAFETY: `s` is borrowed and only read. The call stays within the lengths and keeps no
+    // address.
+    unsafe { library::wing_utf8_good(s.as_ptr(), s.len()) }
 }

@@ -73,7 +73,7 @@ impl Fields {
 
     /// The body. The items are given as they stand in one, in the number of the details: each has two strings
     /// ([`NodeType::StringEnum`]), or the four bytes of a float and a string ([`NodeType::FloatEnum`]), and a
-    /// string is its length in one byte and its bytes. Refused: 15, 16, 5 (an item's string), 2.
+    /// string is its length in one byte and its bytes. Refused: 15, 16, 5 (an item's string, with what is good of it), 2.
     pub fn to_bytes(&self, name: &str, long_name: &str, items: &[u8]) -> Result<Vec<u8>, Refusal> {
         let mut out = vec![0; BODY_LIMIT];
         let len = self.write_into(name, long_name, items, &mut out)?;
@@ -85,7 +85,7 @@ impl Fields {
     /// 16, 5, 2, 9; the output is as it was then.
     pub fn write_into(&self, name: &str, long_name: &str, items: &[u8], out: &mut [u8]) -> Result<usize, Refusal> {
         let written = raw::write_definition(self.numbers(), name.as_bytes(), long_name.as_bytes(), items, out);
-        Refusal::check(written.status)?;
+        Refusal::check_with(written.status, written.good)?;
         Ok(written.len)
     }
 }
@@ -109,7 +109,7 @@ impl Definition {
     pub fn to_bytes(&self) -> Result<Vec<u8>, Refusal> {
         let mut out = vec![0; BODY_LIMIT];
         let written = raw::write_anew(self.body(), &mut out);
-        Refusal::check(written.status)?;
+        Refusal::check_with(written.status, written.good)?;
         out.truncate(written.len);
         Ok(out)
     }

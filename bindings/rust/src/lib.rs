@@ -35,7 +35,8 @@
 //! calls over your own buffers.
 //!
 //! No call panics, whatever the bytes. A call that cannot be done answers a [`Refusal`] and has changed nothing. A
-//! [`Decoder`]'s refusals 1 to 5 are of another sort: they say what the console sent, which is taken like an event.
+//! [`Decoder`]'s refusals 1 to 5 are of another sort: they say what the console sent, which is taken like an event. Where it is
+//! a string that is not UTF-8, the refusal says how many leading bytes can be shown; [`utf8_good`] says it of any bytes.
 #![deny(unsafe_code)]
 #![deny(missing_docs)]
 
@@ -51,7 +52,7 @@ mod value;
 
 pub use commands::{
     is_utf8, keep_alive_meters, read_meters, request_meter, request_node_data, request_node_definition, set_float,
-    set_int, set_string, Meter,
+    set_int, set_string, utf8_good, Meter,
 };
 pub use decoder::{Decoder, Event, Events};
 pub use definition::{Definition, Details, Item, Items, NodeType, NodeUnit};

@@ -51,12 +51,18 @@ fn lay_fresh(state: &mut [u8]) {
 /// A state of version 1 as today's.
 pub(crate) fn carried_state(saved: &[u8]) -> Result<Box<[u8]>, Refusal> {
     let mut state = vec![0; STATE_SIZE].into_boxed_slice();
-    Refusal::check(raw::state_carry_over(saved, &mut state).status)?;
+    let over = raw::state_carry_over(saved, &mut state);
+    Refusal::check_with(over.status, over.good)?;
     Ok(state)
 }
 
 /// The bytes of a listing's header.
 const HEADER: usize = 14;
+
+/// The library has tested the bytes; Rust's own test stands in for `unsafe`.
+fn text_of(bytes: &[u8]) -> Result<&str, Refusal> {
+    std::str::from_utf8(bytes).map_err(|e| Refusal::StringNotUtf8 { good: e.valid_up_to() })
+}
 
 /// The value of a kind 0 to 2; a string's bytes stand at the front of `text`.
 pub(crate) fn value_of(kind: u8, bits: u32, len: u16, text: &[u8]) -> Result<Value, Refusal> {
@@ -64,10 +70,8 @@ pub(crate) fn value_of(kind: u8, bits: u32, len: u16, text: &[u8]) -> Result<Val
         0 => Ok(Value::Int(bits as i32)),
         1 => Ok(Value::Float(bits)),
         _ => {
-            // The library has tested the bytes; Rust's own test stands in for `unsafe`.
             let bytes = text.get(..usize::from(len)).ok_or(Refusal::STRING_LONG)?;
-            let text = std::str::from_utf8(bytes).map_err(|_| Refusal::STRING)?;
-            Ok(Value::from(text))
+            Ok(Value::from(text_of(bytes)?))
         }
     }
 }
@@ -123,7 +127,7 @@ impl Mirror {
             Value::Float(bits) => raw::set_float(table, self.count, out, id, *bits),
             Value::String(s) => raw::set_string(table, self.count, out, id, s.as_bytes()),
         };
-        Refusal::check(set.status)?;
+        Refusal::check_with(set.status, set.good)?;
         self.count = set.count;
         Ok(set.len)
     }
@@ -139,7 +143,7 @@ impl Mirror {
     /// The same into an output of yours, of 2 bytes and up to 395 for each record. It allocates nothing. Refused: 9.
     pub fn recall_into(&self, out: &mut [u8]) -> Result<usize, Refusal> {
         let written = raw::recall(&self.table, self.count, out);
-        Refusal::check(written.status)?;
+        Refusal::check_with(written.status, written.good)?;
         Ok(written.len)
     }
 
@@ -171,14 +175,14 @@ impl Mirror {
         let len = self.print_into(&mut out)?;
         out.truncate(len);
         // The library writes ASCII; Rust's own test stands in for `unsafe`.
-        String::from_utf8(out).map_err(|_| Refusal::STRING)
+        String::from_utf8(out).map_err(|e| Refusal::StringNotUtf8 { good: e.utf8_error().valid_up_to() })
     }
 
     /// The same into an output of yours, of 14 bytes and up to 527 for each record; how many bytes of it the listing has.
     /// It allocates nothing. Refused: 9.
     pub fn print_into(&self, out: &mut [u8]) -> Result<usize, Refusal> {
         let written = raw::print(&self.table, self.count, out);
-        Refusal::check(written.status)?;
+        Refusal::check_with(written.status, written.good)?;
         Ok(written.len)
     }
 
@@ -186,7 +190,8 @@ impl Mirror {
     /// were here, and the decoder is a fresh one. How many records there are. It allocates nothing.
     ///
     /// A text that is refused changes nothing, and says which line decided. Refused: 14; then by the first bad line 17, a
-    /// header or line out of form, 18, an id not above the one before, 10, 1; then 6, more records than places.
+    /// header or line out of form, 18, an id not above the one before, 10, 1 with what is good of the string; then 6, more
+    /// records than places.
     pub fn load(&mut self, text: impl AsRef<[u8]>) -> Result<usize, LoadRefusal> {
         let loaded = raw::load(text.as_ref(), &mut self.table);
         LoadRefusal::check(&loaded)?;

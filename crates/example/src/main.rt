@@ -7,6 +7,7 @@ use wing_mirror::feed::feed;
 use wing_mirror::query;
 use wing_mirror::recall::recall;
 use wing_mirror::set;
+use wing_node::refusal::number;
 use wing_wire::state::State;
 use wing_wire::write::Written;
 
@@ -29,7 +30,7 @@ fn said(w: Written) -> usize {
             n
         }
         Written::Refused(why) => {
-            line(b"refused: ", why as u64);
+            line(b"refused: ", number(why) as u64);
             0
         }
     }

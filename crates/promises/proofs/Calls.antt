@@ -9,6 +9,8 @@ use borrow.Author.Tests.{ltb-true, leb-true, eq-eqb, ne-eqb}
 use lib.Dec.{ltb, leb}
 use lib.IntN.{ℤ}
 use lib.ListN.{length, drop, getD}
+use Rattle.wing_node.proofs.Refusals.{reason}
+use Rattle.wing_node.specs.Refusal.{refusalNumber, alone, stringNotUtf8}
 use Rattle.wing_node.specs.Bool.{if}
 use Rattle.wing_node.specs.Result.{Result, ok, refused}
 use Rattle.wing_node.specs.Signed.{InBits}
@@ -31,7 +33,7 @@ use Rattle.wing_mirror.specs.Record.{entryIn, full}
 use Rattle.wing_mirror.specs.Table.{rows, usable, put, fits, lookupOf}
 use Rattle.wing_mirror.specs.Query.{answerOf, lookupAnswer, readOf, refusedRecord, recordAnswer, sameTables, sameAnswer}
 use Rattle.wing_mirror.specs.Answers.{lookupResult, entryResult, recordResult, sameResult, feedResult}
-use Rattle.wing_mirror.specs.Call.{tooLong, notText}
+use Rattle.wing_mirror.specs.Call.{textIn, tooLong, notText}
 use Rattle.wing_mirror.specs.Counts.{zeroCounts}
 use Rattle.wing_mirror.specs.Mirror.{FeedEffect, fedAll, takenFeed, mirrorFeed, lentFeed, SetEffect, mirrorSet}
 use Rattle.wing_mirror.specs.Recall.{recallBytes, recallOf}
@@ -57,9 +59,9 @@ pub feed-call : (s : State) (t : Table) (bytes : List ℕ) →
     FeedCall (mirror s t) bytes (x .answer) (x .counts) (mirror (x .state) (x .table))
 unfolding mirrorFeed mirrorStep feedResult
 feed-call s t bytes = record {
-  answered = unless feeds W counts (soundState s) 8 _ _ _ refl (refl, refl)
-      (unless feeds W counts (usable full t) 7 _ _ _ refl (refl, refl)
-      (unless feeds W counts (leb (length bytes) 65536) 14 _ _ _ refl (refl, refl) (taken feeds W counts (takenFeed (fedAll full s t bytes)) refl)));
+  answered = unless feeds W counts (soundState s) (alone 8) _ _ _ refl (refl, refl)
+      (unless feeds W counts (usable full t) (alone 7) _ _ _ refl (refl, refl)
+      (unless feeds W counts (leb (length bytes) 65536) (alone 14) _ _ _ refl (refl, refl) (taken feeds W counts (takenFeed (fedAll full s t bytes)) refl)));
   step = refl;
 }
   where
@@ -97,11 +99,11 @@ module _ (id : ℤ) (v : NodeValue) (t : Table) (out : List ℕ) where
   set-answered : Answers (setLines id v t out) bytes (writtenResult (mirrorSet full id v t out .answer) (mirrorSet full id v t out .out)) ((mirrorSet full id v t out .out ≡ out) × (mirrorSet full id v t out .table ≡ t))
   unfolding mirrorSet bytes writtenResult
   set-answered =
-      line sets W bytes (not (usable full t)) 7 _ _ _ refl (refl, refl)
-      (line sets W bytes (tooLong v) 10 _ _ _ refl (refl, refl)
-      (line sets W bytes (notText v) 1 _ _ _ refl (refl, refl)
-      (line sets W bytes (not (fits full (entry id v) t)) 6 _ _ _ refl (refl, refl)
-      (line sets W bytes (ltb (length out) (length bytes)) 9 _ _ _ refl (refl, refl) (taken sets W bytes (record { answer = Bytes (length bytes); out = bytes ++ drop (length bytes) out; table = put full (entry id v) t }) (ap ok (at-front bytes out)))))))
+      line sets W bytes (not (usable full t)) (alone 7) _ _ _ refl (refl, refl)
+      (line sets W bytes (tooLong v) (alone 10) _ _ _ refl (refl, refl)
+      (line sets W bytes (notText v) (stringNotUtf8 (textIn v)) _ _ _ refl (refl, refl)
+      (line sets W bytes (not (fits full (entry id v) t)) (alone 6) _ _ _ refl (refl, refl)
+      (line sets W bytes (ltb (length out) (length bytes)) (alone 9) _ _ _ refl (refl, refl) (taken sets W bytes (record { answer = Bytes (length bytes); out = bytes ++ drop (length bytes) out; table = put full (entry id v) t }) (ap ok (at-front bytes out)))))))
     where
       sets : SetEffect → Result (List ℕ)
       sets x = writtenResult (x .answer) (x .out)
@@ -135,7 +137,7 @@ pub recall-call : (t : Table) (out : List ℕ) → AreBytes (t .buffer) → Reca
 unfolding recallOf writtenResult
 recall-call t out b = record {
   writes = record {
-    answered = unless came W (recallBytes full t) (usable full t) 7 _ _ _ refl (refl, tt) (command-writes (recallBytes full t) out .answered);
+    answered = unless came W (recallBytes full t) (usable full t) (alone 7) _ _ _ refl (refl, tt) (command-writes (recallBytes full t) out .answered);
     rest = branch (λ (x : WriteEffect). (n : ℕ) → x .answer ≡ Bytes n → drop n (x .out) ≡ drop n out) (usable full t) _ _ (λ _. written-rest (recallBytes full t) out) (λ _ n e. refl);
   };
   rebuilds = unfold recallOf in histories full-laws .tables t b out;
@@ -158,7 +160,7 @@ record-14 : (t : Table) (number : ℕ) → usable full t ≡ true → ltb number
 unfolding recordAnswer
 record-14 t number p q = rw (p, q)
 
-refused-record-result : (t : Table) (number k : ℕ) → recordAnswer full t number ≡ refusedRecord k → recordResult (recordAnswer full t number) ≡ refused k
+refused-record-result : (t : Table) (number k : ℕ) → recordAnswer full t number ≡ refusedRecord k → recordResult (recordAnswer full t number) ≡ refused (alone k)
 unfolding entryResult
 refused-record-result t number k e = rw e
 
@@ -177,7 +179,7 @@ lookup-result : (t : Table) (id : ℤ) → lookupResult (lookupAnswer full t id)
 unfolding lookupAnswer answerOf lookupResult by
 lookup-result t id = go (usable full t) (lookupOf full id t)
   where
-    go : (a : Bool) (f : Found ℕ) → lookupResult (if a (answerOf f) (LookupRefused 7)) ≡ by ((not a gives 7) ∷ []) f
+    go : (a : Bool) (f : Found ℕ) → lookupResult (if a (answerOf f) (LookupRefused 7)) ≡ by ((not a gives alone 7) ∷ []) f
     go true (found k) = refl
     go true nothing = refl
     go false f = refl
@@ -189,27 +191,27 @@ record-result t number b = go (usable full t) refl (ltb number (t .count)) refl
     e : Entry
     e = entryIn (getD (rows full t) number [])
 
-    go : (u : Bool) → usable full t ≡ u → (l : Bool) → ltb number (t .count) ≡ l → recordResult (recordAnswer full t number) ≡ by ((not u gives 7) ∷ (not l gives 14) ∷ []) e
+    go : (u : Bool) → usable full t ≡ u → (l : Bool) → ltb number (t .count) ≡ l → recordResult (recordAnswer full t number) ≡ by ((not u gives alone 7) ∷ (not l gives alone 14) ∷ []) e
     go true p true q = read-row full-laws t b p number (ltb-true number (t .count) q)
     go true p false q = refused-record-result t number 14 (record-14 t number p q)
     go false p l q = refused-record-result t number 7 (record-7 t number p)
 
-record-zeros : (t : Table) (number n : ℕ) → recordResult (recordAnswer full t number) ≡ refused n → recordAnswer full t number ≡ refusedRecord n
+record-zeros : (t : Table) (number n : ℕ) → recordResult (recordAnswer full t number) ≡ refused (alone n) → recordAnswer full t number ≡ refusedRecord n
 unfolding recordAnswer entryResult readOf
 record-zeros t number n =
-    branch P (usable full t) _ _ (λ _. branch P (ltb number (t .count)) _ _ (λ _ e. absurd (given _ n e)) (λ _. of-refused 14)) (λ _. of-refused 7)
+    branch P (usable full t) _ _ (λ _. branch P (ltb number (t .count)) _ _ (λ _ e. absurd (given _ (alone n) e)) (λ _. of-refused 14)) (λ _. of-refused 7)
   where
     P : RecordRead → Type 0
-    P r = recordResult r ≡ refused n → r ≡ refusedRecord n
+    P r = recordResult r ≡ refused (alone n) → r ≡ refusedRecord n
 
     of-refused : (k : ℕ) → P (refusedRecord k)
-    of-refused k e = let z : k ≡ n = cc in rw z
+    of-refused k e = let z : k ≡ n = ap refusalNumber (ap (reason (alone n)) e) in rw z
 
 same-result : (t u : Table) → sameResult (sameAnswer full t u) ≡ by (sameLines t u) (sameTables full t u)
 unfolding sameAnswer sameResult by
 same-result t u = go (usable full t) (usable full u) (sameTables full t u)
   where
-    go : (a b c : Bool) → sameResult (if a (if b (if c Yes No) (SameRefused 7)) (SameRefused 7)) ≡ by ((not a gives 7) ∷ (not b gives 7) ∷ []) c
+    go : (a b c : Bool) → sameResult (if a (if b (if c Yes No) (SameRefused 7)) (SameRefused 7)) ≡ by ((not a gives alone 7) ∷ (not b gives alone 7) ∷ []) c
     go true true true = refl
     go true true false = refl
     go true false c = refl

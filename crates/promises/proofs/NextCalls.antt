@@ -7,6 +7,8 @@ use native.Mathlib.Omega.{arith}
 use borrow.Author.Tests.{leb-true}
 use lib.Dec.{leb}
 use lib.ListN.{length, take, length-take}
+use Rattle.wing_node.proofs.Refusals.{reason}
+use Rattle.wing_node.specs.Refusal.{refusalNumber, alone}
 use Rattle.wing_node.specs.Bool.{if}
 use Rattle.wing_node.specs.Result.{ok, refused}
 use Rattle.wing_node.proofs.Branches.{branch}
@@ -25,22 +27,22 @@ use Rattle.promises.specs.Lines.{_gives_, by, sends}
 use Rattle.promises.specs.Wire.{nextLines, withEvent, Beside, NextCall}
 use Rattle.promises.proofs.Reading.{advance-says, is-more, advance-stops}
 
-sent-back : (s : State) (bytes : List ℕ) (n : ℕ) → sends (nextLines s bytes) ≡ refused n → nextOf s bytes ≡ refusedNext n s
+sent-back : (s : State) (bytes : List ℕ) (n : ℕ) → sends (nextLines s bytes) ≡ refused (alone n) → nextOf s bytes ≡ refusedNext n s
 unfolding nextOf by
 sent-back s bytes n = go (soundState s) (leb (length bytes) 65536)
   where
-    go : (a b : Bool) → sends ((not a gives 8) ∷ (not b gives 14) ∷ []) ≡ refused n →
+    go : (a b : Bool) → sends ((not a gives alone 8) ∷ (not b gives alone 14) ∷ []) ≡ refused (alone n) →
         if a (if b (nextFrom (advanceOf (s .control) (s .store) bytes)) (refusedNext 14 s)) (refusedNext 8 s) ≡ refusedNext n s
     go true true e = absurd (let z : _≡_ {A = ℕ} 0 1 = cc in omega arith)
-    go true false e = let z : 14 ≡ n = cc in ap (λ k. refusedNext k s) z
-    go false b e = let z : 8 ≡ n = cc in ap (λ k. refusedNext k s) z
+    go true false e = let z : 14 ≡ n = ap refusalNumber (ap (reason (alone n)) e) in ap (λ k. refusedNext k s) z
+    go false b e = let z : 8 ≡ n = ap refusalNumber (ap (reason (alone n)) e) in ap (λ k. refusedNext k s) z
 
 -- where no line applies, the state is sound and the bytes are few enough
 passed : (s : State) (bytes : List ℕ) → length (s .store) ≡ bodyLimit → sends (nextLines s bytes) ≡ ok tt → Accepted s bytes
 unfolding by
 passed s bytes full = go (soundState s) refl (leb (length bytes) 65536) refl
   where
-    go : (a : Bool) → soundState s ≡ a → (b : Bool) → leb (length bytes) 65536 ≡ b → sends ((not a gives 8) ∷ (not b gives 14) ∷ []) ≡ ok tt → Accepted s bytes
+    go : (a : Bool) → soundState s ≡ a → (b : Bool) → leb (length bytes) 65536 ≡ b → sends ((not a gives alone 8) ∷ (not b gives alone 14) ∷ []) ≡ ok tt → Accepted s bytes
     go true p true q e = record { sound = p; store = full; most = leb-true (length bytes) 65536 q }
     go true p false q e = absurd (let z : _≡_ {A = ℕ} 0 1 = cc in omega arith)
     go false p b q e = absurd (let z : _≡_ {A = ℕ} 0 1 = cc in omega arith)

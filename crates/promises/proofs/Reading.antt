@@ -1,13 +1,16 @@
 -- The refusals that the decoder answers: 1, 2 and 3, each with the token taken.
 use Prim.Native.Nat.{ℕ, zero, suc, _+_, _-_, _%_, _<_}
 use mathlib.Core.Bool.{Bool, true, false}
-use mathlib.Core.Path.{_≡_, refl, ap}
+use mathlib.Core.Path.{_≡_, refl, ap, subst}
 use mathlib.Core.Logic.{inl, inr}
 use mathlib.Core.List.{List, [], _∷_}
 use native.Mathlib.Omega.{arith}
 use lib.Dec.{leb, eqb}
 use lib.IntN.{ℤ}
 use lib.ListN.{take, set}
+use Rattle.wing_node.specs.Refusal.{goodBeside, alone, stringNotUtf8}
+use Rattle.wing_node.specs.declared.refusal.Refusal.the-variants.{StringNotUtf8}
+use Rattle.wing_node.specs.declared.refusal.Refusal.{Refusal}
 use Rattle.wing_node.specs.Signed.{signed}
 use Rattle.wing_node.specs.Utf8.{utf8}
 use Rattle.wing_node.proofs.Branches.{branch}
@@ -32,9 +35,13 @@ use Rattle.wing_wire.specs.declared.unit.Taken.{Taken}
 use Rattle.wing_wire.proofs.Reading.Pieces.{at, stays, run-on}
 use Rattle.wing_mirror.specs.Rows.{In}
 
+-- 1 with its good, 2 and 3
+abbrev pub Own : Refusal → Type 0
+Own why = In why (StringNotUtf8 (goodBeside why) ∷ alone 2 ∷ alone 3 ∷ [])
+
 -- an answer and the token after it
 abbrev Says : Answer → Token → Type 0
-Says a t = (n : ℕ) → a ≡ Refused n → In n (1 ∷ 2 ∷ 3 ∷ []) × (t ≡ Between)
+Says a t = (why : Refusal) → a ≡ Refused why → Own why × (t ≡ Between)
 
 abbrev SaysTaken : Taken → Type 0
 SaysTaken t = Says (t .answer) (t .token)
@@ -45,7 +52,7 @@ SaysUnitEffect o = SaysTaken (o .taken)
 abbrev pub SaysStepEffect : StepEffect → Type 0
 SaysStepEffect o = Says (o .answered .answer) (o .answered .control .token)
 
--- the number of a refusal, 0 for what is none
+-- 1 for a refusal, 0 for what is none
 abbrev number : Answer → ℕ
 number More = 0
 number (anInteger x) = 0
@@ -53,14 +60,24 @@ number (aFloat bits) = 0
 number (aString n) = 0
 number (aBody n) = 0
 number anEnd = 0
-number (Refused n) = n + 1
+number (Refused why) = 1
 
 -- what is no refusal says nothing
 not-refused : (a : Answer) (t : Token) → number a ≡ 0 → Says a t
-not-refused a t q n e = absurd (let z = ap number e in omega arith)
+not-refused a t q why e = absurd (let z = ap number e in omega arith)
 
-refuses : (k : ℕ) → In k (1 ∷ 2 ∷ 3 ∷ []) → Says (Refused k) Between
-refuses k i n e = let q : n ≡ k = (let z = ap number e in omega arith) in rw q (i, refl)
+-- the reason of a refusal
+abbrev said : Refusal → Answer → Refusal
+said other More = other
+said other (anInteger x) = other
+said other (aFloat bits) = other
+said other (aString n) = other
+said other (aBody n) = other
+said other anEnd = other
+said other (Refused why) = why
+
+refuses : (k : Refusal) → Own k → Says (Refused k) Between
+refuses k i why e = (subst Own (ap (said k) e) i, refl)
 
 single-none : (class : Class) (t : ℕ) → number (singleOf class t) ≡ 0
 unfolding singleOf
@@ -89,13 +106,13 @@ number-says node Node v = not-refused More Between refl
 number-says node End v = not-refused More Between refl
 number-says node Count v =
     branch SaysTaken (eqb (v % 0x10000) 0) _ _ (λ _. not-refused More (Number LongCount 4 0) refl) (λ _. not-refused More (InBody 0 (v % 0x10000) (v % 0x10000)) refl)
-number-says node LongCount v = branch SaysTaken (eqb v 0) _ _ (λ _. refuses 3 (inr (inr (inl refl)))) (λ _. not-refused More (InBody 0 v v) refl)
+number-says node LongCount v = branch SaysTaken (eqb v 0) _ _ (λ _. refuses (alone 3) (inr (inr (inl refl)))) (λ _. not-refused More (InBody 0 v v) refl)
 
 body-says : (node : ℤ) (want left stored : ℕ) → SaysTaken (bodyNext node want left stored)
 unfolding bodyNext bodyDone
 body-says node want left stored =
     branch SaysTaken (leb left 1) _ _
-    (λ _. branch SaysTaken (leb want bodyLimit) _ _ (λ _. not-refused (aBody stored) Between refl) (λ _. refuses 2 (inr (inl refl))))
+    (λ _. branch SaysTaken (leb want bodyLimit) _ _ (λ _. not-refused (aBody stored) Between refl) (λ _. refuses (alone 2) (inr (inl refl))))
     (λ _. not-refused More (InBody stored want (left - 1)) refl)
 
 -- one unit
@@ -108,7 +125,7 @@ unit-says node (Number class left v) s u a =
     branch SaysTaken (leb left 1) _ _ (λ _. number-says node class (shiftIn v u)) (λ _. not-refused More (Number class (left - 1) (shiftIn v u)) refl)
 unit-says node (InString want left) s u a =
     branch SaysUnitEffect (leb left 1) _ _
-    (λ _. branch SaysUnitEffect (utf8 (take want (set s (want - left) u))) _ _ (λ _. not-refused (aString want) Between refl) (λ _. refuses 1 (inl refl)))
+    (λ _. branch SaysUnitEffect (utf8 (take want (set s (want - left) u))) _ _ (λ _. not-refused (aString want) Between refl) (λ _. refuses (stringNotUtf8 (take want (set s (want - left) u))) (inl refl)))
     (λ _. not-refused More (InString want (left - 1)) refl)
 unit-says node (InBody stored want left) s u a =
     branch SaysUnitEffect (keeps want stored a) _ _ (λ _. body-says node want left (stored + 1)) (λ _. body-says node want left stored)
@@ -161,7 +178,7 @@ is-more (aFloat bits) e = absurd (let z : _≡_ {A = ℕ} 0 1 = cc in omega arit
 is-more (aString n) e = absurd (let z : _≡_ {A = ℕ} 0 1 = cc in omega arith)
 is-more (aBody n) e = absurd (let z : _≡_ {A = ℕ} 0 1 = cc in omega arith)
 is-more anEnd e = absurd (let z : _≡_ {A = ℕ} 0 1 = cc in omega arith)
-is-more (Refused n) e = absurd (let z : _≡_ {A = ℕ} 0 1 = cc in omega arith)
+is-more (Refused why) e = absurd (let z : _≡_ {A = ℕ} 0 1 = cc in omega arith)
 
 -- a front of the bytes that a run took, shorter than these, gives nothing yet
 run-stops : (o : StepEffect) (n : ℕ) (bs : List ℕ) (k : ℕ) → n + k < runOf (at o n) bs .taken → isMore (runOf (at o n) (take k bs) .effect .answered .answer) ≡ true

@@ -6,6 +6,8 @@ use mathlib.Core.List.{List, _++_}
 use native.Mathlib.Omega.{arith}
 use lib.Dec.{ltb}
 use lib.ListN.{length, take, drop}
+use Rattle.wing_node.specs.Refusal.{alone}
+use Rattle.wing_node.specs.declared.refusal.Refusal.{Refusal}
 use Rattle.wing_node.specs.Result.{Result, ok, refused}
 use Rattle.wing_node.proofs.Branches.{branch}
 use Rattle.wing_wire.specs.State.{soundState, freshState}
@@ -26,13 +28,13 @@ use Rattle.promises.proofs.Writers.{at-front, came, Kept, Rest, refused
 abbrev Saved : State → WriteEffect → Type 0
 Saved s x = (n : ℕ) → x .answer ≡ Bytes n → Saves (take n (x .out)) s
 
-refused-saved : (s : State) (k : ℕ) (out : List ℕ) → Saved s (writeEffect (Refused k) out)
+refused-saved : (s : State) (k : Refusal) (out : List ℕ) → Saved s (writeEffect (Refused k) out)
 refused-saved s k out n e = absurd (let z : _≡_ {A = ℕ} 0 1 = cc in omega arith)
 
 written-saved : (s : State) (out : List ℕ) → Typed s → soundState s ≡ true → Saved s (writeOf (stateBytes s) out)
 unfolding writeOf
 written-saved s out t e =
-    branch (Saved s) (ltb (length out) (length (stateBytes s))) _ _ (λ _. refused-saved s 9 out)
+    branch (Saved s) (ltb (length out) (length (stateBytes s))) _ _ (λ _. refused-saved s (alone 9) out)
     (λ _ n q.
     let z : length (stateBytes s) ≡ n = cc in
     record { typed = t; sound = e; laid = sym (ap (λ (m : ℕ). take m (stateBytes s ++ drop (length (stateBytes s)) out)) (sym z) ∙ at-front (stateBytes s) out) })
@@ -41,17 +43,17 @@ pub save-call : (s : State) (out : List ℕ) → Typed s → SaveCall s out (sav
 unfolding saveOf writtenResult
 save-call s out t = record {
   writes = record {
-    answered = unless came (Kept out) (stateBytes s) (soundState s) 8 _ _ _ refl (refl, tt) (command-writes (stateBytes s) out .answered);
-    rest = branch (Rest out) (soundState s) _ _ (λ _. written-rest (stateBytes s) out) (λ _. refused-rest 8 out out);
+    answered = unless came (Kept out) (stateBytes s) (soundState s) (alone 8) _ _ _ refl (refl, tt) (command-writes (stateBytes s) out .answered);
+    rest = branch (Rest out) (soundState s) _ _ (λ _. written-rest (stateBytes s) out) (λ _. refused-rest (alone 8) out out);
   };
-  saves = branch (Saved s) (soundState s) _ _ (λ e. written-saved s out t e) (λ _. refused-saved s 8 out);
+  saves = branch (Saved s) (soundState s) _ _ (λ e. written-saved s out t e) (λ _. refused-saved s (alone 8) out);
 }
 
 -- beside a refusal stands a fresh state
-beside : (r : Result State) (n : ℕ) → r ≡ refused n → loadedAs r .state ≡ freshState
+beside : (r : Result State) (why : Refusal) → r ≡ refused why → loadedAs r .state ≡ freshState
 unfolding loadedAs
-beside (ok s) n e = absurd (let z : _≡_ {A = ℕ} 0 1 = cc in omega arith)
-beside (refused m) n e = refl
+beside (ok s) why e = absurd (let z : _≡_ {A = ℕ} 0 1 = cc in omega arith)
+beside (refused other) why e = refl
 
 pub load-call : (bytes : List ℕ) → AreBytes bytes → LoadCall bytes (loadOf bytes .answer) (loadOf bytes .state)
 unfolding loadOf

@@ -7,6 +7,8 @@ use lib.Dec.{ltb, leb, eqb}
 use lib.IntN.{ℤ}
 use lib.ListN.{length, take, drop}
 use lib.Seq.{take-append-seam, drop-append-seam}
+use Rattle.wing_node.specs.Refusal.{alone, stringNotUtf8}
+use Rattle.wing_node.specs.declared.refusal.Refusal.{Refusal}
 use Rattle.wing_node.specs.Field.{big}
 use Rattle.wing_node.specs.Result.{Result, ok}
 use Rattle.wing_node.specs.Utf8.{utf8}
@@ -48,19 +50,19 @@ abbrev pub Rest : List ℕ → WriteEffect → Type 0
 Rest out x = (n : ℕ) → x .answer ≡ Bytes n → drop n (x .out) ≡ drop n out
 
 -- a refusal wrote nothing
-pub refused-rest : (k : ℕ) (out after : List ℕ) → Rest out (writeEffect (Refused k) after)
+pub refused-rest : (k : Refusal) (out after : List ℕ) → Rest out (writeEffect (Refused k) after)
 refused-rest k out after n e = absurd (let z : _≡_ {A = ℕ} 0 1 = cc in omega arith)
 
 pub written-rest : (bytes out : List ℕ) → Rest out (writeOf bytes out)
 unfolding writeOf
 written-rest bytes out =
-    branch (Rest out) (ltb (length out) (length bytes)) _ _ (λ _. refused-rest 9 out out) (λ _ n e. past-front bytes out n (let z : length bytes ≡ n = cc in z))
+    branch (Rest out) (ltb (length out) (length bytes)) _ _ (λ _. refused-rest (alone 9) out out) (λ _ n e. past-front bytes out n (let z : length bytes ≡ n = cc in z))
 
 -- every command of given bytes
 pub command-writes : (bytes out : List ℕ) → CommandCall bytes out (writeOf bytes out .answer) (writeOf bytes out .out)
 unfolding writeOf writtenResult
 command-writes bytes out = record {
-  answered = line came (Kept out) bytes (ltb (length out) (length bytes)) 9 _ _ _ refl (refl, tt) (taken came (Kept out) bytes (writeEffect (Bytes (length bytes)) (bytes ++ drop (length bytes) out)) (ap ok (at-front bytes out)));
+  answered = line came (Kept out) bytes (ltb (length out) (length bytes)) (alone 9) _ _ _ refl (refl, tt) (taken came (Kept out) bytes (writeEffect (Bytes (length bytes)) (bytes ++ drop (length bytes) out)) (ap ok (at-front bytes out)));
   rest = unfold writeOf in written-rest bytes out;
 }
 
@@ -68,8 +70,8 @@ command-writes bytes out = record {
 pub string-writes : (id : ℤ) (s out : List ℕ) → Writes (stringLines id s out) (setBytes id (string s)) out (setString id s out .answer) (setString id s out .out) (Unit {0})
 unfolding setString writtenResult
 string-writes id s out = record {
-  answered = unless came (Kept out) bytes (leb (length s) 256) 10 _ _ _ refl (refl, tt) (unless came (Kept out) bytes (utf8 s) 1 _ _ _ refl (refl, tt) (command-writes bytes out .answered));
-  rest = branch (Rest out) (leb (length s) 256) _ _ (λ _. branch (Rest out) (utf8 s) _ _ (λ _. written-rest bytes out) (λ _. refused-rest 1 out out)) (λ _. refused-rest 10 out out);
+  answered = unless came (Kept out) bytes (leb (length s) 256) (alone 10) _ _ _ refl (refl, tt) (unless came (Kept out) bytes (utf8 s) (stringNotUtf8 s) _ _ _ refl (refl, tt) (command-writes bytes out .answered));
+  rest = branch (Rest out) (leb (length s) 256) _ _ (λ _. branch (Rest out) (utf8 s) _ _ (λ _. written-rest bytes out) (λ _. refused-rest (stringNotUtf8 s) out out)) (λ _. refused-rest (alone 10) out out);
 }
   where
     bytes : List ℕ
@@ -89,8 +91,8 @@ string-call id s out i = record { writes = string-writes id s out; reads = reads
 pub meters-write : (port last : ℕ) (ms : List Meter) (count : ℕ) (out : List ℕ) → MeterCall port last ms count out (requestMeter port last ms count out .answer) (requestMeter port last ms count out .out)
 unfolding requestMeter writeRequestOf requestedResult
 meters-write port last ms count out = record {
-  answered = unless result-of W request (leb count 64) 11 _ _ _ refl refl (line result-of W request (eqb last 65535) 12 _ _ _ refl refl
-      (line result-of W request (ltb (length out) (length bytes)) 9 _ _ _ refl refl (taken result-of W request (requestEffect (RequestWritten (length bytes) (last + 1)) (bytes ++ drop (length bytes) out)) (ap (λ (b : List ℕ). ok (record { bytes = b; id = last + 1 })) (at-front bytes out)))));
+  answered = unless result-of W request (leb count 64) (alone 11) _ _ _ refl refl (line result-of W request (eqb last 65535) (alone 12) _ _ _ refl refl
+      (line result-of W request (ltb (length out) (length bytes)) (alone 9) _ _ _ refl refl (taken result-of W request (requestEffect (RequestWritten (length bytes) (last + 1)) (bytes ++ drop (length bytes) out)) (ap (λ (b : List ℕ). ok (record { bytes = b; id = last + 1 })) (at-front bytes out)))));
   rest = branch R (leb count 64) _ _
       (λ _. branch R (eqb last 65535) _ _ (λ _. of-refused 12) (λ _. branch R (ltb (length out) (length bytes)) _ _ (λ _. of-refused 9) (λ _ n id e. past-front bytes out n (let z : length bytes ≡ n = cc in z))))
       (λ _. of-refused 11);
@@ -117,8 +119,8 @@ meters-write port last ms count out = record {
 pub packet-reads : (p : List ℕ) (out : List ℤ) → PacketCall p out (packetOf p out .answer) (packetOf p out .out)
 unfolding packetOf metersResult
 packet-reads p out = record {
-  answered = line result-of W packet (ltb (length p) 4) 13 _ _ _ refl refl (line result-of W packet (ltb 8192 (length p)) 13 _ _ _ refl refl
-      (line result-of W packet (ltb (length out) (length rs)) 9 _ _ _ refl refl (taken result-of W packet (packetEffect (Readings (big (take 2 p)) (length rs)) (rs ++ drop (length rs) out)) (ap (λ (r : List ℤ). ok (record { id = big (take 2 p); readings = r })) (at-front rs out)))));
+  answered = line result-of W packet (ltb (length p) 4) (alone 13) _ _ _ refl refl (line result-of W packet (ltb 8192 (length p)) (alone 13) _ _ _ refl refl
+      (line result-of W packet (ltb (length out) (length rs)) (alone 9) _ _ _ refl refl (taken result-of W packet (packetEffect (Readings (big (take 2 p)) (length rs)) (rs ++ drop (length rs) out)) (ap (λ (r : List ℤ). ok (record { id = big (take 2 p); readings = r })) (at-front rs out)))));
   rest = branch R (ltb (length p) 4) _ _ (λ _. of-refused 13)
       (λ _. branch R (ltb 8192 (length p)) _ _ (λ _. of-refused 13) (λ _. branch R (ltb (length out) (length rs)) _ _ (λ _. of-refused 9) (λ _ id n e. past-front rs out n (let z : length rs ≡ n = cc in z))));
 }

@@ -1,17 +1,19 @@
 -- What is promised of a listing (02), printed and loaded, by each call's arguments, its answer and the lent buffer after it.
 use Prim.Native.Nat.{ℕ, _*_, _/_, _≤_}
-use mathlib.Core.Bool.{Bool, true, false, not}
+use mathlib.Core.Bool.{true, not}
 use mathlib.Core.Path.{_≡_}
 use mathlib.Core.Logic.{_⊎_, _↔_}
 use mathlib.Core.List.{List, [], _∷_, _++_}
-use lib.Dec.{leb, eqb}
+use lib.Dec.{leb}
 use lib.ListN.{length, take, drop}
+use Rattle.wing_node.specs.Refusal.{goodBeside, noFault, because}
+use Rattle.wing_node.specs.declared.refusal.Refusal.{Refusal}
 use Rattle.wing_node.specs.Result.{refused}
 use Rattle.wing_wire.specs.State.{freshState}
 use Rattle.wing_wire.specs.Write.{writeEffect}
 use Rattle.wing_wire.specs.declared.write.Written.{Written}
 use Rattle.wing_wire.specs.declared.write.Written.the-variants.{Bytes}
-use Rattle.wing_mirror.specs.Rows.{Table}
+use Rattle.wing_mirror.specs.Rows.{Table, In}
 use Rattle.wing_mirror.specs.Record.{width, full}
 use Rattle.wing_mirror.specs.Table.{table, placesAllowed, usable}
 use Rattle.wing_listing.specs.Listing.{printed}
@@ -30,20 +32,17 @@ use Rattle.promises.specs.Wire.{commandLines, Writes}
 abbrev pub printLines : Table → List ℕ → List Line
 printLines t out = (not (usable full t) gives tableUnsound) ∷ commandLines (printed t) out
 
--- the first bad line is refused by this number
-unfoldable pub isBad : ℕ → Reading → Bool
-isBad n (good es) = false
-isBad n (bad why line) = eqb why n
+-- what is wrong with the first bad line, if any is
+unfoldable pub readingFault : Reading → Line
+readingFault (good es) = noFault
+readingFault (bad why line) = because why
 
--- 02: load: 7 by the places alone and 14, then the first bad line, within it 17, 18, 10, 1, and 6 only when no line is bad
+-- 02: load: 7 by the places alone and 14, then the first bad line, and 6 only when no line is bad
 abbrev pub loadLines : List ℕ → List ℕ → List Line
 loadLines text memory =
     (not (placesAllowed (length memory / width)) gives tableUnsound) ∷
     (not (leb (length text) 65536) gives numberOver) ∷
-    (isBad 17 (readingOf text) gives lineWrong) ∷
-    (isBad 18 (readingOf text) gives idNotAbove) ∷
-    (isBad 10 (readingOf text) gives stringLong) ∷
-    (isBad 1 (readingOf text) gives stringWrong) ∷
+    readingFault (readingOf text) ∷
     (not (leb (length (entriesIn (readingOf text))) (length memory / width)) gives noPlace) ∷ []
 
 -- print
@@ -62,11 +61,14 @@ pub record PrintCall (t : Table) (out : List ℕ) (answer : Written) (after : Li
 pub record LoadCall (text memory : List ℕ) (reply : LoadReply) (after : List ℕ) : Type 0 where
   -- demand 1: 7, 14, 17, 18, 10, 1, 6, and then the table memory is untouched; else the number of the text's entries
   pub answered : Answers (loadLines text memory) (length (entriesIn (readingOf text))) (loadedResult (reply .answer)) (after ≡ memory)
-  -- 02: after 7 and 14 the first bad line decides, and no other: its number, and which line it is
-  pub first : (why line : ℕ) → placesAllowed (length memory / width) ≡ true → length text ≤ 65536 →
+  -- 02: a load is refused with 7, 14, 17, 18, 10, 1 with the string's good, or 6, and no other
+  pub no-other : (why : Refusal) → loadedResult (reply .answer) ≡ refused why →
+      In why (tableUnsound ∷ numberOver ∷ lineWrong ∷ idNotAbove ∷ stringLong ∷ stringWrong (goodBeside why) ∷ noPlace ∷ [])
+  -- 02: after 7 and 14 the first bad line decides, and no other: what is wrong with it, and which line it is
+  pub first : (why : Refusal) (line : ℕ) → placesAllowed (length memory / width) ≡ true → length text ≤ 65536 →
       (((reply .answer ≡ Refused why line) × (line ≡ 0 → ⊥)) ↔ FirstBad text why line)
   -- 7, 14 and 6 are about no line
-  pub noLine : (why : ℕ) → loadedResult (reply .answer) ≡ refused why → ((why ≡ tableUnsound) ⊎ ((why ≡ numberOver) ⊎ (why ≡ noPlace))) → lineIn (reply .answer) ≡ 0
+  pub noLine : (why : Refusal) → loadedResult (reply .answer) ≡ refused why → ((why ≡ tableUnsound) ⊎ ((why ≡ numberOver) ⊎ (why ≡ noPlace))) → lineIn (reply .answer) ≡ 0
   -- 02: a fresh decoder
   pub fresh : reply .state ≡ freshState
   -- the table is sound, and the bytes past its last record are as they were

@@ -7,6 +7,8 @@ use mathlib.Core.List.{List, [], _∷_}
 use lib.Dec.{ltb, leb}
 use lib.IntN.{ℤ}
 use lib.ListN.{length, getD}
+use Rattle.wing_node.specs.Utf8.{good}
+use Rattle.wing_node.specs.Refusal.{alone}
 use Rattle.wing_node.specs.Result.{ok, refused}
 use Rattle.wing_node.specs.Value.{NodeValue}
 use Rattle.wing_wire.specs.State.{bodyLimit, soundState}
@@ -23,7 +25,7 @@ use Rattle.wing_mirror.specs.Query.{sameTables, refusedRecord}
 use Rattle.wing_mirror.specs.Answers.{lookupResult, recordResult, sameResult, feedResult}
 use Rattle.wing_mirror.specs.Lookups.{RecordOf}
 use Rattle.wing_mirror.specs.Counts.{zeroCounts}
-use Rattle.wing_mirror.specs.Call.{feed, set, tooLong, notText}
+use Rattle.wing_mirror.specs.Call.{feed, set, textIn, tooLong, notText}
 use Rattle.wing_mirror.specs.Mirror.{TableTally, keepEvent, fedAll}
 use Rattle.wing_mirror.specs.Recall.{recallBytes}
 use Rattle.wing_mirror.specs.History.{Mirror, Equal, feedOutcome, setOutcome, mirrorStep, Rebuilt}
@@ -47,10 +49,10 @@ abbrev pub feedLines : Mirror → List ℕ → List Line
 feedLines m bytes =
     (not (soundState (m .decoder)) gives stateUnsound) ∷ (not (usable full (m .table)) gives tableUnsound) ∷ (not (leb (length bytes) 65536) gives numberOver) ∷ []
 
--- a set through the mirror: the table, the string's length, its UTF-8, no place, too short an output
+-- a set through the mirror: the table, the string's length, its UTF-8 (02: with its good), no place, too short an output
 abbrev pub setLines : ℤ → NodeValue → Table → List ℕ → List Line
 setLines id v t out =
-    (not (usable full t) gives tableUnsound) ∷ (tooLong v gives stringLong) ∷ (notText v gives stringWrong) ∷ (not (fits full (entry id v) t) gives noPlace) ∷ commandLines (setBytes id v) out
+    (not (usable full t) gives tableUnsound) ∷ (tooLong v gives stringLong) ∷ (notText v gives stringWrong (good (textIn v))) ∷ (not (fits full (entry id v) t) gives noPlace) ∷ commandLines (setBytes id v) out
 
 -- recall: the table, too short an output
 abbrev pub recallLines : Table → List ℕ → List Line
@@ -112,7 +114,7 @@ pub record RecordCall (t : Table) (number : ℕ) (reply : RecordRead) : Type 0 w
   -- demand 1: 7, 14; else the node and value of that record
   pub result : recordResult reply ≡ by (recordLines t number) (entryIn (getD (rows full t) number []))
   -- sent back, the string's bytes are all 0
-  pub zeros : (n : ℕ) → recordResult reply ≡ refused n → reply ≡ refusedRecord n
+  pub zeros : (n : ℕ) → recordResult reply ≡ refused (alone n) → reply ≡ refusedRecord n
 
 -- two tables: 7; else whether count and records are equal
 pub record SameCall (t u : Table) (answer : Same) : Type 0 where

@@ -2,10 +2,13 @@
 -- its bytes (wing_node's specs/InBody); which of them stand in it, specs/Standing says.
 use Prim.Native.Nat.{ℕ, _+_, _-_, _≤_, _<_}
 use mathlib.Core.Path.{_≡_}
-use mathlib.Core.Bool.{false}
+use mathlib.Core.Bool.{false, true}
 use mathlib.Core.Logic.{_↔_, _⊎_}
 use mathlib.Core.List.{List, [], _∷_}
-use lib.ListN.{drop}
+use lib.ListN.{drop, length}
+use Rattle.wing_node.specs.Utf8.{good, Longest, utf8}
+use Rattle.wing_node.specs.Refusal.{goodBeside}
+use Rattle.wing_node.specs.declared.refusal.Refusal.{Refusal}
 use Rattle.wing_node.specs.Result.{Result, ok, refused}
 use Rattle.wing_node.specs.Types.{hasItems}
 use Rattle.wing_node.specs.Definition.{itemOf, definitionOf}
@@ -25,19 +28,19 @@ use Rattle.promises.specs.Refusals.{definitionShort, definitionWrong, nu
 abbrev pub Short : List ℕ → Type 0
 Short body = StopsAt PastEnd (allFields body) body
 
--- 01: definition string not UTF-8, 5: some stand, and the next one is whole and its string is not UTF-8
-abbrev pub Unreadable : List ℕ → Type 0
-Unreadable body = StopsAt NotUtf8 (allFields body) body
+-- 01: definition string not UTF-8, 5: some stand, and the next one is whole and its string is not UTF-8. 02: so many of its leading bytes are good
+abbrev pub Unreadable : ℕ → List ℕ → Type 0
+Unreadable g body = StopsAt (NotUtf8 g) (allFields body) body
 
 -- all fields stand whole and good
 abbrev pub AllStand : List ℕ → Type 0
 AllStand body = Stand (allFields body) body
 
--- a call that the parser's refusals decide: 4 and 5, exactly then, and no other number but these
-pub record AsParsed {A : Type 0} (body : List ℕ) (others : List ℕ) (came : Result A) : Type 0 where
+-- a call that the parser's refusals decide: 4, and 5 with the good of the string that failed, exactly then, and no other but these
+pub record AsParsed {A : Type 0} (body : List ℕ) (others : List Refusal) (came : Result A) : Type 0 where
   pub past-end : (came ≡ refused definitionShort) ↔ Short body
-  pub not-utf8 : (came ≡ refused definitionWrong) ↔ Unreadable body
-  pub numbers : (n : ℕ) → came ≡ refused n → In n (definitionShort ∷ definitionWrong ∷ others)
+  pub not-utf8 : (g : ℕ) → (came ≡ refused (definitionWrong g)) ↔ Unreadable g body
+  pub no-other : (why : Refusal) → came ≡ refused why → In why (definitionShort ∷ definitionWrong (goodBeside why) ∷ others)
 
 -- from_bytes: 4 or 5, or the definition that the fields say, exactly where all stand
 pub record ParserCall (body : List ℕ) (answer : Parsed) : Type 0 where
@@ -58,8 +61,8 @@ pub record StepCall (body : List ℕ) (w : Walk) (answer : Step) : Type 0 where
   pub nothing : (itemResult body (answer .item) ≡ ok none) ↔ ((w .left ≡ 0) ⊎ (hasItems (w .kind) ≡ false))
   -- else 4 or 5 as the fields of the item there stand
   pub past-end : (itemResult body (answer .item) ≡ refused definitionShort) ↔ (Left w × StopsAt PastEnd (itemOf (w .kind)) (drop (w .at) body))
-  pub not-utf8 : (itemResult body (answer .item) ≡ refused definitionWrong) ↔ (Left w × StopsAt NotUtf8 (itemOf (w .kind)) (drop (w .at) body))
-  pub numbers : (n : ℕ) → itemResult body (answer .item) ≡ refused n → In n (definitionShort ∷ definitionWrong ∷ [])
+  pub not-utf8 : (g : ℕ) → (itemResult body (answer .item) ≡ refused (definitionWrong g)) ↔ (Left w × StopsAt (NotUtf8 g) (itemOf (w .kind)) (drop (w .at) body))
+  pub no-other : (why : Refusal) → itemResult body (answer .item) ≡ refused why → In why (definitionShort ∷ definitionWrong (goodBeside why) ∷ [])
   -- else the item there, and the walk goes past it
   pub given : IsItem (itemResult body (answer .item)) ↔ (Left w × Stand (itemOf (w .kind)) (drop (w .at) body))
   pub said : IsItem (itemResult body (answer .item)) → itemResult body (answer .item) ≡ ok (itemIn (w .kind) (drop (w .at) body))
@@ -79,3 +82,9 @@ pub record ItemCall (body : List ℕ) (number : ℕ) (answer : Item) : Type 0 wh
 -- over a body whose fields all stand, the walk gives the item of each number in its turn, as many as the count, and then none
 abbrev pub Walks : Type 0
 Walks = (body : List ℕ) → AllStand body → Walking body
+
+-- 02: the good that stands beside 1 and 5, of the string that was refused: how many leading bytes form whole characters, the largest such number by RFC 3629's grammar;
+-- and a string is UTF-8 exactly if all of it is good
+pub record Goods : Type 0 where
+  pub largest : (s : List ℕ) → Longest (good s) s
+  pub all : (s : List ℕ) → (utf8 s ≡ true) ↔ (good s ≡ length s)

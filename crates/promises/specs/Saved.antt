@@ -4,6 +4,7 @@ use mathlib.Core.Bool.{not}
 use mathlib.Core.Path.{_≡_}
 use mathlib.Core.List.{List, _∷_}
 use lib.ListN.{take}
+use Rattle.wing_node.specs.declared.refusal.Refusal.{Refusal}
 use Rattle.wing_node.specs.Result.{ok, refused}
 use Rattle.wing_wire.specs.State.{soundState, freshState}
 use Rattle.wing_wire.specs.Earlier.{carryOf}
@@ -34,7 +35,7 @@ pub record LoadCall (bytes : List ℕ) (answer : LoadAnswer) (state : State) : T
   -- bytes that read as a state are its bytes, and it is sound
   pub again : (s : State) → loadedResult answer state ≡ ok s → Saves bytes s
   -- any others are 8, beside a fresh state
-  pub refusal : (n : ℕ) → loadedResult answer state ≡ refused n → (n ≡ 8) × (state ≡ freshState)
+  pub refusal : (why : Refusal) → loadedResult answer state ≡ refused why → (why ≡ stateUnsound) × (state ≡ freshState)
 
 -- bytes of version 1 as a state, by the answer and the state beside it (02)
 pub record LoadEarlierCall (bytes : List ℕ) (answer : LoadAnswer) (state : State) : Type 0 where
@@ -43,4 +44,4 @@ pub record LoadEarlierCall (bytes : List ℕ) (answer : LoadAnswer) (state : Sta
   -- bytes that are loaded are those of an old sound state, and this is carried over as what they are loaded as
   pub again : (t : State) → loadedResult answer state ≡ ok t → CarriedSaves bytes t
   -- any others are 8, beside a fresh state
-  pub refusal : (n : ℕ) → loadedResult answer state ≡ refused n → (n ≡ 8) × (state ≡ freshState)
+  pub refusal : (why : Refusal) → loadedResult answer state ≡ refused why → (why ≡ stateUnsound) × (state ≡ freshState)

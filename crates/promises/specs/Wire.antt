@@ -6,9 +6,11 @@ use mathlib.Core.List.{List, [], _∷_, _++_}
 use lib.Dec.{ltb, leb, eqb}
 use lib.IntN.{ℤ}
 use lib.ListN.{length, take, drop, getD}
+use Rattle.wing_node.specs.Refusal.{goodBeside, alone}
+use Rattle.wing_node.specs.declared.refusal.Refusal.{Refusal}
 use Rattle.wing_node.specs.Field.{big}
 use Rattle.wing_node.specs.Result.{ok, refused}
-use Rattle.wing_node.specs.Utf8.{utf8}
+use Rattle.wing_node.specs.Utf8.{good, utf8}
 use Rattle.wing_node.specs.Value.{NodeValue, string}
 use Rattle.wing_wire.specs.State.{soundEscape, soundState, freshState}
 use Rattle.wing_wire.specs.Earlier.{earlierSound, isStarted, carried, carriedResult}
@@ -55,9 +57,9 @@ nextLines s bytes = (not (soundState s) gives stateUnsound) ∷ (not (leb (lengt
 abbrev pub commandLines : List ℕ → List ℕ → List Line
 commandLines bytes out = (ltb (length out) (length bytes) gives outputShort) ∷ []
 
--- a set order of a string: over 256 bytes, not UTF-8, too short an output
+-- a set order of a string: over 256 bytes, not UTF-8 (02: with its good), too short an output
 abbrev pub stringLines : ℤ → List ℕ → List ℕ → List Line
-stringLines id s out = (not (leb (length s) 256) gives stringLong) ∷ (not (utf8 s) gives stringWrong) ∷ commandLines (setBytes id (string s)) out
+stringLines id s out = (not (leb (length s) 256) gives stringLong) ∷ (not (utf8 s) gives stringWrong (good s)) ∷ commandLines (setBytes id (string s)) out
 
 -- a meter request: over 64 meters, no id left, too short an output
 abbrev pub meterLines : ℕ → ℕ → List Meter → ℕ → List ℕ → List Line
@@ -95,9 +97,9 @@ pub record NextCall (s : State) (bytes : List ℕ) (reply : Reply) : Type 0 wher
   -- it is the call that SetOrders, Repeated and CoreGives of the wire's specs/ speak of
   pub same : reply ≡ nextOf s bytes
   -- demand 1: 8, 14, and then nothing is taken and the state is as it was
-  pub sent-back : (n : ℕ) → sends (nextLines s bytes) ≡ refused n → reply ≡ refusedNext n s
-  -- else the decoder's own refusals are 1, 2 and 3, each with its token taken; when they come, specs/Tokens of the wire says
-  pub refusals : sends (nextLines s bytes) ≡ ok tt → (n : ℕ) → reply .answer ≡ AnswerRefused n → In n (stringWrong ∷ bodyLong ∷ bodyEmpty ∷ []) × (reply .state .control .token ≡ Between)
+  pub sent-back : (n : ℕ) → sends (nextLines s bytes) ≡ refused (alone n) → reply ≡ refusedNext n s
+  -- else the decoder's own refusals are 1 with the string's good, 2 and 3, each with its token taken; when they come, specs/Tokens of the wire says
+  pub refusals : sends (nextLines s bytes) ≡ ok tt → (why : Refusal) → reply .answer ≡ AnswerRefused why → In why (stringWrong (goodBeside why) ∷ bodyLong ∷ bodyEmpty ∷ []) × (reply .state .control .token ≡ Between)
   -- what stands beside the answer
   pub beside : Beside reply
   -- 01: it stops after the unit that completes an event or refusal: no fewer bytes would have given it

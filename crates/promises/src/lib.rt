@@ -17,7 +17,8 @@ ghost use Rattle.wing_listing.specs.Cases.{Case as ListedCase, cases as listedC
 ghost use Rattle.wing_mirror.specs.Record.{full};
 ghost use Rattle.wing_mirror.specs.HighEnd.{SearchReads};
 ghost use Rattle.wing_mirror.specs.History.{Agreement, Equality, Rebuilding, Histories};
-ghost use Rattle.promises.specs.Node.{Walks};
+ghost use Rattle.promises.specs.Refusals.{Numbered};
+ghost use Rattle.promises.specs.Node.{Walks, Goods};
 ghost use Rattle.promises.specs.Wire.{withEvent, listed, PiecesJoin};
 ghost use Rattle.promises.specs.Mirror.{UnplacedStays};
 
@@ -28,10 +29,21 @@ pub mod saved;
 pub mod wire;
 
 // Demand 1, console bytes. Whatever bytes are fed from between tokens, their units are cut into tokens of 01's table, and what is handed on is what
-// these tokens give, in order and nothing else: 1 exactly for a string whose units are not UTF-8, 2 exactly for a count in force over
+// these tokens give, in order and nothing else: 1 with its good exactly for a string whose units are not UTF-8, 2 exactly for a count in force over
 // 4,096, 3 exactly where both counts are 0 (02), each when the last unit comes. Every unit of a token other than d7 leaves the node as it was.
 pub fn demand_1_tokens()
     ensures { λ _. ⌜ Tokens withEvent ⌝ }
+{}
+
+// Demand 1, the good of a string (02). The good that stands beside 1 and 5 is how many leading bytes of the refused string form whole characters, the largest
+// such number; a string is UTF-8 exactly if all of it is good.
+pub fn demand_1_goods()
+    ensures { λ _. ⌜ Goods ⌝ }
+{}
+
+// Demand 1, the numbers of the refusals, in the order of 01's table and of 02, whatever goods stand beside 1 and 5.
+pub fn demand_1_numbers()
+    ensures { λ _. ⌜ Numbered ⌝ }
 {}
 
 // Demand 1, console bytes in pieces. From any state, in the midst of a token too, bytes in two pieces are read as the bytes at once.

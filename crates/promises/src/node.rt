@@ -2,7 +2,8 @@
 // (and, in to_bytes, a field that is read for the proof alone).
 ghost use mathlib.Core.Path.{_≡_};
 ghost use Rattle.wing_node.specs.Items.{walk};
-ghost use Rattle.wing_node.specs.Utf8.{Octets, Decides};
+ghost use Rattle.wing_node.specs.Refusal.{refusalNumber};
+ghost use Rattle.wing_node.specs.Utf8.{Octets, Longest, Decides};
 ghost use Rattle.wing_node.specs.Value.{nodeValue, intIn, stringIn};
 ghost use Rattle.wing_node.specs.Answers.{begunResult, startResult, stringResult};
 ghost use Rattle.wing_node.specs.Writer.{lent};
@@ -14,17 +15,32 @@ use wing_node::items::Begun;
 use wing_node::items::Step;
 use wing_node::items::Walk;
 use wing_node::node_type::NodeType;
+use wing_node::refusal::Refusal;
 use wing_node::value::StringRead;
 use wing_node::value::Value;
 use wing_node::walker::Start;
 use wing_node::writer::BodyWritten;
 use wing_node::writer::Fields;
 
+// How many leading bytes form whole characters (02): the largest such number by RFC 3629's grammar.
+pub fn good_len(s: &[u8]) -> usize
+    ensures { λ r. ⌜ Longest r (now (s .entry)) ⌝ }
+{
+    wing_node::utf8::good_len(s)
+}
+
 // RFC 3629's grammar, both ways.
 pub fn is_utf8(s: &[u8]) -> bool
     ensures { λ r. ⌜ Decides r (Octets (now (s .entry))) ⌝ }
 {
     wing_node::utf8::is_utf8(s)
+}
+
+// A refusal's number: 1 and 5 where a good stands beside it.
+pub fn number(why: Refusal) -> u8
+    ensures { λ r. ⌜ r ≡ refusalNumber why ⌝ }
+{
+    wing_node::refusal::number(why)
 }
 
 pub fn from_bytes(body: &[u8]) -> Parsed

@@ -1,5 +1,7 @@
 // What is said on standard error.
 use libc::STDERR_FILENO;
+use wing_node::refusal;
+use wing_node::refusal::Refusal;
 
 pub fn complain(text: &[u8]) {
     io::write_all(STDERR_FILENO, text);
@@ -19,18 +21,29 @@ fn cause(why: u8) {
     }
 }
 
-fn number(n: u64, after: &[u8]) {
+fn number(before: &[u8], n: u64) {
+    complain(before);
     io::print_decimal(STDERR_FILENO, n);
-    complain(after);
+}
+
+// 02: how much of a string was good.
+fn good(why: Refusal) {
+    match why {
+        Refusal::Number(_) => {}
+        Refusal::StringNotUtf8 { good } => number(b" good ", good as u64),
+        Refusal::DefinitionNotUtf8 { good } => number(b" good ", good as u64),
+    }
 }
 
 // A refusal that is about no line has the line 0.
-pub fn refused(why: u8, line: usize) {
-    complain(b"recall: ");
+pub fn refused(why: Refusal, line: usize) {
+    let n = refusal::number(why);
+    complain(b"recall");
     if line > 0 {
-        complain(b"line ");
-        number(line as u64, b": ");
+        number(b": line ", line as u64);
     }
-    number(why as u64, b", ");
-    cause(why);
+    number(b": ", n as u64);
+    good(why);
+    complain(b", ");
+    cause(n);
 }

@@ -135,18 +135,18 @@ fn define(a: Asked, bytes: &[u8], out: &mut [u8]) -> BodyWritten {
 }
 
 // What a call wrote: the meter id, 0 where there is none, and how many bytes, twice: those told, and where the rest begins.
-// Or the refusal's number.
+// Or the refusal.
 pub fn of_written(w: Written, good: u8, bad: u8) -> Said {
     match w {
         Written::Bytes(len) => show::three(good, 0, len, len),
-        Written::Refused(why) => show::one(bad, why as usize),
+        Written::Refused(why) => show::refused(bad, why),
     }
 }
 
 fn of_body(w: BodyWritten, good: u8, bad: u8) -> Said {
     match w {
         BodyWritten::Bytes(len) => show::three(good, 0, len, len),
-        BodyWritten::Refused(why) => show::one(bad, why as usize),
+        BodyWritten::Refused(why) => show::refused(bad, why),
     }
 }
 

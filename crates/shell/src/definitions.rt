@@ -25,7 +25,7 @@ fn item(i: definition::Item, none: u8, refused: u8) -> Said {
         definition::Item::Float { item, long_item } => {
             show::three(b'/', item as usize, string(long_item), 0)
         }
-        definition::Item::Refused(why) => show::one(refused, why as usize),
+        definition::Item::Refused(why) => show::refused(refused, why),
     }
 }
 
@@ -84,7 +84,7 @@ fn walked(log: &mut Log, at: usize, body: &[u8]) -> usize {
     let begun = items::items_begin(body);
     match begun {
         items::Begun::Good(first) => walk(log, at, body, first, false),
-        items::Begun::Refused(why) => show::tell(log, at, b'_', why as usize, 0, 0, body),
+        items::Begun::Refused(why) => show::say(log, at, show::refused(b'_', why), body),
     }
 }
 
@@ -171,16 +171,16 @@ pub fn definition(log: &mut Log, at: usize, body: &[u8]) -> usize {
     let parsed = definition::from_bytes(body);
     match parsed {
         definition::Parsed::Good(d) => fields(log, at, body, d),
-        definition::Parsed::Refused(why) => { show::tell(log, at, b'_', why as usize, 0, 0, body) }
+        definition::Parsed::Refused(why) => show::say(log, at, show::refused(b'_', why), body),
     }
 }
 
-// The number of the refusal, 0 for a body that the parser takes.
+// The refusal as a number, 0 for a body that the parser takes.
 fn refusal(body: &[u8]) -> usize {
     let parsed = definition::from_bytes(body);
     match parsed {
         definition::Parsed::Good(_) => 0,
-        definition::Parsed::Refused(why) => why as usize,
+        definition::Parsed::Refused(why) => show::refusal(why),
     }
 }
 
@@ -233,7 +233,7 @@ fn walk_items(log: &mut Log, body: &[u8]) -> usize {
             let steps_at = show::tell(log, 0, b'a', start.at, start.left as usize, 0, body);
             walk(log, steps_at, body, first, true)
         }
-        walker::Opening::Refused(why) => show::tell(log, 0, b'?', why as usize, 0, 0, body),
+        walker::Opening::Refused(why) => show::say(log, 0, show::refused(b'?', why), body),
     }
 }
 

@@ -225,7 +225,7 @@ pub fn order(line: &[u8], bytes: &mut Bytes, held: usize) -> Asked {
 SIint:iit SFfloat:ixt SSstring:iht SRrecall:r QDdump: QLlookup:i QRrecord:d QPpeek:mk \
 ssstream:+ sppieces:w+ slpiecelist:,+ suunits:h sestate:nd* scsplits:h snlent:h soearlier:hhh \
 dddefinition:+ dccuts:h diitem:dh dsstep:wwwh dwwalk:h \
-vuutf8:h vfutf8s:h vsstreams:h vggetters:gh vlgetstring:wh pvpacket:a+ \
+vuutf8:h vfutf8s:h vpplaces:h vsstreams:h vggetters:gh vlgetstring:wh pvpacket:a+ \
 cisetint:rii cfsetfloat:rix cssetstring:rih ctformat:riyh cdaskdefinition:ri caaskdata:ri \
 cmaskmeters:rwwoh cnaskmetersfill:rwwozh ckkeepalive:lww DDdefine:iiwoofxxiwwhhhr AAagain:h \
 L?load:h L?loads:d* LJlines:h TPprint:r",

@@ -15,7 +15,7 @@ const ROOM: usize = 16384;
 fn said(a: Loaded, refused: u8) -> Said {
     match a {
         Loaded::Records(n) => show::one(b'K', n),
-        Loaded::Refused { why, line } => show::three(refused, why as usize, line, 0),
+        Loaded::Refused { why, line } => show::three(refused, show::refusal(why), line, 0),
     }
 }
 

@@ -4,6 +4,7 @@ mod definitions;
 mod forms;
 mod listings;
 mod mirror;
+mod places;
 mod read;
 mod show;
 mod states;

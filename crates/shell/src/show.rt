@@ -2,6 +2,7 @@
 // stays at its end.
 use crate::read;
 use wing_node::field;
+use wing_node::refusal::Refusal;
 use wing_wire::state::zeros_from;
 
 // Room for the longest answer: keep-alives of 851,968 bytes, or the integers of a stream of 80,000 bytes.
@@ -46,6 +47,29 @@ pub fn three(letter: u8, a: usize, b: usize, c: usize) -> Said {
 // The second number of a text with a letter; 0 of any other.
 pub fn second(s: Said, letter: u8) -> usize {
     if s.letter == letter { s.second } else { 0 }
+}
+
+fn with_good(number: u8, good: u16) -> usize {
+    (good as usize + 1) * 256 + number as usize
+}
+
+// A refusal as one number of a text: 01's, and where it has a good 256 times one more than the good besides.
+pub fn refusal(why: Refusal) -> usize {
+    let number = wing_node::refusal::number(why);
+    match why {
+        Refusal::Number(_) => number as usize,
+        Refusal::StringNotUtf8 { good } => with_good(number, good),
+        Refusal::DefinitionNotUtf8 { good } => with_good(number, good),
+    }
+}
+
+// 01's number of a refusal that is a number of a text.
+pub fn refusal_number(n: usize) -> usize {
+    n % 256
+}
+
+pub fn refused(letter: u8, why: Refusal) -> Said {
+    one(letter, refusal(why))
 }
 
 fn decimal(log: &mut Log, at: usize, n: usize) -> usize {
@@ -115,6 +139,29 @@ pub fn all_same(s: &[u8], mut at: usize, value: u8) -> bool {
     true
 }
 
+// A refusal in words, with its good where it has one.
+fn refusal_text(log: &mut Log, at: usize, n: usize) -> usize {
+    let number_at = read::lay(log, at, b"refused ");
+    let to = decimal(log, number_at, refusal_number(n));
+    if n < 256 {
+        return to;
+    }
+    let good_at = read::lay(log, to, b" good ");
+    decimal(log, good_at, read::less(n / 256, 1))
+}
+
+// The same short: two decimal digits, and the good in four hex digits.
+fn short_refusal(log: &mut Log, at: usize, n: usize) -> usize {
+    let number = refusal_number(n);
+    let number_at = read::put(log, at, b'r');
+    let to = hex(log, number_at, number % 100 / 10 * 16 + number % 10, 2);
+    if n < 256 {
+        return to;
+    }
+    let good_at = read::put(log, to, b'g');
+    hex(log, good_at, read::less(n / 256, 1), 4)
+}
+
 // What a letter past R shows.
 fn shown(log: &mut Log, at: usize, letter: u8, n: usize, source: &[u8]) -> usize {
     match letter {
@@ -130,15 +177,16 @@ fn shown(log: &mut Log, at: usize, letter: u8, n: usize, source: &[u8]) -> usize
 }
 
 // What a capital letter of a text shows of its number, or of the source, the bytes that the text is about. The number: U in
-// decimal, S in decimal with the sign of its 32 bits, T as a word, R as a refusal in two decimal digits, N not at all; A to
-// M in as many hex digits as the letter has its place in the alphabet: A for a flag, B for a byte, D for 16 bits and H for
-// 32. The source: W as it is, X bytes in pairs, Q the same with `-` for none, Y a `!` unless all is 0 from the number on,
-// V and Z whether all is the mark from there on, as a word and as a flag.
+// decimal, S in decimal with the sign of its 32 bits, T as a word, P as a refusal in words and R as a short one, N not at
+// all; A to M in as many hex digits as the letter has its place in the alphabet: A for a flag, B for a byte, D for 16 bits
+// and H for 32. The source: W as it is, X bytes in pairs, Q the same with `-` for none, Y a `!` unless all is 0 from the
+// number on, V and Z whether all is the mark from there on, as a word and as a flag.
 fn number(log: &mut Log, at: usize, letter: u8, n: usize, source: &[u8]) -> usize {
     match letter {
         b'N' => at,
+        b'P' => refusal_text(log, at, n),
         b'Q' => dashed(log, at, source, n),
-        b'R' => hex(log, at, n % 100 / 10 * 16 + n % 10, 2),
+        b'R' => short_refusal(log, at, n),
         b'S'..=b'Z' => shown(log, at, letter, n, source),
         _ => hex(log, at, n, (letter % 32) as usize),
     }
@@ -165,13 +213,13 @@ fn spell(log: &mut Log, mut at: usize, text: &[u8], values: &[usize], source: &[
 // definitions, states, commands and values, the mirror, and lines out of form.
 pub fn say(log: &mut Log, at: usize, s: Said, source: &[u8]) -> usize {
     let text = read::entry(
-        b"iiHH@H|ffHH@H|ssHX@H|bbNX:|eeNN@H|rrNR@H|@@H|..AHHA|u B|+ B+|:; channel=S escaped=A|\
-=sound=A |~carried |<differs at U|>U same|Uunits|,,X/X|/,H/X|--|_rR|dHHDnXlX|0kBBA-|1kBBAfHHH|2kBBAiHH|3kBBAsD|4kBBAcD|\
-*none|?refused U|aat U left U|l at U left U|;; |gU-U good, |xU-U refused U, |\
+        b"iiHH@H|ffHH@H|ssHX@H|bbNX:|eeNN@H|rNR@H|@@H|..AHHA|u B|+ B+|:; channel=S escaped=A|\
+=sound=A |~carried |<differs at U|>U same|Uunits|,,X/X|/,H/X|--|_R|dHHDnXlX|0kBBA-|1kBBAfHHH|2kBBAiHH|3kBBAsD|4kBBAcD|\
+*none|?P|aat U left U|l at U left U|;; |gU-U good, |xU-U P, |\
 p pending=B|n pending=none|t token=between|c token=number T left=U value=H|\
-j token=string left=U of U|k token=body left=U of U stored=U|o store=Q|wDXZ|qrRZ|mDH:|vH-Y|yHsXY|\
-Ffed U U U U U U|Nplaces U|Ccount U|Hheld U|Ppoked|Tsent NQ V|Rrefused U V|DU records T|IS,i,S|BS,f,H|\
-GS,s,X|Aat U|LQ|Wwrote NQ V|Oother NQ|Kloaded U|Jrefused U line U|Vprinted NQ V|E?|#W|X? W",
+j token=string left=U of U|k token=body left=U of U stored=U|o store=Q|wDXZ|qRZ|mDH:|vH-Y|yHsXY|\
+Ffed U U U U U U|Nplaces U|Ccount U|Hheld U|Ppoked|Tsent NQ V|RP V|DU records T|IS,i,S|BS,f,H|\
+GS,s,X|Aat U|LQ|Wwrote NQ V|Oother NQ|Kloaded U|JP line U|Vprinted NQ V|E?|#W|X? W",
         s.letter,
     );
     let values = [s.first, s.second, s.third, s.fourth, s.fifth, s.sixth];

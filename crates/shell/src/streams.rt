@@ -77,7 +77,7 @@ fn piece_end(p: Pieces, at: usize, len: usize, call: u32) -> usize {
     read::onward(at, size_of(p, call), len)
 }
 
-// An answer by the letter of its text, with the node, its value or length, or the refusal's number, and the place reached.
+// An answer by the letter of its text, with the node, its value or length, or the refusal, and the place reached.
 fn event_of(a: Answer, node: usize, place: usize) -> Said {
     match a {
         Answer::More => show::one(b'.', 0),
@@ -86,7 +86,7 @@ fn event_of(a: Answer, node: usize, place: usize) -> Said {
         Answer::String(n) => show::three(b's', node, n as usize, place),
         Answer::Body(n) => show::three(b'b', node, n as usize, place),
         Answer::End => show::three(b'e', node, 0, place),
-        Answer::Refused(why) => show::three(b'r', node, why as usize, place),
+        Answer::Refused(why) => show::three(b'r', node, show::refusal(why), place),
     }
 }
 
@@ -140,7 +140,7 @@ fn next(is_lent: bool, s: state::State, bytes: &[u8]) -> lent::Parted {
 
 // A refusal of the state or of the bytes' number takes nothing: the next call would answer the same.
 fn is_last(e: Said, at_end: bool) -> bool {
-    at_end && e.letter == b'.' || show::second(e, b'r') >= 8
+    at_end && e.letter == b'.' || show::refusal_number(show::second(e, b'r')) >= 8
 }
 
 // One call on what is left of the piece. After more, and by a list after every call, the next piece begins.
@@ -261,7 +261,7 @@ fn from_earlier(log: &mut Log, end: usize, bytes: &[u8]) -> usize {
             let s = loaded.state;
             cut_from(log, text, stream, sized(stream.len(), true), s)
         }
-        LoadAnswer::Refused(why) => show::tell(log, 0, b'_', why as usize, 0, 0, bytes),
+        LoadAnswer::Refused(why) => show::say(log, 0, show::refused(b'_', why), bytes),
     }
 }
 

@@ -1,4 +1,5 @@
 // Characters, the getters of values, and what one byte more makes of a front.
+use crate::places;
 use crate::read;
 use crate::show;
 use crate::show::Log;
@@ -8,8 +9,10 @@ use wing_node::utf8;
 use wing_node::value;
 use wing_node::value::Value;
 
+// Whether the bytes are UTF-8, and their good.
 fn characters(log: &mut Log, at: usize, s: &[u8]) -> usize {
-    show::hex(log, at, show::flag(utf8::is_utf8(s)), 1)
+    let good_at = show::hex(log, at, show::flag(utf8::is_utf8(s)), 1);
+    show::hex(log, good_at, utf8::good_len(s), 4)
 }
 
 // The bytes at the front of an array, and a byte past them.
@@ -85,6 +88,7 @@ pub fn order(log: &mut Log, letter: u8, number: usize, bytes: &[u8]) -> usize {
     match letter {
         b'u' => characters(log, 0, bytes),
         b'f' => one_more(log, bytes, 255, false),
+        b'p' => places::order(log, bytes),
         b's' => one_more(log, bytes, 63, true),
         b'g' => getters(log, number, bytes),
         _ => string(log, number, bytes),

@@ -2,6 +2,7 @@
 use wing_node::definition;
 use wing_node::field::of_i32;
 use wing_node::field::to_i32;
+use wing_node::refusal;
 use wing_node::utf8;
 use wing_node::writer;
 use wing_node::writer::BodyWritten;
@@ -40,7 +41,7 @@ fn value(a: Answer) -> u32 {
         Answer::String(n) => n as u32,
         Answer::Body(n) => n as u32,
         Answer::End => 1,
-        Answer::Refused(why) => why as u32,
+        Answer::Refused(why) => refusal::number(why) as u32,
     }
 }
 
@@ -218,4 +219,9 @@ pub extern "C" fn port_recall(table: &[u8], count: usize, out: &mut [u8]) -> usi
 #[no_mangle]
 pub extern "C" fn port_is_utf8(s: &[u8]) -> u32 {
     if utf8::is_utf8(s) { 1 } else { 0 }
+}
+
+#[no_mangle]
+pub extern "C" fn port_good(s: &[u8]) -> usize {
+    utf8::good_len(s)
 }

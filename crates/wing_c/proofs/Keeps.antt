@@ -13,6 +13,7 @@ use borrow.Rule.Slice.PartMut.{putMid}
 use lib.Dec.{leb}
 use lib.ListN.{length, take, drop, length-drop, take-append-drop, drop-of-length-le}
 use lib.Seq.{take-all, drop-at, length-take-le}
+use Rattle.wing_node.specs.Refusal.{alone}
 use Rattle.wing_node.specs.Result.{ok, refused}
 use Rattle.wing_node.proofs.Branches.{branch}
 use Rattle.wing_wire.specs.State.{bodyLimit, stateOf, soundState, freshState}
@@ -108,7 +109,7 @@ pub head-sound : (state : List ℕ) (c : Control) → HeadOf state c → soundSt
 unfolding soundOnly
 head-sound state c h e = h .state ∙ rw e refl
 
-pub head-unsound : (state : List ℕ) (c : Control) → HeadOf state c → soundState (stateIn c state) ≡ false → stateFrom state ≡ refused 8
+pub head-unsound : (state : List ℕ) (c : Control) → HeadOf state c → soundState (stateIn c state) ≡ false → stateFrom state ≡ refused (alone 8)
 unfolding soundOnly
 head-unsound state c h e = h .state ∙ rw e refl
 

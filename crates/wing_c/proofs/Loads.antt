@@ -6,6 +6,7 @@ use mathlib.Core.List.{List}
 use borrow.Author.Tests.{le-leb}
 use lib.ListN.{length, take}
 use Rattle.wing_node.specs.Result.{Result, ok, refused}
+use Rattle.wing_node.specs.declared.refusal.Refusal.{Refusal}
 use Rattle.wing_wire.specs.State.{soundState}
 use Rattle.wing_wire.specs.Stream.{run, advanceOf, released}
 use Rattle.wing_wire.specs.Reader.{over, eventOf, nextFrom, nextOf, nextEvent}
@@ -30,26 +31,26 @@ module _ (r : Result State) (l : Loaded) (e : l ≡ loadedAs r) where
   unfolding loadedResult
   said-good a = read-as ∙ ap (λ (x : LoadAnswer). loadedResult x (l .state)) a
 
-  said-refused : (n : ℕ) → l .answer ≡ NotLoaded n → r ≡ refused n
+  said-refused : (why : Refusal) → l .answer ≡ NotLoaded why → r ≡ refused why
   unfolding loadedResult
-  said-refused n a = read-as ∙ ap (λ (x : LoadAnswer). loadedResult x (l .state)) a
+  said-refused why a = read-as ∙ ap (λ (x : LoadAnswer). loadedResult x (l .state)) a
 
 pub load-good : (bytes : List ℕ) (l : Loaded) → l ≡ loadOf bytes → l .answer ≡ Good → stateFrom bytes ≡ ok (l .state)
 unfolding loadOf
 load-good bytes l e a = said-good (stateFrom bytes) l e a
 
-pub load-refused : (bytes : List ℕ) (l : Loaded) (n : ℕ) → l ≡ loadOf bytes → l .answer ≡ NotLoaded n → stateFrom bytes ≡ refused n
+pub load-refused : (bytes : List ℕ) (l : Loaded) (why : Refusal) → l ≡ loadOf bytes → l .answer ≡ NotLoaded why → stateFrom bytes ≡ refused why
 unfolding loadOf
-load-refused bytes l n e a = said-refused (stateFrom bytes) l e n a
+load-refused bytes l why e a = said-refused (stateFrom bytes) l e why a
 
 -- the same of bytes of version 1
 pub earlier-good : (bytes : List ℕ) (l : Loaded) → l ≡ loadEarlierOf bytes → l .answer ≡ Good → carriedFrom (earlierFrom bytes) ≡ ok (l .state)
 unfolding loadEarlierOf
 earlier-good bytes l e a = said-good (carriedFrom (earlierFrom bytes)) l e a
 
-pub earlier-refused : (bytes : List ℕ) (l : Loaded) (n : ℕ) → l ≡ loadEarlierOf bytes → l .answer ≡ NotLoaded n → carriedFrom (earlierFrom bytes) ≡ refused n
+pub earlier-refused : (bytes : List ℕ) (l : Loaded) (why : Refusal) → l ≡ loadEarlierOf bytes → l .answer ≡ NotLoaded why → carriedFrom (earlierFrom bytes) ≡ refused why
 unfolding loadEarlierOf
-earlier-refused bytes l n e a = said-refused (carriedFrom (earlierFrom bytes)) l e n a
+earlier-refused bytes l why e a = said-refused (carriedFrom (earlierFrom bytes)) l e why a
 
 -- a next call that is not refused is a run of the core
 next-run : (s : State) (bytes : List ℕ) → soundState s ≡ true → length bytes ≤ 65536 → nextOf s bytes ≡ nextFrom (advanceOf (s .control) (s .store) bytes)
@@ -73,7 +74,7 @@ event-bytes (Float bits) s = refl
 event-bytes (String n) s = refl
 event-bytes (Body n) s = refl
 event-bytes End s = refl
-event-bytes (Refused n) s = refl
+event-bytes (Refused why) s = refl
 
 -- a next call made by the core: its answer, the bytes of its event at the front of the output, and the store cleared of them
 pub next-left : (s : State) (bytes out : List ℕ) (x : Advanced) (store : List ℕ) {cleared handed : List ℕ} →

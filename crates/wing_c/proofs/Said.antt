@@ -5,7 +5,8 @@ use mathlib.Core.List.{List}
 use native.Mathlib.Omega.{arith}
 use lib.IntN.{ℤ, negsuc}
 use borrow.Author.Tests.{ne-eqb}
-use Rattle.wing_node.specs.Signed.{signed, unsigned}
+use Rattle.wing_node.specs.declared.refusal.Refusal.{Refusal}
+use Rattle.wing_node.specs.declared.refusal.Refusal.the-variants.{Number, StringNotUtf8, DefinitionNotUtf8}
 use Rattle.wing_node.proofs.Numerals.Signs.{signed-unsigned}
 use Rattle.wing_node.specs.declared.value.Value.the-variants.{Integer, Float, String}
 use Rattle.wing_node.specs.declared.writer.BodyWritten.{BodyWritten}
@@ -30,9 +31,9 @@ use Rattle.wing_mirror.specs.declared.answer.Same.the-variants.{Yes, No, Refuse
 use Rattle.wing_listing.specs.Calls.{loadOf}
 use Rattle.wing_listing.specs.declared.answer.Loaded.{Loaded}
 use Rattle.wing_listing.specs.declared.answer.Loaded.the-variants.{Records, Refused as LoadRefused}
-use Rattle.wing_c.specs.Numbers.{minus, writtenNumbers, bodyNumbers, setNumbers, feedStatus, fedNumbers, lookupNumbers, sameNumber, recordNumbers, eventNumbers, requestedNumbers, metersNumbers, loadedNumbers}
-use Rattle.wing_c.specs.Meanings.{writtenIn, bodyIn, setIn, feedAnswerIn, countsIn, lookupIn, sameIn, valueIn, recordIn, kindIn, answerIn, requestedIn, metersIn, loadedIn}
-use Rattle.wing_c.specs.Meanings.{OfWritten, OfBody, OfFeed, OfLookup, OfSame, OfRecord, OfNext, OfRequested, OfMeters, OfLoaded, NextBeside, NumbersSay}
+use Rattle.wing_c.specs.Numbers.{minus, sentBack, writtenNumbers, bodyNumbers, setNumbers, feedStatus, fedNumbers, lookupNumbers, sameNumber, recordNumbers, eventNumbers, requestedNumbers, metersNumbers, loadedNumbers}
+use Rattle.wing_c.specs.Meanings.{byStatusAndGood, writtenIn, bodyIn, setIn, feedAnswerIn, countsIn, lookupIn, sameIn, valueIn, recordIn, kindIn, answerIn, requestedIn, metersIn, loadedIn}
+use Rattle.wing_c.specs.Meanings.{OfRefusal, OfWritten, OfBody, OfFeed, OfLookup, OfSame, OfRecord, OfNext, OfRequested, OfMeters, OfLoaded, NextBeside, NumbersSay}
 use Rattle.wing_c.proofs.Listed.{load-told}
 
 -- a refusal's status is below 0, and its number without the sign is the refusal's
@@ -42,24 +43,33 @@ below n h = simp (ne-eqb n 0 (λ (e : n ≡ 0). omega arith))
 pub again : (n : ℕ) → 1 ≤ n → suc (n - 1) ≡ n
 again n h = omega arith
 
+-- a refusal with its good is told by both
+pub both : {A : Type 0} (refused : Refusal → A) (taken : ℕ → A) (why : Refusal) → OfRefusal why →
+    byStatusAndGood (sentBack why .status) (sentBack why .good) refused taken ≡ refused why
+both refused taken (Number n) (two, five) =
+    let one : 1 ≤ n = omega arith in
+    rw (below n one, again n one, ne-eqb n 1 (λ (e : n ≡ 1). omega arith), ne-eqb n 5 five) refl
+both refused taken (StringNotUtf8 g) h = refl
+both refused taken (DefinitionNotUtf8 g) h = refl
+
 written : (w : Written) → OfWritten w → writtenIn (writtenNumbers w) ≡ w
 unfolding writtenIn
 written (Bytes n) h = refl
-written (Refused n) h = rw (below n h) (ap Refused (again n h))
+written (Refused why) h = both Refused _ why h
 
 pub body : (w : BodyWritten) → OfBody w → bodyIn (bodyNumbers w) ≡ w
 unfolding bodyIn
 body (BodyBytes n) h = refl
-body (BodyRefused n) h = rw (below n h) (ap BodyRefused (again n h))
+body (BodyRefused why) h = both BodyRefused _ why h
 
 set : (w : Written) (count : ℕ) → OfWritten w → setIn (setNumbers w count) ≡ w
 unfolding setIn
 set (Bytes n) count h = refl
-set (Refused n) count h = rw (below n h) (ap Refused (again n h))
+set (Refused why) count h = both Refused _ why h
 
 set-beside : (w : Written) (count : ℕ) → setNumbers w count .count ≡ count
 set-beside (Bytes n) count = refl
-set-beside (Refused n) count = refl
+set-beside (Refused why) count = refl
 
 feed : (a : FeedAnswer) (c : Counts) (count : ℕ) → OfFeed a → feedAnswerIn (fedNumbers (feedStatus a) c count) ≡ a
 unfolding feedAnswerIn
@@ -103,7 +113,7 @@ next (FloatAt bits) node taken h = refl
 next (StringAt n) node taken h = refl
 next (Body n) node taken h = refl
 next End node taken h = refl
-next (NextRefused n) node taken h = rw (below n h) (ap NextRefused (again n h))
+next (NextRefused why) node taken h = both NextRefused _ why h
 
 next-beside : (a : Answer) (node : ℤ) (taken : ℕ) → NextBeside a node taken
 next-beside More node taken = record { node = refl; taken = refl }
@@ -112,7 +122,7 @@ next-beside (FloatAt bits) node taken = record { node = refl; taken = refl }
 next-beside (StringAt n) node taken = record { node = refl; taken = refl }
 next-beside (Body n) node taken = record { node = refl; taken = refl }
 next-beside End node taken = record { node = refl; taken = refl }
-next-beside (NextRefused n) node taken = record { node = refl; taken = refl }
+next-beside (NextRefused why) node taken = record { node = refl; taken = refl }
 
 requested : (r : Requested) → OfRequested r → requestedIn (requestedNumbers r) ≡ r
 unfolding requestedIn
@@ -127,7 +137,7 @@ meters (ReadRefused n) h = rw (below n h) (ap ReadRefused (again n h))
 load : (a : Loaded) → OfLoaded a → loadedIn (loadedNumbers a) ≡ a
 unfolding loadedIn
 load (Records n) h = refl
-load (LoadRefused n line) h = rw (below n h) (ap (λ (x : ℕ). LoadRefused x line) (again n h))
+load (LoadRefused why line) h = both (λ x. LoadRefused x line) _ why h
 
 -- every answer is what its numbers mean
 pub numbers-say : NumbersSay
@@ -150,7 +160,8 @@ numbers-say =
       load = load;
       load-call = λ text memory. load (loadOf text memory .reply .answer) (load-told text memory .answer);
       load-fresh = λ text memory. load-told text memory .fresh;
-      refused-zero = λ n. record {
+      good-beside = λ why. record { written = refl; body = refl; set = λ count. refl; next = λ node taken. refl; load = λ line. refl };
+      refused-zero = λ n why. record {
         written = refl;
         body = refl;
         set = λ count. refl;
@@ -162,16 +173,19 @@ numbers-say =
         load = λ line. refl;
       };
       other-zero = record {
+        written = λ n. refl;
+        body = λ n. refl;
+        set = λ n count. refl;
         none = refl;
         integer = λ id x s. refl;
         float = λ id bits s. refl;
         string = λ id n s. refl;
-        next-more = λ node taken. (refl, refl, refl);
-        next-integer = λ x node taken. refl;
-        next-float = λ bits node taken. refl;
-        next-string = λ n node taken. refl;
-        next-body = λ n node taken. refl;
-        next-end = λ node taken. (refl, refl);
-        loaded = λ n. refl;
+        next-more = λ node taken. (refl, refl, refl, refl);
+        next-integer = λ x node taken. (refl, refl);
+        next-float = λ bits node taken. (refl, refl);
+        next-string = λ n node taken. (refl, refl);
+        next-body = λ n node taken. (refl, refl);
+        next-end = λ node taken. (refl, refl, refl);
+        loaded = λ n. (refl, refl);
       };
     }

@@ -1,8 +1,7 @@
 -- Every definition, item and walk is what its numbers mean: type and unit come back by 01's tables, the details by the type.
 use Prim.Native.Nat.{ℕ}
-use mathlib.Core.Path.{_≡_, refl, _∙_, ap}
+use mathlib.Core.Path.{_≡_, refl, ap}
 use mathlib.Core.List.{List}
-use lib.IntN.{ℤ}
 use Rattle.wing_node.specs.Types.{typeOf, unitOf, typeNumber, unitNumber}
 use Rattle.wing_node.specs.Definition.{definitionOf}
 use Rattle.wing_node.specs.Items.{beginOf, stepAt, itemNumbered}
@@ -26,7 +25,7 @@ use Rattle.wing_node.specs.declared.items.Step.{Step}
 use Rattle.wing_c.specs.Definitions.{takenNumbers, definitionNumbers, walkNumbers, begunNumbers, itemNumbers, stepNumbers, fieldsGiven}
 use Rattle.wing_c.specs.DefinitionMeanings.{detailsIn, definitionIn, fieldsRead, parsedIn, walkIn, begunIn, itemKindIn, itemIn, stepIn, OfType, OfParsed, OfBegun, OfItem, DefinitionsSay}
 use Rattle.wing_c.specs.DefinitionMeanings.OfType.{node, linear, logarithmic, fader, integers, strings, floats, text}
-use Rattle.wing_c.proofs.Said.{below, again, body as body-said}
+use Rattle.wing_c.proofs.Said.{both, body as body-said}
 use Rattle.wing_c.proofs.Answered.{parsed-answer, begun-answer, step-answer, numbered-answer, write-answer, anew-answer}
 
 types : (t : NodeType) → typeOf (typeNumber t) ≡ t
@@ -66,7 +65,7 @@ details d t x e text = rw e
 parsed : (p : Parsed) → OfParsed p → parsedIn (definitionNumbers p) ≡ p
 unfolding parsedIn definitionIn
 parsed (Good d) h = rw (types (d .«node_type»), units (d .unit), details d (d .«node_type») (d .details) refl h)
-parsed (Refused n) h = rw (below n h) (ap Refused (again n h))
+parsed (Refused why) h = both Refused _ why h
 
 walk : (w : Walk) → walkIn (walkNumbers w) ≡ w
 unfolding walkIn
@@ -75,14 +74,14 @@ walk w = rw (types (w .kind))
 begun : (b : Begun) → OfBegun b → begunIn (begunNumbers b) ≡ b
 unfolding begunIn
 begun (WalkBegun w) h = ap WalkBegun (walk w)
-begun (WalkRefused n) h = rw (below n h) (ap WalkRefused (again n h))
+begun (WalkRefused why) h = both WalkRefused _ why h
 
 item : (i : Item) → OfItem i → itemIn (itemNumbers i) ≡ i
 unfolding itemIn itemKindIn
 item NoItem h = refl
 item (Strings a b) h = refl
 item (Float bits b) h = refl
-item (ItemRefused n) h = rw (below n h) (ap ItemRefused (again n h))
+item (ItemRefused why) h = both ItemRefused _ why h
 
 step : (s : Step) → OfItem (s .item) → stepIn (stepNumbers s) ≡ s
 unfolding stepIn
@@ -122,20 +121,23 @@ definitions-say =
       write-call = λ d l out. body-said (bodyOfFields d l out .answer) (write-answer d l out);
       anew-call = λ body out b. body-said (anewOf body out .answer) (anew-answer body out b);
       given-back = λ body out d b e. given-anew body out d e (parsed-answer body b);
-      refused-zero = λ n. record {
+      good-beside = λ why. record { definition = refl; walk = refl; item = refl };
+      refused-zero = λ why. record {
         definition = (refl, refl, refl, refl, refl, refl, refl, refl, refl, refl);
         details = (refl, refl, refl, refl, refl, refl);
         walk = (refl, refl, refl);
         item = (refl, refl, refl, refl, refl, refl);
       };
       other-zero = record {
+        read = λ d. refl;
+        walk = λ w. refl;
         none = λ d e. rw e (refl, refl, refl, refl, refl, refl);
         floats = λ d min max steps e. rw e (refl, refl, refl);
         integers = λ d min max e. rw e (refl, refl, refl, refl);
         items = λ d count first e. rw e (refl, refl, refl, refl);
         text = λ d n e. rw e (refl, refl, refl, refl, refl);
-        strings-item = λ a b. refl;
-        float-item = λ bits b. (refl, refl);
-        no-item = (refl, refl, refl, refl, refl, refl);
+        strings-item = λ a b. (refl, refl);
+        float-item = λ bits b. (refl, refl, refl);
+        no-item = (refl, refl, refl, refl, refl, refl, refl);
       };
     }

@@ -1,11 +1,12 @@
 -- What the numbers of definitions and items mean, by the header's words, and that each of them is the meaning of its numbers.
-use Prim.Native.Nat.{ℕ, _≤_}
+use Prim.Native.Nat.{ℕ}
 use mathlib.Core.Bool.{false}
 use mathlib.Core.Path.{_≡_}
 use mathlib.Core.List.{List}
 use lib.Dec.{eqb}
 use lib.IntN.{ℤ, pos}
 use Rattle.wing_node.specs.Bool.{if}
+use Rattle.wing_node.specs.Refusal.{goodBeside}
 use Rattle.wing_node.specs.Signed.{signed, InBits}
 use Rattle.wing_node.specs.Types.{typeOf, unitOf}
 use Rattle.wing_node.specs.Definition.{definitionOf}
@@ -13,6 +14,7 @@ use Rattle.wing_node.specs.Items.{beginOf, stepAt, itemNumbered}
 use Rattle.wing_node.specs.Writer.{Lent, bodyOfFields}
 use Rattle.wing_node.specs.Anew.{lentFrom, anewOf}
 use Rattle.wing_wire.specs.Range.{AreBytes}
+use Rattle.wing_node.specs.declared.refusal.Refusal.{Refusal}
 use Rattle.wing_node.specs.declared.node_type.NodeType.{NodeType}
 use Rattle.wing_node.specs.declared.node_type.NodeType.the-variants.{Node, LinearFloat, LogarithmicFloat, FaderLevel, Integer, StringEnum, FloatEnum, String}
 use Rattle.wing_node.specs.declared.definition.Span.{Span}
@@ -30,7 +32,7 @@ use Rattle.wing_node.specs.declared.items.Step.{Step}
 use Rattle.wing_node.specs.declared.writer.Fields.{Fields}
 use Rattle.wing_c.specs.Numbers.{bodyNumbers}
 use Rattle.wing_c.specs.Definitions.{takenNumbers, definitionNumbers, walkNumbers, begunNumbers, itemNumbers, stepNumbers, fieldsGiven}
-use Rattle.wing_c.specs.Meanings.{byStatus, bodyIn}
+use Rattle.wing_c.specs.Meanings.{byStatusAndGood, bodyIn, OfRefusal}
 use Rattle.wing_c.specs.declared.definitions.WingDefinition.{WingDefinition}
 use Rattle.wing_c.specs.declared.definitions.WingWalk.{WingWalk}
 use Rattle.wing_c.specs.declared.definitions.WingItem.{WingItem}
@@ -72,7 +74,7 @@ definitionIn r =
 
 -- the definition in a body, or a refusal
 unfoldable pub parsedIn : WingDefinition → Parsed
-parsedIn r = byStatus (r .status) Refused (λ _. Good (definitionIn r))
+parsedIn r = byStatusAndGood (r .status) (r .good) Refused (λ _. Good (definitionIn r))
 
 -- a definition that was read as one to be written: the fields of the same names
 abbrev pub fieldsRead : WingDefinition → WingFields
@@ -97,7 +99,7 @@ walkIn r = record { at = r .at; left = r .left; kind = typeOf (r .«node_type»)
 
 -- a walk at the first item, or a refusal
 unfoldable pub begunIn : WingWalk → Begun
-begunIn r = byStatus (r .status) WalkRefused (λ _. WalkBegun (walkIn r))
+begunIn r = byStatusAndGood (r .status) (r .good) WalkRefused (λ _. WalkBegun (walkIn r))
 
 -- an item by its kind: 0 two strings, 1 float bits and a string
 unfoldable pub itemKindIn : WingItem → Item
@@ -107,13 +109,13 @@ itemKindIn r =
 
 -- 1 an item, 0 none
 unfoldable pub itemIn : WingItem → Item
-itemIn r = byStatus (r .status) ItemRefused (λ s. if (eqb s 1) (itemKindIn r) NoItem)
+itemIn r = byStatusAndGood (r .status) (r .good) ItemRefused (λ s. if (eqb s 1) (itemKindIn r) NoItem)
 
 -- a step: the item there, and the walk after it
 unfoldable pub stepIn : WingStep → Step
 stepIn r = record { item = itemIn (r .item); next = walkIn (r .walk) }
 
--- ---- which answers there are: a refusal's number is 1 or more, an integer has 32 bits, and details are those of the type
+-- ---- which answers there are: a refusal is one of Meanings, an integer has 32 bits, and details are those of the type
 
 -- the details that each type has
 pub data OfType : NodeType → Details → Type 0 where
@@ -129,35 +131,44 @@ pub data OfType : NodeType → Details → Type 0 where
 -- of the parser
 abbrev pub OfParsed : Parsed → Type 0
 OfParsed (Good d) = OfType (d .«node_type») (d .details)
-OfParsed (Refused n) = 1 ≤ n
+OfParsed (Refused why) = OfRefusal why
 
 -- of the beginning of a walk
 abbrev pub OfBegun : Begun → Type 0
 OfBegun (WalkBegun w) = Unit {0}
-OfBegun (WalkRefused n) = 1 ≤ n
+OfBegun (WalkRefused why) = OfRefusal why
 
 -- of an item
 abbrev pub OfItem : Item → Type 0
 OfItem NoItem = Unit {0}
 OfItem (Strings a b) = Unit {0}
 OfItem (Float bits b) = Unit {0}
-OfItem (ItemRefused n) = 1 ≤ n
+OfItem (ItemRefused why) = OfRefusal why
 
 -- ---- what holds of them
 
--- where the status is a refusal, all other fields are 0
-pub record RefusedZero (n : ℕ) : Type 0 where
-  pub definition : let r = definitionNumbers (Refused n) in
+-- 02: beside a refusal stands its good: of 5 that of the string, 0 of every other
+pub record GoodBeside (why : Refusal) : Type 0 where
+  pub definition : definitionNumbers (Refused why) .good ≡ goodBeside why
+  pub walk : begunNumbers (WalkRefused why) .good ≡ goodBeside why
+  pub item : itemNumbers (ItemRefused why) .good ≡ goodBeside why
+
+-- where the status is a refusal, all other fields are 0, but for the good of 5
+pub record RefusedZero (why : Refusal) : Type 0 where
+  pub definition : let r = definitionNumbers (Refused why) in
       (r .«parent_id» ≡ pos 0) × (r .id ≡ pos 0) × (r .index ≡ 0) × (r .«node_type» ≡ 0) × (r .unit ≡ 0) × (r .«read_only» ≡ false) ×
       (r .«name_len» ≡ 0) × (r .«long_name_len» ≡ 0) × (r .«name_start» ≡ 0) × (r .«long_name_start» ≡ 0)
-  pub details : let r = definitionNumbers (Refused n) in
+  pub details : let r = definitionNumbers (Refused why) in
       (r .count ≡ 0) × (r .«max_len» ≡ 0) × (r .min ≡ 0) × (r .max ≡ 0) × (r .steps ≡ pos 0) × (r .«first_item» ≡ 0)
-  pub walk : let r = begunNumbers (WalkRefused n) in (r .at ≡ 0) × (r .left ≡ 0) × (r .«node_type» ≡ 0)
-  pub item : let r = itemNumbers (ItemRefused n) in
+  pub walk : let r = begunNumbers (WalkRefused why) in (r .at ≡ 0) × (r .left ≡ 0) × (r .«node_type» ≡ 0)
+  pub item : let r = itemNumbers (ItemRefused why) in
       (r .kind ≡ 0) × (r .bits ≡ 0) × (r .len ≡ 0) × (r .«long_len» ≡ 0) × (r .start ≡ 0) × (r .«long_start» ≡ 0)
 
--- what a type has not is 0, by the details of a definition that was read; two strings have no bits, a float no short string
+-- what a type has not is 0, by the details of a definition that was read, and so is the good; two strings have no bits, a float no short string, a walk under
+-- way no good
 pub record OtherZero : Type 0 where
+  pub read : (d : Definition) → definitionNumbers (Good d) .good ≡ 0
+  pub walk : (w : Walk) → walkNumbers w .good ≡ 0
   pub none : (d : Definition) → d .details ≡ None → let r = definitionNumbers (Good d) in
       (r .count ≡ 0) × (r .«max_len» ≡ 0) × (r .min ≡ 0) × (r .max ≡ 0) × (r .steps ≡ pos 0) × (r .«first_item» ≡ 0)
   pub floats : (d : Definition) (min max : ℕ) (steps : ℤ) → d .details ≡ Floats min max steps → let r = definitionNumbers (Good d) in
@@ -168,10 +179,10 @@ pub record OtherZero : Type 0 where
       (r .«max_len» ≡ 0) × (r .min ≡ 0) × (r .max ≡ 0) × (r .steps ≡ pos 0)
   pub text : (d : Definition) (n : ℕ) → d .details ≡ MaxLen n → let r = definitionNumbers (Good d) in
       (r .count ≡ 0) × (r .min ≡ 0) × (r .max ≡ 0) × (r .steps ≡ pos 0) × (r .«first_item» ≡ 0)
-  pub strings-item : (a b : Span) → itemNumbers (Strings a b) .bits ≡ 0
-  pub float-item : (bits : ℕ) (b : Span) → let r = itemNumbers (Float bits b) in (r .len ≡ 0) × (r .start ≡ 0)
+  pub strings-item : (a b : Span) → let r = itemNumbers (Strings a b) in (r .good ≡ 0) × (r .bits ≡ 0)
+  pub float-item : (bits : ℕ) (b : Span) → let r = itemNumbers (Float bits b) in (r .good ≡ 0) × (r .len ≡ 0) × (r .start ≡ 0)
   pub no-item : let r = itemNumbers NoItem in
-      (r .kind ≡ 0) × (r .bits ≡ 0) × (r .len ≡ 0) × (r .«long_len» ≡ 0) × (r .start ≡ 0) × (r .«long_start» ≡ 0)
+      (r .good ≡ 0) × (r .kind ≡ 0) × (r .bits ≡ 0) × (r .len ≡ 0) × (r .«long_len» ≡ 0) × (r .start ≡ 0) × (r .«long_start» ≡ 0)
 
 -- every definition, item and walk is what its numbers mean
 pub record DefinitionsSay : Type 0 where
@@ -191,5 +202,6 @@ pub record DefinitionsSay : Type 0 where
   -- the fields that were read of a body, given with its names and items, are written as the body is anew: a limit's 32 bits serve both ways
   pub given-back : (body out : List ℕ) (d : Definition) → AreBytes body → definitionOf body ≡ Good d →
       bodyOfFields (fieldsGiven (fieldsRead (takenNumbers d))) (lentFrom body d) out ≡ anewOf body out
-  pub refused-zero : (n : ℕ) → RefusedZero n
+  pub good-beside : (why : Refusal) → GoodBeside why
+  pub refused-zero : (why : Refusal) → RefusedZero why
   pub other-zero : OtherZero

@@ -4,6 +4,7 @@ use mathlib.Core.Bool.{false}
 use lib.IntN.{ℤ, pos}
 use Rattle.wing_node.specs.Signed.{signed, unsigned}
 use Rattle.wing_node.specs.Types.{typeNumber, unitNumber}
+use Rattle.wing_node.specs.declared.refusal.Refusal.{Refusal}
 use Rattle.wing_node.specs.declared.definition.Details.{Details}
 use Rattle.wing_node.specs.declared.definition.Details.the-variants.{None, Floats, Integers, Items, String as MaxLen}
 use Rattle.wing_node.specs.declared.definition.Item.{Item}
@@ -16,7 +17,8 @@ use Rattle.wing_node.specs.declared.items.Begun.{Begun}
 use Rattle.wing_node.specs.declared.items.Begun.the-variants.{Good as WalkBegun, Refused as WalkRefused}
 use Rattle.wing_node.specs.declared.items.Step.{Step}
 use Rattle.wing_node.specs.declared.writer.Fields.{Fields}
-use Rattle.wing_c.specs.Numbers.{minus}
+use Rattle.wing_c.specs.Numbers.{sentBack, noRefusal}
+use Rattle.wing_c.specs.declared.answers.Outcome.{Outcome}
 use Rattle.wing_c.specs.declared.definitions.WingDefinition.{WingDefinition}
 use Rattle.wing_c.specs.declared.definitions.WingWalk.{WingWalk}
 use Rattle.wing_c.specs.declared.definitions.WingItem.{WingItem}
@@ -46,6 +48,7 @@ takenNumbers d =
     let n = detailNumbers (d .details) in
     record {
       status = pos 0;
+      good = 0;
       «parent_id» = d .«parent_id»;
       id = d .id;
       index = d .index;
@@ -65,10 +68,11 @@ takenNumbers d =
     }
 
 -- a body that is refused: 4 or 5
-abbrev pub refusedNumbers : ℕ → WingDefinition
+abbrev pub refusedNumbers : Refusal → WingDefinition
 refusedNumbers why =
     record {
-      status = minus why;
+      status = sentBack why .status;
+      good = sentBack why .good;
       «parent_id» = pos 0;
       id = pos 0;
       index = 0;
@@ -90,31 +94,31 @@ refusedNumbers why =
 -- the definition in a body
 abbrev pub definitionNumbers : Parsed → WingDefinition
 definitionNumbers (Good d) = takenNumbers d
-definitionNumbers (Refused n) = refusedNumbers n
+definitionNumbers (Refused why) = refusedNumbers why
 
 -- a walk: the place reached, the items left, the type
-abbrev pub walkAs : ℤ → ℕ → ℕ → ℕ → WingWalk
-walkAs status at left type = record { status = status; left = left; «node_type» = type; at = at }
+abbrev pub walkAs : Outcome → ℕ → ℕ → ℕ → WingWalk
+walkAs o at left type = record { status = o .status; good = o .good; left = left; «node_type» = type; at = at }
 
 -- a walk that is under way
 abbrev pub walkNumbers : Walk → WingWalk
-walkNumbers w = walkAs (pos 0) (w .at) (w .left) (typeNumber (w .kind))
+walkNumbers w = walkAs noRefusal (w .at) (w .left) (typeNumber (w .kind))
 
 -- a walk at the first item, or the parser's 4 or 5
 abbrev pub begunNumbers : Begun → WingWalk
 begunNumbers (WalkBegun w) = walkNumbers w
-begunNumbers (WalkRefused n) = walkAs (minus n) 0 0 0
+begunNumbers (WalkRefused why) = walkAs (sentBack why) 0 0 0
 
 -- no item: 0 for none, or a refusal
-abbrev pub noItem : ℤ → WingItem
-noItem status = record { status = status; kind = 0; bits = 0; len = 0; «long_len» = 0; start = 0; «long_start» = 0 }
+abbrev pub noItem : Outcome → WingItem
+noItem o = record { status = o .status; good = o .good; kind = 0; bits = 0; len = 0; «long_len» = 0; start = 0; «long_start» = 0 }
 
 -- an item: 1 and its kind (0 two strings, 1 float bits and a string)
 abbrev pub itemNumbers : Item → WingItem
-itemNumbers NoItem = noItem (pos 0)
-itemNumbers (Strings a b) = record { status = pos 1; kind = 0; bits = 0; len = a .len; «long_len» = b .len; start = a .start; «long_start» = b .start }
-itemNumbers (Float bits b) = record { status = pos 1; kind = 1; bits = bits; len = 0; «long_len» = b .len; start = 0; «long_start» = b .start }
-itemNumbers (ItemRefused n) = noItem (minus n)
+itemNumbers NoItem = noItem noRefusal
+itemNumbers (Strings a b) = record { status = pos 1; good = 0; kind = 0; bits = 0; len = a .len; «long_len» = b .len; start = a .start; «long_start» = b .start }
+itemNumbers (Float bits b) = record { status = pos 1; good = 0; kind = 1; bits = bits; len = 0; «long_len» = b .len; start = 0; «long_start» = b .start }
+itemNumbers (ItemRefused why) = noItem (sentBack why)
 
 -- a step: the item, and the walk after it
 abbrev pub stepNumbers : Step → WingStep

@@ -5,8 +5,10 @@ use lib.Dec.{leb}
 use lib.IntN.{ℤ, pos}
 use lib.ListN.{length, drop}
 use Rattle.wing_node.specs.Bool.{if}
+use Rattle.wing_node.specs.Refusal.{refusalNumber, alone}
 use Rattle.wing_node.specs.Result.{Result, ok, refused}
 use Rattle.wing_node.specs.Value.{NodeValue, integer, float, string}
+use Rattle.wing_node.specs.declared.refusal.Refusal.{Refusal}
 use Rattle.wing_wire.specs.State.{bodyLimit, stateOf}
 use Rattle.wing_wire.specs.Reader.{Event, more, value, body, end, refused as refusal, over, nextOf, nextEvent}
 use Rattle.wing_wire.specs.declared.state.Control.{Control}
@@ -24,14 +26,14 @@ use Rattle.wing_mirror.specs.Counts.{zeroCounts}
 use Rattle.wing_mirror.specs.Mirror.{FeedEffect, mirrorFeed}
 use Rattle.wing_mirror.specs.declared.answer.FeedAnswer.{FeedAnswer}
 use Rattle.wing_mirror.specs.declared.answer.FeedAnswer.the-variants.{Taken, Refused}
-use Rattle.wing_c.specs.Numbers.{minus, feedStatus, fedNumbers, noEvent, eventNumbers}
+use Rattle.wing_c.specs.Numbers.{minus, sentBack, feedStatus, fedNumbers, noEvent, eventNumbers}
 use Rattle.wing_c.specs.declared.answers.WingFed.{WingFed}
 use Rattle.wing_c.specs.declared.answers.WingEvent.{WingEvent}
 
 -- 0 for the bytes of a sound state, else 8
 abbrev pub stateStatus : Result State → ℤ
 stateStatus (ok s) = pos 0
-stateStatus (refused n) = minus n
+stateStatus (refused why) = minus (refusalNumber why)
 
 -- the state of a control and of the store in a state's bytes
 abbrev pub stateIn : Control → List ℕ → State
@@ -39,15 +41,15 @@ stateIn c state = stateOf c (drop 27 state)
 
 -- ---- a state of version 1 (02)
 
--- the bytes of what it is carried over as, or 9; where it is not carried over, its number, and the output as it was
+-- the bytes of what it is carried over as, or 9; where it is not carried over, its refusal, and the output as it was
 unfoldable pub carriedKept : Result State → List ℕ → WriteEffect
 carriedKept (ok s) out = saveOf s out
-carriedKept (refused n) out = writeEffect (NotWritten n) out
+carriedKept (refused why) out = writeEffect (NotWritten why) out
 
 -- what an output of a state's size reads as then: the state carried over, else what it read as before
 unfoldable pub stateCarried : Result State → Result State → Result State
 stateCarried (ok s) before = ok s
-stateCarried (refused n) before = before
+stateCarried (refused why) before = before
 
 -- ---- feed
 
@@ -79,7 +81,7 @@ feedFrom e state =
 -- 8 for bytes that are no sound state's, and all is as it was; else the library's feed
 unfoldable pub feedWith : Result State → List ℕ → Table → List ℕ → KeptFeed
 feedWith (ok s) state t bytes = feedFrom (mirrorFeed full s t bytes) state
-feedWith (refused n) state t bytes = keptFeed (fedNumbers (minus n) zeroCounts (t .count)) state (t .buffer)
+feedWith (refused why) state t bytes = keptFeed (fedNumbers (minus (refusalNumber why)) zeroCounts (t .count)) state (t .buffer)
 
 -- a feed on the bytes of a state; 8, 7, 14
 abbrev pub feedKept : List ℕ → Table → List ℕ → KeptFeed
@@ -88,7 +90,7 @@ feedKept state t bytes = feedWith (stateFrom state) state t bytes
 -- what the bytes of a state read as after a feed: the library's state after it
 unfoldable pub stateFed : Result State → Table → List ℕ → Result State
 stateFed (ok s) t bytes = ok (mirrorFeed full s t bytes .state)
-stateFed (refused n) t bytes = refused n
+stateFed (refused why) t bytes = refused why
 
 -- ---- next
 
@@ -114,7 +116,7 @@ eventBytes more = []
 eventBytes (value v) = valueBytes v
 eventBytes (body b) = b
 eventBytes end = []
-eventBytes (refusal n) = []
+eventBytes (refusal why) = []
 
 -- how many bytes of a string or a body an answer has
 abbrev pub answerBytes : Answer → ℕ
@@ -124,7 +126,7 @@ answerBytes (Float bits) = 0
 answerBytes (String n) = n
 answerBytes (Body n) = n
 answerBytes End = 0
-answerBytes (NextRefused n) = 0
+answerBytes (NextRefused why) = 0
 
 -- what a next call on a lent store leaves: its answer, the bytes taken, the state and the output
 pub record LentNext : Type 0 where
@@ -149,20 +151,20 @@ nextReplied r e out =
     keptNext (eventNumbers (r .answer) (r .state .control .node) (r .taken)) (stateBytes (r .state)) (over (eventBytes e) out)
 
 -- a refused call, with all as it was
-abbrev pub nextRefused : ℕ → ℤ → List ℕ → List ℕ → KeptNext
-nextRefused n node state out = keptNext (noEvent (minus n) node 0) state out
+abbrev pub nextRefused : Refusal → ℤ → List ℕ → List ℕ → KeptNext
+nextRefused why node state out = keptNext (noEvent (sentBack why) node 0) state out
 
 -- 14 for more than 65,536 bytes, 9 for an output that is shorter than the longest body; else the library's next
 unfoldable pub nextSound : State → List ℕ → List ℕ → List ℕ → KeptNext
 nextSound s state bytes out =
     if (leb (length bytes) 65536)
-    (if (leb bodyLimit (length out)) (nextReplied (nextOf s bytes) (nextEvent s bytes) out) (nextRefused 9 (s .control .node) state out))
-    (nextRefused 14 (s .control .node) state out)
+    (if (leb bodyLimit (length out)) (nextReplied (nextOf s bytes) (nextEvent s bytes) out) (nextRefused (alone 9) (s .control .node) state out))
+    (nextRefused (alone 14) (s .control .node) state out)
 
 -- 8 for bytes that are no sound state's
 unfoldable pub nextWith : Result State → List ℕ → List ℕ → List ℕ → KeptNext
 nextWith (ok s) state bytes out = nextSound s state bytes out
-nextWith (refused n) state bytes out = nextRefused n (pos 0) state out
+nextWith (refused why) state bytes out = nextRefused why (pos 0) state out
 
 -- a next call on the bytes of a state; 8, 14, 9
 abbrev pub nextKept : List ℕ → List ℕ → List ℕ → KeptNext
@@ -175,4 +177,4 @@ nextState s bytes out = if (leb (length bytes) 65536) (if (leb bodyLimit (length
 -- what the bytes of a state read as after a next call
 unfoldable pub stateNext : Result State → List ℕ → List ℕ → Result State
 stateNext (ok s) bytes out = ok (nextState s bytes out)
-stateNext (refused n) bytes out = refused n
+stateNext (refused why) bytes out = refused why

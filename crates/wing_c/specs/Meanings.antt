@@ -5,8 +5,11 @@ use mathlib.Core.List.{List}
 use lib.Dec.{eqb}
 use lib.IntN.{ℤ, pos, negsuc}
 use Rattle.wing_node.specs.Bool.{if}
+use Rattle.wing_node.specs.Refusal.{goodBeside}
 use Rattle.wing_node.specs.Signed.{signed, InBits}
 use Rattle.wing_wire.specs.State.{freshState}
+use Rattle.wing_node.specs.declared.refusal.Refusal.{Refusal}
+use Rattle.wing_node.specs.declared.refusal.Refusal.the-variants.{Number, StringNotUtf8, DefinitionNotUtf8}
 use Rattle.wing_node.specs.declared.value.Value.{Value}
 use Rattle.wing_node.specs.declared.value.Value.the-variants.{Integer, Float, String}
 use Rattle.wing_node.specs.declared.writer.BodyWritten.{BodyWritten}
@@ -49,17 +52,25 @@ abbrev pub byStatus : {A : Type 0} → ℤ → (ℕ → A) → (ℕ → A) → A
 byStatus (negsuc n) refused taken = refused (suc n)
 byStatus (pos n) refused taken = taken n
 
+-- 02: refusals 1 and 5 have a good beside them, every other is its number alone
+abbrev pub refusalIn : ℕ → ℕ → Refusal
+refusalIn good n = if (eqb n 1) (StringNotUtf8 good) (if (eqb n 5) (DefinitionNotUtf8 good) (Number n))
+
+-- the same of a call that can answer 1 or 5: its refusal is of that number, with this good
+abbrev pub byStatusAndGood : {A : Type 0} → ℤ → ℕ → (Refusal → A) → (ℕ → A) → A
+byStatusAndGood status good refused taken = byStatus status (λ n. refused (refusalIn good n)) taken
+
 -- a command or a listing: how many bytes stand at the front of the output
 unfoldable pub writtenIn : WingWritten → Written
-writtenIn r = byStatus (r .status) Refused (λ _. Bytes (r .len))
+writtenIn r = byStatusAndGood (r .status) (r .good) Refused (λ _. Bytes (r .len))
 
 -- a definition written: how many bytes stand at the front of the output
 unfoldable pub bodyIn : WingWritten → BodyWritten
-bodyIn r = byStatus (r .status) BodyRefused (λ _. BodyBytes (r .len))
+bodyIn r = byStatusAndGood (r .status) (r .good) BodyRefused (λ _. BodyBytes (r .len))
 
 -- a set: how many bytes of the output to send
 unfoldable pub setIn : WingSet → Written
-setIn r = byStatus (r .status) Refused (λ _. Bytes (r .len))
+setIn r = byStatusAndGood (r .status) (r .good) Refused (λ _. Bytes (r .len))
 
 -- a feed: taken or refused
 unfoldable pub feedAnswerIn : WingFed → FeedAnswer
@@ -102,7 +113,7 @@ kindIn r =
 
 -- a next call: 1 an event, 0 more bytes are wanted
 unfoldable pub answerIn : WingEvent → Answer
-answerIn r = byStatus (r .status) NextRefused (λ s. if (eqb s 1) (kindIn r) More)
+answerIn r = byStatusAndGood (r .status) (r .good) NextRefused (λ s. if (eqb s 1) (kindIn r) More)
 
 -- a meter request: how many bytes of the output to send, and the new meter id
 unfoldable pub requestedIn : WingRequested → Requested
@@ -114,19 +125,25 @@ metersIn r = byStatus (r .status) ReadRefused (λ _. Readings (r .id) (r .count)
 
 -- a load: how many records the table has now; or a refusal, and the number of the line that it is about
 unfoldable pub loadedIn : WingLoaded → Loaded
-loadedIn r = byStatus (r .status) (λ n. LoadRefused n (r .line)) (λ _. Records (r .count))
+loadedIn r = byStatusAndGood (r .status) (r .good) (λ why. LoadRefused why (r .line)) (λ _. Records (r .count))
 
--- ---- which answers there are: a refusal's number is 1 or more, an integer has 32 bits
+-- ---- which answers there are: a refusal's number is 1 or more, 1 and 5 have a good, an integer has 32 bits
+
+-- of a refusal: a number alone is neither 1 nor 5
+abbrev pub OfRefusal : Refusal → Type 0
+OfRefusal (Number n) = (2 ≤ n) × (n ≡ 5 → ⊥)
+OfRefusal (StringNotUtf8 g) = Unit {0}
+OfRefusal (DefinitionNotUtf8 g) = Unit {0}
 
 -- of a command or a listing
 abbrev pub OfWritten : Written → Type 0
 OfWritten (Bytes n) = Unit {0}
-OfWritten (Refused n) = 1 ≤ n
+OfWritten (Refused why) = OfRefusal why
 
 -- of a definition written
 abbrev pub OfBody : BodyWritten → Type 0
 OfBody (BodyBytes n) = Unit {0}
-OfBody (BodyRefused n) = 1 ≤ n
+OfBody (BodyRefused why) = OfRefusal why
 
 -- of a feed
 abbrev pub OfFeed : FeedAnswer → Type 0
@@ -164,7 +181,7 @@ OfNext (FloatAt bits) = Unit {0}
 OfNext (StringAt n) = Unit {0}
 OfNext (Body n) = Unit {0}
 OfNext End = Unit {0}
-OfNext (NextRefused n) = 1 ≤ n
+OfNext (NextRefused why) = OfRefusal why
 
 -- of a meter request
 abbrev pub OfRequested : Requested → Type 0
@@ -179,7 +196,7 @@ OfMeters (ReadRefused n) = 1 ≤ n
 -- of a load
 abbrev pub OfLoaded : Loaded → Type 0
 OfLoaded (Records n) = Unit {0}
-OfLoaded (LoadRefused n line) = 1 ≤ n
+OfLoaded (LoadRefused why line) = OfRefusal why
 
 -- ---- what holds of them
 
@@ -193,31 +210,44 @@ pub record NextBeside (a : Answer) (current : ℤ) (used : ℕ) : Type 0 where
   pub node : eventNumbers a current used .node ≡ current
   pub taken : eventNumbers a current used .taken ≡ used
 
--- where the status is a refusal, all other fields are 0, but for the count of a set or a feed, a record's bytes, an event's node and taken, a load's line
-pub record RefusedZero (n : ℕ) : Type 0 where
-  pub written : writtenNumbers (Refused n) .len ≡ 0
-  pub body : bodyNumbers (BodyRefused n) .len ≡ 0
-  pub set : (count : ℕ) → setNumbers (Refused n) count .len ≡ 0
+-- 02: beside a refusal stands its good: of 1 and 5 that of the string, 0 of every other
+pub record GoodBeside (why : Refusal) : Type 0 where
+  pub written : writtenNumbers (Refused why) .good ≡ goodBeside why
+  pub body : bodyNumbers (BodyRefused why) .good ≡ goodBeside why
+  pub set : (count : ℕ) → setNumbers (Refused why) count .good ≡ goodBeside why
+  pub next : (node : ℤ) (taken : ℕ) → eventNumbers (NextRefused why) node taken .good ≡ goodBeside why
+  pub load : (line : ℕ) → loadedNumbers (LoadRefused why line) .good ≡ goodBeside why
+
+-- where the status is a refusal, all other fields are 0, but for the good of 1 and 5, the count of a set or a feed, a record's bytes, an event's node and
+-- taken, a load's line
+pub record RefusedZero (n : ℕ) (why : Refusal) : Type 0 where
+  pub written : writtenNumbers (Refused why) .len ≡ 0
+  pub body : bodyNumbers (BodyRefused why) .len ≡ 0
+  pub set : (count : ℕ) → setNumbers (Refused why) count .len ≡ 0
   pub lookup : lookupNumbers (LookupRefused n) .number ≡ 0
   pub read : (s : List ℕ) → let r = recordNumbers (RecordRefused n) s in (r .id ≡ pos 0) × (r .value ≡ 0) × (r .len ≡ 0) × (r .kind ≡ 0)
-  pub next : (node : ℤ) (taken : ℕ) → let r = eventNumbers (NextRefused n) node taken in (r .value ≡ 0) × (r .len ≡ 0) × (r .kind ≡ 0)
+  pub next : (node : ℤ) (taken : ℕ) → let r = eventNumbers (NextRefused why) node taken in (r .value ≡ 0) × (r .len ≡ 0) × (r .kind ≡ 0)
   pub requested : (requestedNumbers (RequestRefused n) .id ≡ 0) × (requestedNumbers (RequestRefused n) .len ≡ 0)
   pub meters : (metersNumbers (ReadRefused n) .id ≡ 0) × (metersNumbers (ReadRefused n) .count ≡ 0)
-  pub load : (line : ℕ) → loadedNumbers (LoadRefused n line) .count ≡ 0
+  pub load : (line : ℕ) → loadedNumbers (LoadRefused why line) .count ≡ 0
 
--- what a case has not is 0: a lookup of none its number, a number its length, a string or a body its value, an end both, a load that is taken its line
+-- what a case has not is 0: a call that is taken its good, a lookup of none its number, a number its length, a string or a body its value, an end both, a
+-- load that is taken its line
 pub record OtherZero : Type 0 where
+  pub written : (n : ℕ) → writtenNumbers (Bytes n) .good ≡ 0
+  pub body : (n : ℕ) → bodyNumbers (BodyBytes n) .good ≡ 0
+  pub set : (n count : ℕ) → setNumbers (Bytes n) count .good ≡ 0
   pub none : lookupNumbers None .number ≡ 0
   pub integer : (id x : ℤ) (s : List ℕ) → recordNumbers (Record id (Integer x)) s .len ≡ 0
   pub float : (id : ℤ) (bits : ℕ) (s : List ℕ) → recordNumbers (Record id (Float bits)) s .len ≡ 0
   pub string : (id : ℤ) (n : ℕ) (s : List ℕ) → recordNumbers (Record id (String n)) s .value ≡ 0
-  pub next-more : (node : ℤ) (taken : ℕ) → let r = eventNumbers More node taken in (r .value ≡ 0) × (r .len ≡ 0) × (r .kind ≡ 0)
-  pub next-integer : (x node : ℤ) (taken : ℕ) → eventNumbers (IntegerAt x) node taken .len ≡ 0
-  pub next-float : (bits : ℕ) (node : ℤ) (taken : ℕ) → eventNumbers (FloatAt bits) node taken .len ≡ 0
-  pub next-string : (n : ℕ) (node : ℤ) (taken : ℕ) → eventNumbers (StringAt n) node taken .value ≡ 0
-  pub next-body : (n : ℕ) (node : ℤ) (taken : ℕ) → eventNumbers (Body n) node taken .value ≡ 0
-  pub next-end : (node : ℤ) (taken : ℕ) → let r = eventNumbers End node taken in (r .value ≡ 0) × (r .len ≡ 0)
-  pub loaded : (n : ℕ) → loadedNumbers (Records n) .line ≡ 0
+  pub next-more : (node : ℤ) (taken : ℕ) → let r = eventNumbers More node taken in (r .good ≡ 0) × (r .value ≡ 0) × (r .len ≡ 0) × (r .kind ≡ 0)
+  pub next-integer : (x node : ℤ) (taken : ℕ) → let r = eventNumbers (IntegerAt x) node taken in (r .good ≡ 0) × (r .len ≡ 0)
+  pub next-float : (bits : ℕ) (node : ℤ) (taken : ℕ) → let r = eventNumbers (FloatAt bits) node taken in (r .good ≡ 0) × (r .len ≡ 0)
+  pub next-string : (n : ℕ) (node : ℤ) (taken : ℕ) → let r = eventNumbers (StringAt n) node taken in (r .good ≡ 0) × (r .value ≡ 0)
+  pub next-body : (n : ℕ) (node : ℤ) (taken : ℕ) → let r = eventNumbers (Body n) node taken in (r .good ≡ 0) × (r .value ≡ 0)
+  pub next-end : (node : ℤ) (taken : ℕ) → let r = eventNumbers End node taken in (r .good ≡ 0) × (r .value ≡ 0) × (r .len ≡ 0)
+  pub loaded : (n : ℕ) → (loadedNumbers (Records n) .good ≡ 0) × (loadedNumbers (Records n) .line ≡ 0)
 
 -- every answer is what its numbers mean
 pub record NumbersSay : Type 0 where
@@ -242,5 +272,6 @@ pub record NumbersSay : Type 0 where
   -- them, is always a fresh one
   pub load-call : (text memory : List ℕ) → let a = loadOf text memory .reply .answer in loadedIn (loadedNumbers a) ≡ a
   pub load-fresh : (text memory : List ℕ) → loadOf text memory .reply .state ≡ freshState
-  pub refused-zero : (n : ℕ) → RefusedZero n
+  pub good-beside : (why : Refusal) → GoodBeside why
+  pub refused-zero : (n : ℕ) (why : Refusal) → RefusedZero n why
   pub other-zero : OtherZero

@@ -1,10 +1,13 @@
--- The numbers that stand for each answer of the libraries: an enum cannot cross the border to C. A refusal is its number with a minus sign.
+-- The numbers that stand for each answer of the libraries: an enum cannot cross the border to C. A refusal is its number with a minus sign; where it can
+-- be 1 or 5, the good stands beside it.
 use Prim.Native.Nat.{ℕ, _-_}
 use mathlib.Core.List.{List}
 use lib.Dec.{eqb}
 use lib.IntN.{ℤ, pos, negsuc}
 use Rattle.wing_node.specs.Bool.{if}
+use Rattle.wing_node.specs.Refusal.{refusalNumber, goodBeside}
 use Rattle.wing_node.specs.Signed.{unsigned}
+use Rattle.wing_node.specs.declared.refusal.Refusal.{Refusal}
 use Rattle.wing_node.specs.declared.value.Value.{Value}
 use Rattle.wing_node.specs.declared.value.Value.the-variants.{Integer, Float, String}
 use Rattle.wing_node.specs.declared.writer.BodyWritten.{BodyWritten}
@@ -28,6 +31,7 @@ use Rattle.wing_mirror.specs.declared.answer.Same.{Same}
 use Rattle.wing_mirror.specs.declared.answer.Same.the-variants.{Yes, No, Refused as SameRefused}
 use Rattle.wing_listing.specs.declared.answer.Loaded.{Loaded}
 use Rattle.wing_listing.specs.declared.answer.Loaded.the-variants.{Records, Refused as LoadRefused}
+use Rattle.wing_c.specs.declared.answers.Outcome.{Outcome}
 use Rattle.wing_c.specs.declared.answers.WingWritten.{WingWritten}
 use Rattle.wing_c.specs.declared.answers.WingSet.{WingSet}
 use Rattle.wing_c.specs.declared.answers.WingFed.{WingFed}
@@ -42,20 +46,36 @@ use Rattle.wing_c.specs.declared.answers.WingLoaded.{WingLoaded}
 abbrev pub minus : ℕ → ℤ
 minus n = if (eqb n 0) (pos 0) (negsuc (n - 1))
 
+-- 02: a call that is sent back: its number with the sign, and beside 1 and 5 the good, else 0
+abbrev pub sentBack : Refusal → Outcome
+sentBack why = record { status = minus (refusalNumber why); good = goodBeside why }
+
+-- one that is not, with nothing to tell
+abbrev pub noRefusal : Outcome
+noRefusal = record { status = pos 0; good = 0 }
+
+-- how many bytes were written
+abbrev pub writtenAs : Outcome → ℕ → WingWritten
+writtenAs o len = record { status = o .status; good = o .good; len = len }
+
 -- a command or a listing: 0 and the bytes written
 abbrev pub writtenNumbers : Written → WingWritten
-writtenNumbers (Bytes n) = record { status = pos 0; len = n }
-writtenNumbers (Refused n) = record { status = minus n; len = 0 }
+writtenNumbers (Bytes n) = writtenAs noRefusal n
+writtenNumbers (Refused why) = writtenAs (sentBack why) 0
 
 -- a definition written: 0 and the bytes written
 abbrev pub bodyNumbers : BodyWritten → WingWritten
-bodyNumbers (BodyBytes n) = record { status = pos 0; len = n }
-bodyNumbers (BodyRefused n) = record { status = minus n; len = 0 }
+bodyNumbers (BodyBytes n) = writtenAs noRefusal n
+bodyNumbers (BodyRefused why) = writtenAs (sentBack why) 0
+
+-- how many bytes a set wrote, and the records there are
+abbrev pub setAs : Outcome → ℕ → ℕ → WingSet
+setAs o len count = record { status = o .status; good = o .good; len = len; count = count }
 
 -- a set through the mirror: 0 and the bytes written; the records there are, as many as before a refused set
 abbrev pub setNumbers : Written → ℕ → WingSet
-setNumbers (Bytes n) count = record { status = pos 0; len = n; count = count }
-setNumbers (Refused n) count = record { status = minus n; len = 0; count = count }
+setNumbers (Bytes n) count = setAs noRefusal n count
+setNumbers (Refused why) count = setAs (sentBack why) 0 count
 
 -- whether a feed was taken
 abbrev pub feedStatus : FeedAnswer → ℤ
@@ -101,21 +121,21 @@ recordNumbers (RecordRefused n) s = record { status = minus n; id = pos 0; value
 
 -- an event that was read, at the current node: 1, its kind, the 32 bits of a number or how many bytes a string or a body has
 abbrev pub eventAs : ℕ → ℕ → ℕ → ℤ → ℕ → WingEvent
-eventAs kind value len node taken = record { status = pos 1; node = node; value = value; len = len; kind = kind; taken = taken }
+eventAs kind value len node taken = record { status = pos 1; good = 0; node = node; value = value; len = len; kind = kind; taken = taken }
 
 -- no event: 0 for more, or a refusal
-abbrev pub noEvent : ℤ → ℤ → ℕ → WingEvent
-noEvent status node taken = record { status = status; node = node; value = 0; len = 0; kind = 0; taken = taken }
+abbrev pub noEvent : Outcome → ℤ → ℕ → WingEvent
+noEvent o node taken = record { status = o .status; good = o .good; node = node; value = 0; len = 0; kind = 0; taken = taken }
 
 -- a next call. Kinds: 0 integer, 1 float, 2 string, 3 body, 4 end
 abbrev pub eventNumbers : Answer → ℤ → ℕ → WingEvent
-eventNumbers More node taken = noEvent (pos 0) node taken
+eventNumbers More node taken = noEvent noRefusal node taken
 eventNumbers (IntegerAt x) node taken = eventAs 0 (unsigned 31 x) 0 node taken
 eventNumbers (FloatAt bits) node taken = eventAs 1 bits 0 node taken
 eventNumbers (StringAt n) node taken = eventAs 2 0 n node taken
 eventNumbers (Body n) node taken = eventAs 3 0 n node taken
 eventNumbers End node taken = eventAs 4 0 0 node taken
-eventNumbers (NextRefused n) node taken = noEvent (minus n) node taken
+eventNumbers (NextRefused why) node taken = noEvent (sentBack why) node taken
 
 -- a meter request: 0, the new meter id and the bytes written
 abbrev pub requestedNumbers : Requested → WingRequested
@@ -127,7 +147,11 @@ abbrev pub metersNumbers : MetersRead → WingMeters
 metersNumbers (Readings id n) = record { status = pos 0; id = id; count = n }
 metersNumbers (ReadRefused n) = record { status = minus n; id = 0; count = 0 }
 
+-- how many records a load left, and the line that it is about
+abbrev pub loadedAs : Outcome → ℕ → ℕ → WingLoaded
+loadedAs o count line = record { status = o .status; good = o .good; count = count; line = line }
+
 -- a load: 0 and the records there are; or a refusal and the line that it is about
 abbrev pub loadedNumbers : Loaded → WingLoaded
-loadedNumbers (Records n) = record { status = pos 0; count = n; line = 0 }
-loadedNumbers (LoadRefused n line) = record { status = minus n; count = 0; line = line }
+loadedNumbers (Records n) = loadedAs noRefusal n 0
+loadedNumbers (LoadRefused why line) = loadedAs (sentBack why) 0 line

@@ -1,8 +1,10 @@
-// What crosses the border: an enum cannot, so each answer of the libraries is a struct of numbers here.
+// What crosses the border: an enum cannot, so each answer of the libraries is a struct of numbers here. A refusal is its number with a minus
+// sign; where a call can answer 1 or 5, the good of the string stands beside it (02), 0 for all else.
 ghost use mathlib.Core.Path.{_≡_};
+ghost use Rattle.wing_node.specs.Refusal.{refusalNumber, goodBeside};
 ghost use Rattle.wing_mirror.specs.Counts.{zeroCounts};
-ghost use Rattle.wing_c.specs.Numbers.{minus as minusOf, writtenNumbers, bodyNumbers, setNumbers, feedStatus, fedNumbers, lookupNumbers, sameNumber};
-ghost use Rattle.wing_c.specs.Numbers.{heldNumbers, recordNumbers, eventAs, noEvent, eventNumbers, requestedNumbers, metersNumbers, loadedNumbers};
+ghost use Rattle.wing_c.specs.Numbers.{minus as minusOf, sentBack, noRefusal, writtenAs, writtenNumbers, bodyNumbers, setAs, setNumbers, feedStatus, fedNumbers, lookupNumbers, sameNumber};
+ghost use Rattle.wing_c.specs.Numbers.{heldNumbers, recordNumbers, eventAs, noEvent, eventNumbers, requestedNumbers, metersNumbers, loadedAs, loadedNumbers};
 use wing_listing::answer::Loaded;
 use wing_mirror::answer::FeedAnswer;
 use wing_mirror::answer::LentFeedReply;
@@ -11,6 +13,8 @@ use wing_mirror::answer::RecordAnswer;
 use wing_mirror::answer::RecordRead;
 use wing_mirror::answer::Same;
 use wing_node::field::of_i32;
+use wing_node::refusal::Refusal;
+use wing_node::refusal::number;
 use wing_node::value::Value;
 use wing_node::writer::BodyWritten;
 use wing_wire::meter::MetersRead;
@@ -18,10 +22,17 @@ use wing_wire::meter::Requested;
 use wing_wire::unit::Answer;
 use wing_wire::write::Written;
 
+// How a call came out: its status, and the good beside 1 and 5.
+pub(crate) struct Outcome {
+    pub status: i32,
+    pub good: u16,
+}
+
 // A command, a definition or a listing: 0 and the bytes written.
 #[repr(C)]
 pub struct WingWritten {
     pub status: i32,
+    pub good: u16,
     pub len: usize,
 }
 
@@ -29,6 +40,7 @@ pub struct WingWritten {
 #[repr(C)]
 pub struct WingSet {
     pub status: i32,
+    pub good: u16,
     pub len: usize,
     pub count: usize,
 }
@@ -69,6 +81,7 @@ pub struct WingRecord {
 #[repr(C)]
 pub struct WingEvent {
     pub status: i32,
+    pub good: u16,
     pub node: i32,
     pub value: u32,
     pub len: u16,
@@ -96,6 +109,7 @@ pub struct WingMeters {
 #[repr(C)]
 pub struct WingLoaded {
     pub status: i32,
+    pub good: u16,
     pub count: usize,
     pub line: usize,
 }
@@ -110,15 +124,48 @@ pub(crate) fn minus(why: u8) -> i32
     !((why - 1) as i32)
 }
 
+// 02: a number alone has no good.
+fn good_beside(why: Refusal) -> u16
+    ensures { λ r. ⌜ r ≡ goodBeside why ⌝ }
+{
+    match why {
+        Refusal::Number(_) => 0,
+        Refusal::StringNotUtf8 { good } => good,
+        Refusal::DefinitionNotUtf8 { good } => good,
+    }
+}
+
+pub(crate) fn sent_back(why: Refusal) -> Outcome
+    ensures { λ r. ⌜ r ≡ sentBack why ⌝ }
+{
+    Outcome {
+        status: minus(number(why)),
+        good: good_beside(why),
+    }
+}
+
+pub(crate) fn no_refusal() -> Outcome
+    ensures { λ r. ⌜ r ≡ noRefusal ⌝ }
+{
+    Outcome { status: 0, good: 0 }
+}
+
+fn written_as(o: Outcome, len: usize) -> WingWritten
+    ensures { λ r. ⌜ r ≡ writtenAs o len ⌝ }
+{
+    WingWritten {
+        status: o.status,
+        good: o.good,
+        len: len,
+    }
+}
+
 pub(crate) fn written(w: Written) -> WingWritten
     ensures { λ r. ⌜ r ≡ writtenNumbers w ⌝ }
 {
     match w {
-        Written::Bytes(n) => WingWritten { status: 0, len: n },
-        Written::Refused(why) => WingWritten {
-            status: minus(why),
-            len: 0,
-        },
+        Written::Bytes(n) => written_as(no_refusal(), n),
+        Written::Refused(why) => written_as(sent_back(why), 0),
     }
 }
 
@@ -126,11 +173,19 @@ pub(crate) fn body(w: BodyWritten) -> WingWritten
     ensures { λ r. ⌜ r ≡ bodyNumbers w ⌝ }
 {
     match w {
-        BodyWritten::Bytes(n) => WingWritten { status: 0, len: n },
-        BodyWritten::Refused(why) => WingWritten {
-            status: minus(why),
-            len: 0,
-        },
+        BodyWritten::Bytes(n) => written_as(no_refusal(), n),
+        BodyWritten::Refused(why) => written_as(sent_back(why), 0),
+    }
+}
+
+fn set_as(o: Outcome, len: usize, count: usize) -> WingSet
+    ensures { λ r. ⌜ r ≡ setAs o len count ⌝ }
+{
+    WingSet {
+        status: o.status,
+        good: o.good,
+        len: len,
+        count: count,
     }
 }
 
@@ -138,16 +193,8 @@ pub(crate) fn set(w: Written, count: usize) -> WingSet
     ensures { λ r. ⌜ r ≡ setNumbers w count ⌝ }
 {
     match w {
-        Written::Bytes(n) => WingSet {
-            status: 0,
-            len: n,
-            count: count,
-        },
-        Written::Refused(why) => WingSet {
-            status: minus(why),
-            len: 0,
-            count: count,
-        },
+        Written::Bytes(n) => set_as(no_refusal(), n, count),
+        Written::Refused(why) => set_as(sent_back(why), 0, count),
     }
 }
 
@@ -177,11 +224,11 @@ pub(crate) fn fed(r: LentFeedReply) -> WingFed
     }
 }
 
-pub(crate) fn feed_refused(why: u8, count: usize) -> WingFed
-    ensures { λ r. ⌜ r ≡ fedNumbers (minusOf why) zeroCounts count ⌝ }
+pub(crate) fn feed_refused(why: Refusal, count: usize) -> WingFed
+    ensures { λ r. ⌜ r ≡ fedNumbers (minusOf (refusalNumber why)) zeroCounts count ⌝ }
 {
     WingFed {
-        status: minus(why),
+        status: minus(number(why)),
         stored: 0,
         unplaced: 0,
         strings_refused: 0,
@@ -276,6 +323,7 @@ fn event_of(kind: u8, value: u32, len: u16, node: i32, taken: usize) -> WingEven
 {
     WingEvent {
         status: 1,
+        good: 0,
         node: node,
         value: value,
         len: len,
@@ -285,11 +333,12 @@ fn event_of(kind: u8, value: u32, len: u16, node: i32, taken: usize) -> WingEven
 }
 
 // More, or a refusal.
-fn without_event(status: i32, node: i32, taken: usize) -> WingEvent
-    ensures { λ r. ⌜ r ≡ noEvent status node taken ⌝ }
+fn without_event(o: Outcome, node: i32, taken: usize) -> WingEvent
+    ensures { λ r. ⌜ r ≡ noEvent o node taken ⌝ }
 {
     WingEvent {
-        status: status,
+        status: o.status,
+        good: o.good,
         node: node,
         value: 0,
         len: 0,
@@ -302,13 +351,13 @@ pub(crate) fn event(a: Answer, node: i32, taken: usize) -> WingEvent
     ensures { λ r. ⌜ r ≡ eventNumbers a node taken ⌝ }
 {
     match a {
-        Answer::More => without_event(0, node, taken),
+        Answer::More => without_event(no_refusal(), node, taken),
         Answer::Integer(x) => event_of(0, of_i32(x), 0, node, taken),
         Answer::Float(bits) => event_of(1, bits, 0, node, taken),
         Answer::String(n) => event_of(2, 0, n, node, taken),
         Answer::Body(n) => event_of(3, 0, n, node, taken),
         Answer::End => event_of(4, 0, 0, node, taken),
-        Answer::Refused(why) => without_event(minus(why), node, taken),
+        Answer::Refused(why) => without_event(sent_back(why), node, taken),
     }
 }
 
@@ -346,19 +395,22 @@ pub(crate) fn meters(r: MetersRead) -> WingMeters
     }
 }
 
+fn loaded_as(o: Outcome, count: usize, line: usize) -> WingLoaded
+    ensures { λ r. ⌜ r ≡ loadedAs o count line ⌝ }
+{
+    WingLoaded {
+        status: o.status,
+        good: o.good,
+        count: count,
+        line: line,
+    }
+}
+
 pub(crate) fn loaded(a: Loaded) -> WingLoaded
     ensures { λ r. ⌜ r ≡ loadedNumbers a ⌝ }
 {
     match a {
-        Loaded::Records(n) => WingLoaded {
-            status: 0,
-            count: n,
-            line: 0,
-        },
-        Loaded::Refused { why, line } => WingLoaded {
-            status: minus(why),
-            count: 0,
-            line: line,
-        },
+        Loaded::Records(n) => loaded_as(no_refusal(), n, 0),
+        Loaded::Refused { why, line } => loaded_as(sent_back(why), 0, line),
     }
 }

@@ -1,8 +1,8 @@
-// Commands without a mirror: set orders, requests, meters; and the UTF-8 check.
+// Commands without a mirror: set orders, requests, meters; and the UTF-8 check with the good.
 ghost use mathlib.Core.Path.{_≡_};
 ghost use Prim.Native.Nat.{_/_};
 ghost use lib.ListN.{length};
-ghost use Rattle.wing_node.specs.Utf8.{utf8};
+ghost use Rattle.wing_node.specs.Utf8.{good, utf8, Longest};
 ghost use Rattle.wing_node.specs.Value.{integer, float};
 ghost use Rattle.wing_wire.specs.Write.{writeOf};
 ghost use Rattle.wing_wire.specs.Command.{setBytes, setString, requestBytes};
@@ -13,6 +13,7 @@ use crate::answers;
 use crate::answers::WingMeters;
 use crate::answers::WingRequested;
 use crate::answers::WingWritten;
+use wing_node::utf8::good_len;
 use wing_node::utf8::is_utf8;
 use wing_wire::meter;
 use wing_wire::meter::Meter;
@@ -144,4 +145,13 @@ pub extern "C" fn wing_is_utf8(s: &[u8]) -> bool
     ensures { λ r. ⌜ r ≡ utf8 (now (s .entry)) ⌝ }
 {
     is_utf8(s)
+}
+
+// 02: how many leading bytes form whole characters: the largest such number.
+#[no_mangle]
+pub extern "C" fn wing_utf8_good(s: &[u8]) -> usize
+    ensures { λ r. ⌜ r ≡ good (now (s .entry)) ⌝ }
+    ensures { λ r. ⌜ Longest r (now (s .entry)) ⌝ }
+{
+    good_len(s)
 }

@@ -5,7 +5,9 @@ ghost use Rattle.wing_node.specs.Types.{typeOf};
 ghost use Rattle.wing_node.specs.Items.{beginOf, stepAt, itemNumbered};
 ghost use Rattle.wing_c.specs.Definitions.{limitsAs, listedAs, detailNumbers, takenNumbers, refusedNumbers, definitionNumbers};
 ghost use Rattle.wing_c.specs.Definitions.{walkAs, begunNumbers, noItem, itemNumbers, stepNumbers};
-use crate::answers::minus;
+use crate::answers::Outcome;
+use crate::answers::no_refusal;
+use crate::answers::sent_back;
 use wing_node::definition;
 use wing_node::definition::Definition;
 use wing_node::definition::Details;
@@ -17,11 +19,13 @@ use wing_node::items::Begun;
 use wing_node::node_type::type_number;
 use wing_node::node_type::type_of;
 use wing_node::node_type::unit_number;
+use wing_node::refusal::Refusal;
 
 // A definition: 0, its fields and where its names are. What the type has not is 0. Limits are 32 bits, of floats or of integers.
 #[repr(C)]
 pub struct WingDefinition {
     pub status: i32,
+    pub good: u16,
     pub parent_id: i32,
     pub id: i32,
     pub index: u16,
@@ -44,6 +48,7 @@ pub struct WingDefinition {
 #[repr(C)]
 pub struct WingWalk {
     pub status: i32,
+    pub good: u16,
     pub left: u16,
     pub node_type: u8,
     pub at: usize,
@@ -53,6 +58,7 @@ pub struct WingWalk {
 #[repr(C)]
 pub struct WingItem {
     pub status: i32,
+    pub good: u16,
     pub kind: u8,
     pub bits: u32,
     pub len: u32,
@@ -127,6 +133,7 @@ fn taken(d: Definition) -> WingDefinition
     let n = numbers_of(details);
     WingDefinition {
         status: 0,
+        good: 0,
         parent_id: d.parent_id,
         id: d.id,
         index: d.index,
@@ -146,11 +153,13 @@ fn taken(d: Definition) -> WingDefinition
     }
 }
 
-fn refused(why: u8) -> WingDefinition
+fn refused(why: Refusal) -> WingDefinition
     ensures { λ r. ⌜ r ≡ refusedNumbers why ⌝ }
 {
+    let o = sent_back(why);
     WingDefinition {
-        status: minus(why),
+        status: o.status,
+        good: o.good,
         parent_id: 0,
         id: 0,
         index: 0,
@@ -182,11 +191,12 @@ pub extern "C" fn wing_definition(body: &[u8]) -> WingDefinition
     }
 }
 
-fn walk(status: i32, at: usize, left: u16, node_type: u8) -> WingWalk
-    ensures { λ r. ⌜ r ≡ walkAs status at left «node_type» ⌝ }
+fn walk(o: Outcome, at: usize, left: u16, node_type: u8) -> WingWalk
+    ensures { λ r. ⌜ r ≡ walkAs o at left «node_type» ⌝ }
 {
     WingWalk {
-        status: status,
+        status: o.status,
+        good: o.good,
         left: left,
         node_type: node_type,
         at: at,
@@ -202,17 +212,18 @@ pub extern "C" fn wing_items_begin(body: &[u8]) -> WingWalk
     match begun {
         Begun::Good(w) => {
             let kind = w.kind;
-            walk(0, w.at, w.left, type_number(kind))
+            walk(no_refusal(), w.at, w.left, type_number(kind))
         }
-        Begun::Refused(why) => walk(minus(why), 0, 0, 0),
+        Begun::Refused(why) => walk(sent_back(why), 0, 0, 0),
     }
 }
 
-fn without_item(status: i32) -> WingItem
-    ensures { λ r. ⌜ r ≡ noItem status ⌝ }
+fn without_item(o: Outcome) -> WingItem
+    ensures { λ r. ⌜ r ≡ noItem o ⌝ }
 {
     WingItem {
-        status: status,
+        status: o.status,
+        good: o.good,
         kind: 0,
         bits: 0,
         len: 0,
@@ -226,9 +237,10 @@ fn item(i: Item) -> WingItem
     ensures { λ r. ⌜ r ≡ itemNumbers i ⌝ }
 {
     match i {
-        Item::None => without_item(0),
+        Item::None => without_item(no_refusal()),
         Item::Strings { item, long_item } => WingItem {
             status: 1,
+            good: 0,
             kind: 0,
             bits: 0,
             len: item.len,
@@ -238,6 +250,7 @@ fn item(i: Item) -> WingItem
         },
         Item::Float { item, long_item } => WingItem {
             status: 1,
+            good: 0,
             kind: 1,
             bits: item,
             len: 0,
@@ -245,7 +258,7 @@ fn item(i: Item) -> WingItem
             start: 0,
             long_start: long_item.start,
         },
-        Item::Refused(why) => without_item(minus(why)),
+        Item::Refused(why) => without_item(sent_back(why)),
     }
 }
 
@@ -261,7 +274,7 @@ pub extern "C" fn wing_item_step(body: &[u8], at: usize, left: u16, node_type: u
     let after = next.kind;
     WingStep {
         item: item(i),
-        walk: walk(0, next.at, next.left, type_number(after)),
+        walk: walk(no_refusal(), next.at, next.left, type_number(after)),
     }
 }
 

@@ -2,8 +2,8 @@
 ghost use Rattle.wing_c.specs.Meanings.{NumbersSay};
 ghost use Rattle.wing_c.specs.DefinitionMeanings.{DefinitionsSay};
 
-// Every answer is what its numbers mean by the header's words: a status below 0 is the refusal of that number, and nothing of an answer
-// is dropped; what a case has not is 0.
+// Every answer is what its numbers mean by the header's words: a status below 0 is the refusal of that number, 1 and 5 with the good beside
+// them, and nothing of an answer is dropped; what a case has not is 0.
 pub fn numbers_say_answers()
     ensures { λ _. ⌜ NumbersSay ⌝ }
 {}

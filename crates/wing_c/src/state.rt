@@ -17,6 +17,8 @@ use crate::answers::minus;
 use crate::answers::written;
 use crate::kept::keep;
 use wing_node::field::least;
+use wing_node::refusal::Refusal;
+use wing_node::refusal::number;
 use wing_saved::HEAD;
 use wing_saved::LoadAnswer;
 use wing_saved::earlier::load_earlier;
@@ -47,7 +49,7 @@ pub extern "C" fn wing_state_check(state: &[u8]) -> i32
     let a = loaded.answer;
     match a {
         LoadAnswer::Good => 0,
-        LoadAnswer::Refused(why) => minus(why),
+        LoadAnswer::Refused(why) => minus(number(why)),
     }
 }
 
@@ -125,10 +127,10 @@ fn next_sound(state: &mut [u8], c: Control, bytes: &[u8], out: &mut [u8]) -> Win
     ensures { λ _. ⌜ stateFrom (now (state .exit)) ≡ ok (nextState (stateIn c (now (state .entry))) (now (bytes .entry)) (now (out .entry))) ⌝ }
 {
     if 65536 < bytes.len() {
-        return event(Answer::Refused(14), c.node, 0);
+        return event(Answer::Refused(Refusal::Number(14)), c.node, 0);
     }
     if out.len() < State::BODY_LIMIT {
-        return event(Answer::Refused(9), c.node, 0);
+        return event(Answer::Refused(Refusal::Number(9)), c.node, 0);
     }
     next_on(state, c, bytes, out)
 }
@@ -142,7 +144,7 @@ fn next_in(state: &mut [u8], c: Control, bytes: &[u8], out: &mut [u8]) -> WingEv
     if is_sound_lent(c, &state[HEAD..]) {
         return next_sound(state, c, bytes, out);
     }
-    event(Answer::Refused(8), 0, 0)
+    event(Answer::Refused(Refusal::Number(8)), 0, 0)
 }
 
 // 01: stops after the unit that completes an event or refusal. The bytes of a string or a body go to the front of the output, which has

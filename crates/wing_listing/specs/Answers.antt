@@ -4,7 +4,7 @@ use Rattle.wing_node.specs.Result.{Result, ok, refused}
 use Rattle.wing_listing.specs.declared.answer.Loaded.{Loaded}
 use Rattle.wing_listing.specs.declared.answer.Loaded.the-variants.{Records, Refused}
 
--- how many records were loaded, or the refusal's number
+-- how many records were loaded, or the refusal
 unfoldable pub loadedResult : Loaded → Result ℕ
 loadedResult (Records n) = ok n
 loadedResult (Refused why line) = refused why

@@ -5,6 +5,7 @@ use mathlib.Core.Path.{_≡_}
 use mathlib.Core.Logic.{_↔_}
 use mathlib.Core.List.{List}
 use lib.ListN.{length, drop}
+use Rattle.wing_node.specs.declared.refusal.Refusal.{Refusal}
 use Rattle.wing_node.specs.Utf8.{Decides}
 use Rattle.wing_wire.specs.State.{freshState}
 use Rattle.wing_wire.specs.Range.{AreBytes}
@@ -43,7 +44,7 @@ pub record BothWays : Type 0 where
   -- a text is read as entries exactly if it is their listing and a table takes them
   pub taken : (text : List ℕ) (es : List Entry) → (readingOf text ≡ good es ↔ ((listingOf es ≡ text) × TakenEntries es))
   -- and sent back for a line exactly if that is its first bad line, with that line's number
-  pub wrong : (text : List ℕ) (why line : ℕ) → (readingOf text ≡ bad why line ↔ FirstBad text why line)
+  pub wrong : (text : List ℕ) (why : Refusal) (line : ℕ) → (readingOf text ≡ bad why line ↔ FirstBad text why line)
   -- 02: loading a table printed in at most 65,536 bytes, into 1 to 1,024 places and at least as many as it has records, whatever their memory holds
   pub back : (t : Table) (memory : List ℕ) → AreBytes (t .buffer) → usable full t ≡ true → length (printed t) ≤ 65536 →
       placesAllowed (length memory / width) ≡ true → t .count ≤ length memory / width → EqualMirror t memory (loadOf (printed t) memory)

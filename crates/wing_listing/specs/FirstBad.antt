@@ -6,6 +6,9 @@ use mathlib.Core.Logic.{_⊎_}
 use mathlib.Core.List.{List, [], _∷_, _++_}
 use lib.IntN.{ℤ}
 use lib.ListN.{length}
+use Rattle.wing_node.specs.declared.refusal.Fault.{Fault}
+use Rattle.wing_node.specs.declared.refusal.Refusal.{Refusal}
+use Rattle.wing_node.specs.Refusal.{alone, because, byNumber}
 use Rattle.wing_node.specs.Bool.{if}
 use Rattle.wing_node.specs.Signed.{InBits}
 use Rattle.wing_node.specs.Value.{NodeValue, integer, float, string}
@@ -47,39 +50,38 @@ unfoldable pub lastId : Found ℤ → List Entry → Found ℤ
 lastId before [] = before
 lastId before (e ∷ es) = lastId (found (e .id)) es
 
--- 02: an id not above the one before is 18, then 10, then 1; 0 if nothing is wrong
-unfoldable pub entryFault : Found ℤ → Entry → ℕ
-entryFault before e = if (above before (e .id)) (valueFault (e .value)) 18
+-- 02: an id not above the one before is 18, then 10, then 1
+unfoldable pub entryFault : Found ℤ → Entry → Fault
+entryFault before e = if (above before (e .id)) (valueFault (e .value)) (byNumber 18)
 
 -- the text does not begin with the header: 17, line 1
-pub record BadHeader (text : List ℕ) (why line : ℕ) : Type 0 where
+pub record BadHeader (text : List ℕ) (why : Refusal) (line : ℕ) : Type 0 where
   pub none : (rest : List ℕ) → ended header ++ rest ≡ text → ⊥
-  pub number : why ≡ 17
+  pub number : why ≡ alone 17
   pub first : line ≡ 1
 
 -- after the header and good lines there is more, and it does not begin with the line of any entry: 17
-pub record BadForm (text : List ℕ) (why line : ℕ) : Type 0 where
+pub record BadForm (text : List ℕ) (why : Refusal) (line : ℕ) : Type 0 where
   pub es : List Entry
   pub rest : List ℕ
   pub taken : TakenEntries es
   pub begins : listingOf es ++ rest ≡ text
   pub more : rest ≡ [] → ⊥
   pub none : (e : Entry) (after : List ℕ) → Printable e → ended (lineOf e) ++ after ≡ rest → ⊥
-  pub number : why ≡ 17
+  pub number : why ≡ alone 17
   pub next : line ≡ length es + 2
 
--- after the header and good lines comes the line of an entry that is wrong there: 18, 10, 1
-pub record BadEntry (text : List ℕ) (why line : ℕ) : Type 0 where
+-- after the header and good lines comes the line of an entry that is wrong there: 18, 10, 1 with its good
+pub record BadEntry (text : List ℕ) (why : Refusal) (line : ℕ) : Type 0 where
   pub es : List Entry
   pub e : Entry
   pub after : List ℕ
   pub taken : TakenEntries es
   pub printable : Printable e
   pub begins : listingOf es ++ (ended (lineOf e) ++ after) ≡ text
-  pub number : why ≡ entryFault (lastId nothing es) e
-  pub wrong : why ≡ 0 → ⊥
+  pub fault : entryFault (lastId nothing es) e ≡ because why
   pub next : line ≡ length es + 2
 
 -- 02: the first bad line and its number
-abbrev pub FirstBad : List ℕ → ℕ → ℕ → Type 0
+abbrev pub FirstBad : List ℕ → Refusal → ℕ → Type 0
 FirstBad text why line = BadHeader text why line ⊎ (BadForm text why line ⊎ BadEntry text why line)

@@ -6,13 +6,17 @@ use lib.Dec.{eqb}
 use lib.IntN.{ℤ}
 use lib.Signed.{ltZ}
 use lib.ListN.{length}
+use Rattle.wing_node.specs.declared.refusal.Fault.the-variants.{None, Refused as Because}
+use Rattle.wing_node.specs.declared.refusal.Fault.{Fault}
+use Rattle.wing_node.specs.declared.refusal.Refusal.{Refusal}
+use Rattle.wing_node.specs.Refusal.{alone, stringNotUtf8, noFault, because, byNumber}
 use Rattle.wing_node.specs.Bool.{if, and}
 use Rattle.wing_node.specs.Decimal.{integerOf}
 use Rattle.wing_node.specs.Field.{big}
 use Rattle.wing_node.specs.Value.{NodeValue, integer, float, string}
 use Rattle.wing_mirror.specs.Rows.{Found, found, nothing}
 use Rattle.wing_mirror.specs.Entry.{Entry, entry}
-use Rattle.wing_mirror.specs.Call.{tooLong, notText}
+use Rattle.wing_mirror.specs.Call.{textIn, tooLong, notText}
 use Rattle.wing_mirror.specs.Query.{sameBytes}
 use Rattle.wing_listing.specs.Parts.{newline, comma, parted, part}
 use Rattle.wing_listing.specs.Integers.{isInteger, first}
@@ -49,38 +53,43 @@ unfoldable pub above : Found ℤ → ℤ → Bool
 above nothing id = true
 above (found before) id = ltZ before id
 
--- 02: what is wrong with a value: 10 if it is a string over 256 bytes, 1 if it is not UTF-8; 0 if nothing is
-unfoldable pub valueFault : NodeValue → ℕ
-valueFault v = if (tooLong v) 10 (if (notText v) 1 0)
+-- 02: what is wrong with a value: 10 if it is a string over 256 bytes, 1 with its good if it is not UTF-8
+unfoldable pub valueFault : NodeValue → Fault
+valueFault v = if (tooLong v) (byNumber 10) (if (notText v) (because (stringNotUtf8 (textIn v))) noFault)
 
--- 02: within a line 17, 18, 10, 1; 0 if nothing is wrong with it
-unfoldable pub lineFault : Found ℤ → List ℕ → ℕ
-lineFault before line = if (isLine line) (if (above before (idSaid line)) (valueFault (entrySaid line .value)) 18) 17
+-- 02: within a line 17, 18, 10, 1
+unfoldable pub lineFault : Found ℤ → List ℕ → Fault
+lineFault before line = if (isLine line) (if (above before (idSaid line)) (valueFault (entrySaid line .value)) (byNumber 18)) (byNumber 17)
 
 -- ---- a text
 
 -- the entries of a text; or what is wrong with its first bad line, and that line's number
 pub data Reading : Type 0 where
   good : List Entry → Reading
-  bad : ℕ → ℕ → Reading
+  bad : Refusal → ℕ → Reading
 
 -- the reading after an entry: that entry comes first
 unfoldable pub after : Entry → Reading → Reading
 after e (good es) = good (e ∷ es)
 after e (bad why line) = bad why line
 
+-- the reading from a line of a number on: what is wrong with it, else the rest
+abbrev pub unlessBad : Fault → ℕ → Reading → Reading
+unlessBad None n rest = rest
+unlessBad (Because why) n rest = bad why n
+
 -- 02: the first bad line decides. The lines from that of number n on, after an id if there is one; what stands after the last newline is a line out of form
 unfoldable pub linesFrom : ℕ → Found ℤ → List (List ℕ) → Reading
 linesFrom n before [] = good []
-linesFrom n before (rest ∷ []) = if (eqb (length rest) 0) (good []) (bad 17 n)
+linesFrom n before (rest ∷ []) = if (eqb (length rest) 0) (good []) (bad (alone 17) n)
 linesFrom n before (line ∷ next ∷ lines) =
-    if (eqb (lineFault before line) 0) (after (entrySaid line) (linesFrom (suc n) (found (idSaid line)) (next ∷ lines))) (bad (lineFault before line) n)
+    unlessBad (lineFault before line) n (after (entrySaid line) (linesFrom (suc n) (found (idSaid line)) (next ∷ lines)))
 
 -- 02: the header is the first line
 unfoldable pub afterHeader : List (List ℕ) → Reading
-afterHeader [] = bad 17 1
-afterHeader (rest ∷ []) = bad 17 1
-afterHeader (line ∷ next ∷ lines) = if (sameBytes line header) (linesFrom 2 nothing (next ∷ lines)) (bad 17 1)
+afterHeader [] = bad (alone 17) 1
+afterHeader (rest ∷ []) = bad (alone 17) 1
+afterHeader (line ∷ next ∷ lines) = if (sameBytes line header) (linesFrom 2 nothing (next ∷ lines)) (bad (alone 17) 1)
 
 -- 02: each line ends with a newline byte
 unfoldable pub readingOf : List ℕ → Reading

@@ -6,6 +6,10 @@ use mathlib.Core.List.{List, map}
 use lib.Dec.{ltb, leb, eqb}
 use lib.IntN.{ℤ, pos, negℤ}
 use lib.ListN.{length}
+use Rattle.wing_node.specs.declared.refusal.Fault.the-variants.{None, Refused as Because}
+use Rattle.wing_node.specs.declared.refusal.Fault.{Fault}
+use Rattle.wing_node.specs.declared.refusal.Refusal.{Refusal}
+use Rattle.wing_node.specs.Refusal.{alone, noFault, because}
 use Rattle.wing_node.specs.Bool.{if, and}
 use Rattle.wing_node.specs.Bytes.{joined}
 use Rattle.wing_node.specs.Decimal.{numberSpelled, integerOf}
@@ -69,30 +73,35 @@ idBefore any id = if any (found id) nothing
 
 -- what is wrong with a line, and its id
 unfoldable pub judgedAs : Found ℤ → List ℕ → Judged
-judgedAs before line = record { why = lineFault before line; id = integerRead (part comma 0 line) .value }
+judgedAs before line = record { fault = lineFault before line; id = integerRead (part comma 0 line) .value }
 
 -- ---- a text
 
 -- a text that is sent back
-abbrev pub scannedBad : ℕ → ℕ → Scanned
-scannedBad why line = record { why = why; line = line; count = 0 }
+abbrev pub scannedBad : Refusal → ℕ → Scanned
+scannedBad why line = record { fault = because why; line = line; count = 0 }
 
 -- what is wrong with it, or how many entries it has
 unfoldable pub scannedAs : Reading → Scanned
-scannedAs (good es) = record { why = 0; line = 0; count = length es }
+scannedAs (good es) = record { fault = noFault; line = 0; count = length es }
 scannedAs (bad why line) = scannedBad why line
 
 -- 6 where the records outnumber the places; a text that is sent back has count 0 and stays what it is
 unfoldable pub fitting : Scanned → ℕ → Scanned
-fitting s places = if (leb (s .count) places) s (scannedBad 6 0)
+fitting s places = if (leb (s .count) places) s (scannedBad (alone 6) 0)
 
 -- all that a load is refused for, as `loadOf` has it
 unfoldable pub checkedAs : List ℕ → ℕ → Scanned
-checkedAs text places = if (placesAllowed places) (if (leb (length text) 65536) (fitting (scannedAs (readingOf text)) places) (scannedBad 14 0)) (scannedBad 7 0)
+checkedAs text places = if (placesAllowed places) (if (leb (length text) 65536) (fitting (scannedAs (readingOf text)) places) (scannedBad (alone 14) 0)) (scannedBad (alone 7) 0)
+
+-- the answer of a load, by what is wrong
+abbrev pub loadedBy : Fault → Scanned → Loaded
+loadedBy None s = Records (s .count)
+loadedBy (Because why) s = Refused why (s .line)
 
 -- the answer of a load
 unfoldable pub loadedAs : Scanned → Loaded
-loadedAs s = if (eqb (s .why) 0) (Records (s .count)) (Refused (s .why) (s .line))
+loadedAs s = loadedBy (s .fault) s
 
 -- ---- records
 

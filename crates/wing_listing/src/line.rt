@@ -3,13 +3,17 @@ ghost use mathlib.Core.Path.{_≡_};
 ghost use mathlib.Core.Bool.{true};
 ghost use lib.ListN.{length};
 ghost use Rattle.wing_node.specs.Bool.{if};
+ghost use Rattle.wing_node.specs.Refusal.{noFault, byNumber};
 ghost use Rattle.wing_listing.specs.Parts.{part};
 ghost use Rattle.wing_listing.specs.Reading.{isValue, valueSaid, valueFault, above};
 ghost use Rattle.wing_listing.specs.Steps.{LineSays, idBefore, judgedAs};
 use crate::hex::are_pairs;
 use crate::hex::lay_bytes;
 use crate::integer::integer_in;
-use wing_node::utf8::is_utf8;
+use wing_node::refusal::Fault;
+use wing_node::refusal::by_number;
+use wing_node::refusal::is_refused;
+use wing_node::refusal::string_fault;
 
 // Whether a line is in form; its id, 0 if that field is out of form; its kind letter, and where its value begins.
 pub struct Line {
@@ -19,9 +23,9 @@ pub struct Line {
     pub from: usize,
 }
 
-// What is wrong with a line, 0 if nothing is, and its id.
+// What is wrong with a line, if anything is, and its id.
 pub struct Judged {
-    pub why: u8,
+    pub fault: Fault,
     pub id: i32,
 }
 
@@ -86,8 +90,8 @@ pub(crate) fn line_in(s: &[u8]) -> Line
     }
 }
 
-// 02: a string over 256 bytes gets 10 and one that isn't UTF-8 gets 1.
-fn value_fault(kind: u8, s: &[u8]) -> u8
+// 02: a string over 256 bytes gets 10 and one that isn't UTF-8 gets 1, with its good.
+fn value_fault(kind: u8, s: &[u8]) -> Fault
     requires { ⌜ isValue kind (now s) ≡ true ⌝ }
     ensures { λ r. ⌜ r ≡ valueFault (valueSaid kind (now (s .entry))) ⌝ }
 {
@@ -95,14 +99,11 @@ fn value_fault(kind: u8, s: &[u8]) -> u8
         if s.len() <= 512 {
             let mut bytes = [0u8; 256];
             lay_bytes(&mut bytes, 0, s);
-            if is_utf8(&bytes[..s.len() / 2]) {
-                return 0;
-            }
-            return 1;
+            return string_fault(&bytes, (s.len() / 2) as u16);
         }
-        return 10;
+        return by_number(10);
     }
-    0
+    Fault::None
 }
 
 // 02: above the id before, if there is one.
@@ -116,16 +117,16 @@ fn rises(any: bool, before: i32, id: i32) -> bool
 }
 
 // 02: a line out of form is 17, and after that an id not above the one before 18.
-fn form_fault(formed: bool, rises: bool) -> u8
-    ensures { λ r. ⌜ r ≡ if formed (if rises 0 18) 17 ⌝ }
+fn form_fault(formed: bool, rises: bool) -> Fault
+    ensures { λ r. ⌜ r ≡ if formed (if rises noFault (byNumber 18)) (byNumber 17) ⌝ }
 {
     if formed {
         if rises {
-            return 0;
+            return Fault::None;
         }
-        return 18;
+        return by_number(18);
     }
-    17
+    by_number(17)
 }
 
 // A line after one with the id before, if there is any.
@@ -134,13 +135,16 @@ pub(crate) fn judge(s: &[u8], any: bool, before: i32) -> Judged
 {
     let l = line_in(s);
     let id = l.id;
-    let why = form_fault(l.formed, rises(any, before, id));
-    if why == 0 {
-        let from = l.from;
+    let fault = form_fault(l.formed, rises(any, before, id));
+    if is_refused(fault) {
         return Judged {
-            why: value_fault(l.kind, &s[from..]),
+            fault: fault,
             id: id,
         };
     }
-    Judged { why: why, id: id }
+    let from = l.from;
+    Judged {
+        fault: value_fault(l.kind, &s[from..]),
+        id: id,
+    }
 }

@@ -17,6 +17,8 @@ use crate::scan::Scanned;
 use crate::scan::bad;
 use crate::scan::scan;
 use wing_mirror::table::places;
+use wing_node::refusal::Fault;
+use wing_node::refusal::Refusal;
 use wing_wire::state::State;
 
 // The header's line.
@@ -41,11 +43,11 @@ fn check(text: &[u8], places: usize) -> Scanned
             if s.count <= places {
                 return s;
             }
-            return bad(6, 0);
+            return bad(Refusal::Number(6), 0);
         }
-        return bad(14, 0);
+        return bad(Refusal::Number(14), 0);
     }
-    bad(7, 0)
+    bad(Refusal::Number(7), 0)
 }
 
 // The first lines after the header, each as the record of its number.
@@ -67,12 +69,13 @@ fn lay_lines(table: &mut [u8], text: &[u8], count: usize)
 fn answer(s: Scanned) -> Loaded
     ensures { λ r. ⌜ r ≡ loadedAs s ⌝ }
 {
-    if s.why == 0 {
-        return Loaded::Records(s.count);
-    }
-    Loaded::Refused {
-        why: s.why,
-        line: s.line,
+    let fault = s.fault;
+    match fault {
+        Fault::None => Loaded::Records(s.count),
+        Fault::Refused(why) => Loaded::Refused {
+            why: why,
+            line: s.line,
+        },
     }
 }
 

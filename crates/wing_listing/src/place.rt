@@ -3,6 +3,7 @@ ghost use mathlib.Core.Path.{_≡_};
 ghost use mathlib.Core.Bool.{true};
 ghost use lib.ListN.{length, replicate};
 ghost use Rattle.wing_mirror.specs.Record.{width, kindOf, payloadOf, laidFrom, recordOf};
+ghost use Rattle.wing_node.specs.Refusal.{noFault};
 ghost use Rattle.wing_listing.specs.Reading.{isValue, valueSaid, valueFault, isLine, entrySaid};
 ghost use Rattle.wing_listing.specs.Steps.{kindOfLetter};
 use crate::hex::lay_bytes;
@@ -30,7 +31,7 @@ fn zero(out: &mut [u8])
 
 // Kind, length and payload.
 fn lay_said(out: &mut [u8], kind: u8, s: &[u8])
-    requires { ⌜ (length (now out) ≡ width) × (isValue kind (now s) ≡ true) × (valueFault (valueSaid kind (now s)) ≡ 0) ⌝ }
+    requires { ⌜ (length (now out) ≡ width) × (isValue kind (now s) ≡ true) × (valueFault (valueSaid kind (now s)) ≡ noFault) ⌝ }
     ensures { λ _. ⌜ now (out .exit) ≡ laidFrom (now (out .entry)) (kindOf (valueSaid kind (now (s .entry)))) (payloadOf (valueSaid kind (now (s .entry)))) ⌝ }
 {
     if kind == 0x69 {
@@ -47,7 +48,7 @@ fn lay_said(out: &mut [u8], kind: u8, s: &[u8])
 
 // A line as a record.
 pub(crate) fn lay_line(out: &mut [u8], s: &[u8])
-    requires { ⌜ (length (now out) ≡ width) × (isLine (now s) ≡ true) × (valueFault (entrySaid (now s) .value) ≡ 0) ⌝ }
+    requires { ⌜ (length (now out) ≡ width) × (isLine (now s) ≡ true) × (valueFault (entrySaid (now s) .value) ≡ noFault) ⌝ }
     ensures { λ _. ⌜ now (out .exit) ≡ recordOf (entrySaid (now (s .entry))) ⌝ }
 {
     let l = line_in(s);

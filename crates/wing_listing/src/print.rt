@@ -13,6 +13,7 @@ ghost use Rattle.wing_listing.specs.Steps.{linesOf};
 ghost use Rattle.wing_listing.specs.Calls.{printOf};
 use crate::row::print_record;
 use wing_mirror::table::is_usable;
+use wing_node::refusal::Refusal;
 use wing_wire::write::Written;
 
 // The header's line.
@@ -70,10 +71,10 @@ pub fn print(table: &[u8], count: usize, out: &mut [u8]) -> Written
     if is_usable(table, count) {
         if out.len() < HEADER + LINE * count {
             if out.len() < HEADER + lines_len(table, count) {
-                return Written::Refused(9);
+                return Written::Refused(Refusal::Number(9));
             }
         }
         return Written::Bytes(lay_listing(out, table, count));
     }
-    Written::Refused(7)
+    Written::Refused(Refusal::Number(7))
 }

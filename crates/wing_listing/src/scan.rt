@@ -7,19 +7,21 @@ ghost use Rattle.wing_listing.specs.Reading.{linesFrom, readingOf};
 ghost use Rattle.wing_listing.specs.Steps.{scannedAs, scannedBad};
 use crate::line::find;
 use crate::line::judge;
+use wing_node::refusal::Fault;
+use wing_node::refusal::Refusal;
 
-// What is wrong and with which line, both 0 if nothing is; and how many records are to be laid: none of a text that is sent back.
+// What is wrong, if anything is, and with which line, 0 for none; and how many records are to be laid: none of a text that is sent back.
 pub struct Scanned {
-    pub why: u8,
+    pub fault: Fault,
     pub line: usize,
     pub count: usize,
 }
 
-pub(crate) fn bad(why: u8, line: usize) -> Scanned
+pub(crate) fn bad(why: Refusal, line: usize) -> Scanned
     ensures { λ r. ⌜ r ≡ scannedBad why line ⌝ }
 {
     Scanned {
-        why: why,
+        fault: Fault::Refused(why),
         line: line,
         count: 0,
     }
@@ -35,18 +37,20 @@ fn scan_lines(text: &[u8]) -> Scanned
     while at < text.len() {
         let end = at + find(&text[at..], 0x0a);
         if end == text.len() {
-            return bad(17, number);
+            return bad(Refusal::Number(17), number);
         }
         let j = judge(&text[at..end], number > 2, before);
-        if j.why != 0 {
-            return bad(j.why, number);
+        let fault = j.fault;
+        match fault {
+            Fault::None => {}
+            Fault::Refused(why) => return bad(why, number),
         }
         before = j.id;
         at = end + 1;
         number += 1;
     }
     Scanned {
-        why: 0,
+        fault: Fault::None,
         line: 0,
         count: number - 2,
     }
@@ -76,7 +80,7 @@ pub(crate) fn scan(text: &[u8]) -> Scanned
         if is_same(&text[..n], b"id,kind,value") {
             return scan_lines(&text[n + 1..]);
         }
-        return bad(17, 1);
+        return bad(Refusal::Number(17), 1);
     }
-    bad(17, 1)
+    bad(Refusal::Number(17), 1)
 }

@@ -2,6 +2,7 @@
 use Prim.Native.Nat.{ℕ}
 use mathlib.Core.Bool.{Bool, true, false}
 use mathlib.Core.List.{List}
+use Rattle.wing_node.specs.Refusal.{alone}
 use Rattle.wing_node.specs.Result.{Result, ok, refused}
 use Rattle.wing_node.specs.Value.{nodeValue}
 use Rattle.wing_mirror.specs.Rows.{Found, found, nothing}
@@ -21,12 +22,12 @@ use Rattle.wing_mirror.specs.declared.answer.FeedAnswer.the-variants.{Ta
 unfoldable pub lookupResult : Lookup → Result (Found ℕ)
 lookupResult (At n) = ok (found n)
 lookupResult None = ok nothing
-lookupResult (LookupRefused n) = refused n
+lookupResult (LookupRefused n) = refused (alone n)
 
 -- 01: a record is read by number: its node and value, with the bytes of a string beside the answer
 unfoldable pub entryResult : RecordAnswer → List ℕ → Result Entry
 entryResult (Record id v) string = ok (entry id (nodeValue v string))
-entryResult (RecordRefused n) string = refused n
+entryResult (RecordRefused n) string = refused (alone n)
 
 -- the same of the whole reply
 abbrev pub recordResult : RecordRead → Result Entry
@@ -36,9 +37,9 @@ recordResult r = entryResult (r .answer) (r .string)
 unfoldable pub sameResult : Same → Result Bool
 sameResult Yes = ok true
 sameResult No = ok false
-sameResult (SameRefused n) = refused n
+sameResult (SameRefused n) = refused (alone n)
 
 -- 01: the six counts of a feed
 unfoldable pub feedResult : FeedAnswer → Counts → Result Counts
 feedResult Taken c = ok c
-feedResult (FeedRefused n) c = refused n
+feedResult (FeedRefused n) c = refused (alone n)

@@ -5,6 +5,7 @@ use mathlib.Core.List.{List, [], _∷_}
 use lib.Dec.{leb}
 use lib.IntN.{ℤ}
 use lib.ListN.{length}
+use Rattle.wing_node.specs.declared.refusal.Refusal.{Refusal}
 use Rattle.wing_node.specs.Signed.{InBits}
 use Rattle.wing_node.specs.Utf8.{utf8}
 use Rattle.wing_node.specs.Value.{NodeValue, integer, float, string}
@@ -23,17 +24,23 @@ tooLong (integer x) = false
 tooLong (float bits) = false
 tooLong (string s) = not (leb (length s) 256)
 
+-- the bytes of a string, none of a number
+abbrev pub textIn : NodeValue → List ℕ
+textIn (integer x) = []
+textIn (float bits) = []
+textIn (string s) = s
+
 -- 01: a string that is not UTF-8
 unfoldable pub notText : NodeValue → Bool
 notText (integer x) = false
 notText (float bits) = false
 notText (string s) = not (utf8 s)
 
--- accepted with six counts, or with the bytes written; or refused by a number
+-- accepted with six counts, or with the bytes written; or refused
 pub data Outcome : Type 0 where
   fed : Counts → Outcome
   sent : List ℕ → Outcome
-  refused : ℕ → Outcome
+  refused : Refusal → Outcome
 
 -- what one call leaves, and how it came out
 pub record Step (S : Type 0) : Type 0 where
@@ -41,8 +48,8 @@ pub record Step (S : Type 0) : Type 0 where
   pub outcome : Outcome
 
 -- 01: a refused call changes nothing
-abbrev pub refuse : {S : Type 0} → S → ℕ → Step S
-refuse s n = record { state = s; outcome = refused n }
+abbrev pub refuse : {S : Type 0} → S → Refusal → Step S
+refuse s why = record { state = s; outcome = refused why }
 
 -- what all calls leave, and how each came out
 pub record History (S : Type 0) : Type 0 where

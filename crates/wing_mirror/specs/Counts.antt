@@ -1,6 +1,7 @@
 -- 01: a feed counts values stored, values with no place, strings refused, definitions read, definitions refused, and ends.
 use Prim.Native.Nat.{ℕ, _+_}
 use lib.Dec.{leb, eqb}
+use Rattle.wing_node.specs.Refusal.{refusalNumber}
 use Rattle.wing_node.specs.Bool.{if}
 use Rattle.wing_node.specs.declared.definition.Parsed.{Parsed}
 use Rattle.wing_node.specs.declared.definition.Parsed.the-variants.{Good, Refused}
@@ -61,7 +62,7 @@ refusalMark n = if (eqb n 1) StringRefused (if (leb 2 n) (if (leb n 5) Definitio
 -- 01: each body goes through the parser: one that it takes, or its 4 or 5
 unfoldable pub bodyMark : Parsed → Mark
 bodyMark (Good d) = DefinitionRead
-bodyMark (Refused n) = refusalMark n
+bodyMark (Refused why) = refusalMark (refusalNumber why)
 
 -- their sum
 abbrev pub total : Counts → ℕ

@@ -11,6 +11,7 @@ use Rattle.wing_wire.specs.Write.{writeOf}
 use Rattle.wing_wire.specs.declared.state.State.{State}
 use Rattle.wing_wire.specs.declared.write.Written.{Written}
 use Rattle.wing_wire.specs.declared.write.Written.the-variants.{Bytes, Refused}
+use Rattle.wing_node.specs.Refusal.{alone}
 use Rattle.wing_node.specs.Bytes.{joined}
 use Rattle.wing_mirror.specs.Rows.{Table, All, places, insert, In}
 use Rattle.wing_mirror.specs.Entry.{Entry, risingIds, ids, rankOf}
@@ -39,12 +40,12 @@ newMirror buffer = record { decoder = freshState; table = table buffer 0 }
 -- how a feed came out, by its answer and counts
 abbrev pub feedOutcome : FeedAnswer → Counts → Outcome
 feedOutcome Taken c = fed c
-feedOutcome (FeedRefused n) c = refused n
+feedOutcome (FeedRefused n) c = refused (alone n)
 
 -- how a set came out, by its answer and the bytes written
 abbrev pub setOutcome : Written → List ℕ → Outcome
 setOutcome (Bytes n) out = sent (take n out)
-setOutcome (Refused n) out = refused n
+setOutcome (Refused why) out = refused why
 
 -- an entry's place in the order of signed ids
 abbrev pub rank : Entry → ℕ
@@ -63,10 +64,10 @@ SameMap m n = (e : Entry) → (In e m ↔ In e n)
 abbrev pub Bounded : Call → Outcome → Type 0
 Bounded (feed bytes) (fed c) = total c ≤ length bytes + 1
 Bounded (feed bytes) (sent out) = ⊥
-Bounded (feed bytes) (refused n) = Unit {0}
+Bounded (feed bytes) (refused why) = Unit {0}
 Bounded (set id v out) (fed c) = ⊥
 Bounded (set id v out) (sent bytes) = length bytes ≤ length out
-Bounded (set id v out) (refused n) = Unit {0}
+Bounded (set id v out) (refused why) = Unit {0}
 
 -- each call with its outcome
 abbrev pub Each : (Call → Outcome → Type 0) → List Call → List Outcome → Type 0

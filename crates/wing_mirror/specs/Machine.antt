@@ -5,6 +5,7 @@ use mathlib.Core.List.{List, [], _∷_, _++_}
 use lib.Dec.{ltb, eqb}
 use lib.IntN.{ℤ, pos, negsuc}
 use lib.ListN.{length}
+use Rattle.wing_node.specs.Refusal.{refusalNumber, alone, stringNotUtf8}
 use Rattle.wing_node.specs.Bool.{if}
 use Rattle.wing_node.specs.Definition.{definitionOf}
 use Rattle.wing_node.specs.Value.{NodeValue}
@@ -18,7 +19,7 @@ use Rattle.wing_mirror.specs.Entry.{Entry, entry}
 use Rattle.wing_mirror.specs.Layout.{Keeping, unlessKept}
 use Rattle.wing_mirror.specs.Table.{placesAllowed}
 use Rattle.wing_mirror.specs.Counts.{zeroCounts, tick, refusalMark, bodyMark}
-use Rattle.wing_mirror.specs.Call.{Call, feed, set, tooLong, notText, fed, sent, Step, refuse}
+use Rattle.wing_mirror.specs.Call.{Call, feed, set, textIn, tooLong, notText, fed, sent, Step, refuse}
 use Rattle.wing_mirror.specs.declared.answer.Counts.{Counts}
 use Rattle.wing_mirror.specs.declared.counts.Mark.the-variants.{Stored, Unplaced, Ended}
 
@@ -104,7 +105,7 @@ module _ (keeping : NodeValue → Keeping) where
       (mapTally (h .map) (tick Unplaced (h .counts))))
   machineEvent places node (body b) h = mapTally (h .map) (tick (bodyMark (definitionOf b)) (h .counts))
   machineEvent places node end h = mapTally (h .map) (tick Ended (h .counts))
-  machineEvent places node (refused n) h = mapTally (h .map) (tick (refusalMark n) (h .counts))
+  machineEvent places node (refused why) h = mapTally (h .map) (tick (refusalMark (refusalNumber why)) (h .counts))
 
   -- events one after the other
   unfoldable pub machineEvents : ℕ → List StreamEvent → MapTally → MapTally
@@ -118,17 +119,17 @@ module _ (keeping : NodeValue → Keeping) where
   -- 01: a feed meets 7 by the places alone, then 14; a set 7, the number of a value that is not kept, 10, 1, 6 by the map, 9, else puts
   unfoldable pub machineStep : ℕ → Machine → Call → Step Machine
   machineStep places s (feed bytes) =
-      if (not (placesAllowed places)) (refuse s 7)
-      (if (ltb 65536 (length bytes)) (refuse s 14)
+      if (not (placesAllowed places)) (refuse s (alone 7))
+      (if (ltb 65536 (length bytes)) (refuse s (alone 14))
       (record {
         state = record { decoder = stateAfter (s .decoder) bytes; map = machineFeed places s bytes .map };
         outcome = fed (machineFeed places s bytes .counts);
       }))
   machineStep places s (set id v out) =
-      if (not (placesAllowed places)) (refuse s 7)
-      (unlessKept (keeping v) (λ mark number. refuse s number)
-      (if (tooLong v) (refuse s 10)
-      (if (notText v) (refuse s 1)
-      (if (not (room places id (s .map))) (refuse s 6)
-      (if (ltb (length out) (length (setBytes id v))) (refuse s 9)
+      if (not (placesAllowed places)) (refuse s (alone 7))
+      (unlessKept (keeping v) (λ mark number. refuse s (alone number))
+      (if (tooLong v) (refuse s (alone 10))
+      (if (notText v) (refuse s (stringNotUtf8 (textIn v)))
+      (if (not (room places id (s .map))) (refuse s (alone 6))
+      (if (ltb (length out) (length (setBytes id v))) (refuse s (alone 9))
       (record { state = record { decoder = s .decoder; map = putIn (entry id v) (s .map) }; outcome = sent (setBytes id v) }))))))

@@ -5,6 +5,8 @@ use mathlib.Core.List.{List, _++_}
 use lib.Dec.{ltb, leb, eqb}
 use lib.IntN.{ℤ}
 use lib.ListN.{length, drop}
+use Rattle.wing_node.specs.declared.refusal.Refusal.{Refusal}
+use Rattle.wing_node.specs.Refusal.{refusalNumber, alone, stringNotUtf8}
 use Rattle.wing_node.specs.Bool.{if}
 use Rattle.wing_node.specs.Value.{NodeValue}
 use Rattle.wing_node.specs.Definition.{definitionOf}
@@ -20,7 +22,7 @@ use Rattle.wing_mirror.specs.Rows.{Table}
 use Rattle.wing_mirror.specs.Entry.{entry}
 use Rattle.wing_mirror.specs.Layout.{Layout, unlessKept}
 use Rattle.wing_mirror.specs.Table.{table, usable, put, fits}
-use Rattle.wing_mirror.specs.Call.{tooLong, notText}
+use Rattle.wing_mirror.specs.Call.{textIn, tooLong, notText}
 use Rattle.wing_mirror.specs.Counts.{zeroCounts, tick, refusalMark, bodyMark}
 use Rattle.wing_mirror.specs.declared.answer.Counts.{Counts}
 use Rattle.wing_mirror.specs.declared.counts.Mark.the-variants.{Stored, Unplaced, Ended}
@@ -69,7 +71,7 @@ pub record SetEffect : Type 0 where
   pub table : Table
 
 -- 01: refused, all is as it was
-abbrev pub refusedSet : ℕ → Table → List ℕ → SetEffect
+abbrev pub refusedSet : Refusal → Table → List ℕ → SetEffect
 refusedSet why t out = record { answer = Refused why; out = out; table = t }
 
 -- what the call leaves, by its reply and the lent buffers
@@ -88,7 +90,7 @@ module _ (L : Layout) where
       (tableTally (k .table) (tick Unplaced (k .counts))))
   keepEvent node (body b) k = tableTally (k .table) (tick (bodyMark (definitionOf b)) (k .counts))
   keepEvent node end k = tableTally (k .table) (tick Ended (k .counts))
-  keepEvent node (refused n) k = tableTally (k .table) (tick (refusalMark n) (k .counts))
+  keepEvent node (refused why) k = tableTally (k .table) (tick (refusalMark (refusalNumber why)) (k .counts))
 
   -- the same of an answer, whose bytes stand in the decoder's store
   abbrev pub keep : ℤ → Answer → List ℕ → TableTally → TableTally
@@ -114,10 +116,10 @@ module _ (L : Layout) where
   -- 01: set through the mirror writes the command and stores the value; 7, the number of a value that is not kept, 10, 1, 6, 9
   unfoldable pub mirrorSet : ℤ → NodeValue → Table → List ℕ → SetEffect
   mirrorSet id v t out =
-      if (not (usable L t)) (refusedSet 7 t out)
-      (unlessKept (keeping v) (λ mark number. refusedSet number t out)
-      (if (tooLong v) (refusedSet 10 t out)
-      (if (notText v) (refusedSet 1 t out)
-      (if (not (fits L (entry id v) t)) (refusedSet 6 t out)
-      (if (ltb (length out) (length (setBytes id v))) (refusedSet 9 t out)
+      if (not (usable L t)) (refusedSet (alone 7) t out)
+      (unlessKept (keeping v) (λ mark number. refusedSet (alone number) t out)
+      (if (tooLong v) (refusedSet (alone 10) t out)
+      (if (notText v) (refusedSet (stringNotUtf8 (textIn v)) t out)
+      (if (not (fits L (entry id v) t)) (refusedSet (alone 6) t out)
+      (if (ltb (length out) (length (setBytes id v))) (refusedSet (alone 9) t out)
       (record { answer = Bytes (length (setBytes id v)); out = setBytes id v ++ drop (length (setBytes id v)) out; table = put L (entry id v) t }))))))

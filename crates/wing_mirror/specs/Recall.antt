@@ -1,6 +1,7 @@
 -- 01: recall writes df d1, then the set bytes of each record in order.
 use Prim.Native.Nat.{ℕ}
 use mathlib.Core.List.{List, _∷_, map}
+use Rattle.wing_node.specs.Refusal.{alone}
 use Rattle.wing_node.specs.Bool.{if}
 use Rattle.wing_wire.specs.Write.{WriteEffect, writeEffect, writeOf}
 use Rattle.wing_wire.specs.Command.{setBytes}
@@ -24,4 +25,4 @@ module _ (L : Layout) where
 
   -- 01: 7, then 9 with the output as it was; output bytes past what is written are not altered
   unfoldable pub recallOf : Table → List ℕ → WriteEffect
-  recallOf t out = if (usable L t) (writeOf (recallBytes t) out) (writeEffect (Refused 7) out)
+  recallOf t out = if (usable L t) (writeOf (recallBytes t) out) (writeEffect (Refused (alone 7)) out)

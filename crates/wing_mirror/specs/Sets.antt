@@ -1,6 +1,7 @@
 -- A set's reply and table, once its command was written or refused.
 use Prim.Native.Nat.{ℕ}
 use mathlib.Core.List.{List}
+use Rattle.wing_node.specs.declared.refusal.Refusal.{Refusal}
 use Rattle.wing_wire.specs.declared.write.Written.{Written}
 use Rattle.wing_wire.specs.declared.write.Written.the-variants.{Bytes, Refused}
 use Rattle.wing_mirror.specs.Rows.{Table}
@@ -19,7 +20,7 @@ abbrev pub replied : SetReply → List ℕ → Replied
 replied r buffer = record { answer = r .answer; after = table buffer (r .count) }
 
 -- refused, with the count as it was
-abbrev pub refusedSetReply : ℕ → ℕ → SetReply
+abbrev pub refusedSetReply : Refusal → ℕ → SetReply
 refusedSetReply why count = record { answer = Refused why; count = count }
 
 -- 01: the value is stored if its command is written; refused, the table is as it was

@@ -2,10 +2,13 @@
 ghost use mathlib.Core.Path.{_≡_};
 ghost use Prim.Native.Nat.{_<_};
 ghost use Rattle.wing_node.specs.Definition.{definitionOf};
+ghost use Rattle.wing_node.specs.Refusal.{refusalNumber};
 ghost use Rattle.wing_mirror.specs.Counts.{zeroCounts, tick as tickOf, total, refusalMark, bodyMark};
 use crate::answer::Counts;
 use wing_node::definition::Parsed;
 use wing_node::definition::from_bytes;
+use wing_node::refusal::Refusal;
+use wing_node::refusal::number;
 
 // Which of the six is meant, if any.
 pub enum Mark {
@@ -66,9 +69,10 @@ pub(crate) fn tick(mut c: Counts, m: Mark) -> Counts
 }
 
 // 01: refusal 1 is a string's, 2 to 5 are a definition's.
-pub(crate) fn refusal_mark(n: u8) -> Mark
-    ensures { λ r. ⌜ r ≡ refusalMark n ⌝ }
+pub(crate) fn refusal_mark(why: Refusal) -> Mark
+    ensures { λ r. ⌜ r ≡ refusalMark (refusalNumber why) ⌝ }
 {
+    let n = number(why);
     if n == 1 {
         return Mark::StringRefused;
     }
@@ -87,6 +91,6 @@ pub(crate) fn body_mark(body: &[u8]) -> Mark
     let p = from_bytes(body);
     match p {
         Parsed::Good(_) => Mark::DefinitionRead,
-        Parsed::Refused(n) => refusal_mark(n),
+        Parsed::Refused(why) => refusal_mark(why),
     }
 }

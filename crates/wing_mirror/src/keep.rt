@@ -69,6 +69,6 @@ pub(crate) fn keep_answer(table: &mut [u8], t: Tally, node: i32, a: Answer, stor
         Answer::String(n) => keep_value(table, t, node, Value::String(n), store),
         Answer::Body(n) => mark(t.count, counts, body_mark(&store[..n as usize])),
         Answer::End => mark(t.count, counts, Mark::Ended),
-        Answer::Refused(n) => mark(t.count, counts, refusal_mark(n)),
+        Answer::Refused(why) => mark(t.count, counts, refusal_mark(why)),
     }
 }

@@ -12,6 +12,7 @@ use crate::order::row;
 use crate::record;
 use crate::table::is_usable;
 use wing_node::field;
+use wing_node::refusal::Refusal;
 use wing_node::value::Value;
 use wing_wire::set;
 use wing_wire::state::State;
@@ -92,10 +93,10 @@ pub fn recall(table: &[u8], count: usize, out: &mut [u8]) -> Written
     if is_usable(table, count) {
         if out.len() < 2 + 395 * count {
             if out.len() < 2 + orders_len(table, count) {
-                return Written::Refused(9);
+                return Written::Refused(Refusal::Number(9));
             }
         }
         return Written::Bytes(lay_recall(out, table, count));
     }
-    Written::Refused(7)
+    Written::Refused(Refusal::Number(7))
 }

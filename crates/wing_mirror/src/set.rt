@@ -3,6 +3,7 @@ ghost use mathlib.Core.Path.{_≡_};
 ghost use mathlib.Core.Bool.{true};
 ghost use lib.ListN.{length};
 ghost use Rattle.wing_node.specs.Bool.{if};
+ghost use Rattle.wing_node.specs.Refusal.{alone};
 ghost use Rattle.wing_node.specs.Value.{integer, float, string as stringOf, nodeValue};
 ghost use Rattle.wing_mirror.specs.Entry.{storable};
 ghost use Rattle.wing_mirror.specs.Record.{width, full};
@@ -15,12 +16,14 @@ use crate::send::send;
 use crate::store::has_room;
 use crate::store::put;
 use crate::table::is_usable;
-use wing_node::utf8::is_utf8;
+use wing_node::refusal::Fault;
+use wing_node::refusal::Refusal;
+use wing_node::refusal::string_fault;
 use wing_node::value::Value;
 use wing_wire::state::State;
 use wing_wire::write::Written;
 
-fn refused(why: u8, count: usize) -> SetReply
+fn refused(why: Refusal, count: usize) -> SetReply
     ensures { λ r. ⌜ r ≡ refusedSetReply why count ⌝ }
 {
     SetReply {
@@ -66,9 +69,9 @@ fn set_value(
             let written = send(out, id, value, string);
             return keep_written(table, count, laid, written);
         }
-        return refused(6, count);
+        return refused(Refusal::Number(6), count);
     }
-    refused(7, count)
+    refused(Refusal::Number(7), count)
 }
 
 // 01: set through the mirror writes the command and stores the value. 7, 6, 9.
@@ -86,13 +89,13 @@ pub fn set_float(table: &mut [u8], count: usize, out: &mut [u8], id: i32, bits: 
 }
 
 // A string's set that is refused for what it is: 7 before that.
-fn refused_string(table: &[u8], count: usize, why: u8) -> SetReply
-    ensures { λ r. ⌜ r ≡ refusedSetReply (if (usable full (tableOf (now (table .entry)) count)) why 7) count ⌝ }
+fn refused_string(table: &[u8], count: usize, why: Refusal) -> SetReply
+    ensures { λ r. ⌜ r ≡ refusedSetReply (if (usable full (tableOf (now (table .entry)) count)) why (alone 7)) count ⌝ }
 {
     if is_usable(table, count) {
         return refused(why, count);
     }
-    refused(7, count)
+    refused(Refusal::Number(7), count)
 }
 
 // The same for a string. 7, 10, 1, 6, 9.
@@ -100,11 +103,12 @@ pub fn set_string(table: &mut [u8], count: usize, out: &mut [u8], id: i32, value
     ensures { λ r. ⌜ setEffect r (now (out .exit)) (now (table .exit)) ≡ mirrorSet full id (stringOf (now (value .entry))) (tableOf (now (table .entry)) count) (now (out .entry)) ⌝ }
 {
     if value.len() <= 256 {
-        if is_utf8(value) {
-            let string = Value::String(value.len() as u16);
-            return set_value(table, count, out, id, string, value);
-        }
-        return refused_string(table, count, 1);
+        let fault = string_fault(value, 256);
+        let string = Value::String(value.len() as u16);
+        return match fault {
+            Fault::None => set_value(table, count, out, id, string, value),
+            Fault::Refused(why) => refused_string(table, count, why),
+        };
     }
-    refused_string(table, count, 10)
+    refused_string(table, count, Refusal::Number(10))
 }

@@ -7,6 +7,7 @@ pub mod Parsing
 pub mod Steps
 pub mod Walks
 pub mod Laid
+pub mod Faults
 pub mod Held
 pub mod Lays
 pub mod Checks

@@ -5,5 +5,6 @@ pub mod Eight
 pub mod Arms
 pub mod Numerals
 pub mod Characters
+pub mod Refusals
 pub mod Bodies
 pub mod Results

@@ -13,7 +13,7 @@ use Rattle.wing_node.specs.declared.items.Begun.the-variants.{Good, Refu
 
 begun-as : (b : Begun) → startResult (startOf b) ≡ begunResult b
 begun-as (Good w) = refl
-begun-as (Refused n) = refl
+begun-as (Refused why) = refl
 
 string-result : (m : MaybeString) → stringResult (answerOf m .answer) (answerOf m .bytes) ≡ m
 unfolding answerOf

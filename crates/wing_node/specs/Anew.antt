@@ -3,6 +3,7 @@ use Prim.Native.Nat.{ℕ, _-_}
 use lib.IntN.{ℤ, pos}
 use mathlib.Core.List.{List, []}
 use lib.ListN.{take, drop}
+use Rattle.wing_node.specs.Refusal.{noFault}
 use Rattle.wing_node.specs.Cursor.{cursor, after}
 use Rattle.wing_node.specs.Types.{typeNumber, unitNumber}
 use Rattle.wing_node.specs.Definition.{itemsOf, definitionOf}
@@ -53,7 +54,7 @@ abbrev pub itemBytes : List ℕ → NodeType → Details → List ℕ
 itemBytes body t None = []
 itemBytes body t (Floats min max steps) = []
 itemBytes body t (Integers min max) = []
-itemBytes body t (Items count first) = take (after (itemsOf t count) body (cursor first 0) .at - first) (drop first body)
+itemBytes body t (Items count first) = take (after (itemsOf t count) body (cursor first noFault) .at - first) (drop first body)
 itemBytes body t (maxLen n) = []
 
 -- what a body that was read lends to the writer
@@ -65,10 +66,10 @@ lentFrom body d =
       items = itemBytes body (d .«node_type») (d .details);
     }
 
--- written anew, or refused with the parser's number
+-- written anew, or refused as the parser does
 abbrev pub anewFrom : List ℕ → Parsed → List ℕ → BodyEffect
 anewFrom body (Good d) out = bodyOfFields (fieldsOf d) (lentFrom body d) out
-anewFrom body (Refused n) out = bodyEffect (BodyRefused n) out
+anewFrom body (Refused why) out = bodyEffect (BodyRefused why) out
 
 -- a body read and written anew
 unfoldable pub anewOf : List ℕ → List ℕ → BodyEffect

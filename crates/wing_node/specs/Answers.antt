@@ -69,7 +69,7 @@ valuesOf body d =
 -- 01: the definition, or its 4 or 5
 abbrev pub parsedResult : List ℕ → Parsed → Result DefinitionValues
 parsedResult body (Good d) = ok (valuesOf body d)
-parsedResult body (Refused n) = refused n
+parsedResult body (Refused why) = refused why
 
 -- 01: types 1, 2: min, max, steps; 4: min, max; 5, 6: item count, then items, from a place on; 7: length. By the number of each field
 abbrev pub detailsBy : NodeType → (FieldName → ℕ) → ℕ → Details
@@ -109,17 +109,17 @@ abbrev pub itemResult : List ℕ → Item → Result ItemValues
 itemResult body Item·None = ok none
 itemResult body (Strings a b) = ok (strings (bytesAt body a) (bytesAt body b))
 itemResult body (Float bits b) = ok (float bits (bytesAt body b))
-itemResult body (Item·Refused n) = refused n
+itemResult body (Item·Refused why) = refused why
 
 -- 01: the walk (the place reached, the number of items left, the type), or 4 or 5
 abbrev pub begunResult : Begun → Result Walk
 begunResult (Begun·Good w) = ok w
-begunResult (Begun·Refused n) = refused n
+begunResult (Begun·Refused why) = refused why
 
 -- the same, of the walker's opening and the walk beside it
 abbrev pub openingResult : Opening → Walk → Result Walk
 openingResult Opening·Good w = ok w
-openingResult (Opening·Refused n) w = refused n
+openingResult (Opening·Refused why) w = refused why
 
 -- of a walker that was begun
 abbrev pub openedResult : Opened → Result Walk

@@ -6,6 +6,7 @@ use mathlib.Core.Logic.{_↔_}
 use mathlib.Core.List.{List, [], _∷_, map}
 use lib.Dec.{eqb}
 use lib.ListN.{length, take, drop, getD}
+use Rattle.wing_node.specs.Refusal.{alone}
 use Rattle.wing_node.specs.Result.{Result, ok, refused}
 use Rattle.wing_node.specs.Signed.{InBits}
 use Rattle.wing_node.specs.Field.{bytesOf}
@@ -132,6 +133,6 @@ pub record BothWays : Type 0 where
   pub anew : (body out : List ℕ) (d : Definition) → Reading body d → extent (allFields body) body ≤ 4096 → extent (allFields body) body ≤ length out →
       WrittenAnew body (gives (bodyOfFields (fieldsOf d) (lentFrom body d) out))
   -- else it is 2 or 9
-  pub long : (body out : List ℕ) (d : Definition) → Reading body d → 4096 < extent (allFields body) body → gives (bodyOfFields (fieldsOf d) (lentFrom body d) out) ≡ refused 2
+  pub long : (body out : List ℕ) (d : Definition) → Reading body d → 4096 < extent (allFields body) body → gives (bodyOfFields (fieldsOf d) (lentFrom body d) out) ≡ refused (alone 2)
   pub short : (body out : List ℕ) (d : Definition) → Reading body d → extent (allFields body) body ≤ 4096 → length out < extent (allFields body) body →
-      gives (bodyOfFields (fieldsOf d) (lentFrom body d) out) ≡ refused 9
+      gives (bodyOfFields (fieldsOf d) (lentFrom body d) out) ≡ refused (alone 9)

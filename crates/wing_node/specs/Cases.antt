@@ -5,16 +5,18 @@ use mathlib.Core.Bool.{true}
 use mathlib.Core.List.{List, [], _∷_}
 use lib.ListN.{take}
 use lib.IntN.{pos, negsuc}
+use Rattle.wing_node.specs.Refusal.{alone}
 use Rattle.wing_node.specs.Digits.{numberFrom, numberIn, digitsIn}
-use Rattle.wing_node.specs.Utf8.{holds, begins, firstThat, charLength, charsFrom, utf8}
+use Rattle.wing_node.specs.Utf8.{holds, begins, firstThat, charLength, goodFrom, good, utf8}
 use Rattle.wing_node.specs.Types.{typeOf, unitOf}
-use Rattle.wing_node.specs.Cursor.{size, content, right, fault, valueOf, contentAt, readAt, reads, after}
+use Rattle.wing_node.specs.Cursor.{size, content, right, heldFault, fault, valueOf, contentAt, readAt, reads, after}
 use Rattle.wing_node.specs.Definition.{definitionOf, detailsAt, times}
 use Rattle.wing_node.specs.Laid.{laid, laidAll}
 use Rattle.wing_node.specs.Writer.{lent, bodyGiven}
 use Rattle.wing_node.specs.declared.node_type.NodeType.the-variants.{Node}
 use Rattle.wing_node.specs.declared.node_type.NodeUnit.the-variants.{Db}
 use Rattle.wing_node.specs.declared.definition.Details.the-variants.{None}
+use Rattle.wing_node.specs.declared.refusal.Refusal.the-variants.{DefinitionNotUtf8}
 use Rattle.wing_node.specs.declared.definition.Parsed.the-variants.{Good, Refused}
 
 -- 01's definition of 15 bytes
@@ -32,7 +34,7 @@ pub passes : definitionOf fifteen ≡ Good (record {
   «read_only» = true;
   details = None;
 })
-unfolding numberFrom numberIn holds begins firstThat charLength charsFrom utf8 typeOf unitOf size content right fault valueOf contentAt readAt reads after definitionOf detailsAt times
+unfolding numberFrom numberIn holds begins firstThat charLength goodFrom good utf8 typeOf unitOf size content right heldFault fault valueOf contentAt readAt reads after definitionOf detailsAt times
 passes = refl
 
 -- 02: from these fields the same bytes are written
@@ -54,16 +56,16 @@ pub written : bodyGiven (record {
 unfolding digitsIn typeOf laid laidAll bodyGiven
 written = refl
 
-pub short : definitionOf (take 14 fifteen) ≡ Refused 4
-unfolding numberFrom numberIn holds begins firstThat charLength charsFrom utf8 typeOf unitOf size content right fault valueOf contentAt readAt reads after definitionOf detailsAt times
+pub short : definitionOf (take 14 fifteen) ≡ Refused (alone 4)
+unfolding numberFrom numberIn holds begins firstThat charLength goodFrom good utf8 typeOf unitOf size content right heldFault fault valueOf contentAt readAt reads after definitionOf detailsAt times
 short = refl
 
 -- the first failing field counts: a name that is not UTF-8 comes before fields that are missing
-pub wrong : definitionOf (0 ∷ 0 ∷ 0 ∷ 1 ∷ 0 ∷ 0 ∷ 0 ∷ 2 ∷ 0 ∷ 7 ∷ 1 ∷ 200 ∷ []) ≡ Refused 5
-unfolding numberFrom numberIn holds begins firstThat charLength charsFrom utf8 typeOf unitOf size content right fault valueOf contentAt readAt reads after definitionOf detailsAt times
+pub wrong : definitionOf (0 ∷ 0 ∷ 0 ∷ 1 ∷ 0 ∷ 0 ∷ 0 ∷ 2 ∷ 0 ∷ 7 ∷ 1 ∷ 200 ∷ []) ≡ Refused (DefinitionNotUtf8 0)
+unfolding numberFrom numberIn holds begins firstThat charLength goodFrom good utf8 typeOf unitOf size content right heldFault fault valueOf contentAt readAt reads after definitionOf detailsAt times
 wrong = refl
 
 -- in a field the length comes before UTF-8
-pub past-end : definitionOf (0 ∷ 0 ∷ 0 ∷ 1 ∷ 0 ∷ 0 ∷ 0 ∷ 2 ∷ 0 ∷ 7 ∷ 2 ∷ 200 ∷ []) ≡ Refused 4
-unfolding numberFrom numberIn holds begins firstThat charLength charsFrom utf8 typeOf unitOf size content right fault valueOf contentAt readAt reads after definitionOf detailsAt times
+pub past-end : definitionOf (0 ∷ 0 ∷ 0 ∷ 1 ∷ 0 ∷ 0 ∷ 0 ∷ 2 ∷ 0 ∷ 7 ∷ 2 ∷ 200 ∷ []) ≡ Refused (alone 4)
+unfolding numberFrom numberIn holds begins firstThat charLength goodFrom good utf8 typeOf unitOf size content right heldFault fault valueOf contentAt readAt reads after definitionOf detailsAt times
 past-end = refl

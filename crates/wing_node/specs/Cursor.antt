@@ -3,11 +3,13 @@
 use Prim.Native.Nat.{ℕ, _+_}
 use mathlib.Core.Bool.{Bool, true}
 use mathlib.Core.List.{List, [], _∷_}
-use lib.Dec.{ltb, eqb}
+use lib.Dec.{ltb}
 use lib.ListN.{length, take, drop, getD}
 use Rattle.wing_node.specs.Bool.{if}
 use Rattle.wing_node.specs.Utf8.{utf8}
+use Rattle.wing_node.specs.Refusal.{definitionNotUtf8, noFault, because, byNumber, isRefused}
 use Rattle.wing_node.specs.Field.{big}
+use Rattle.wing_node.specs.declared.refusal.Fault.{Fault}
 use Rattle.wing_node.specs.declared.cursor.Cursor.{Cursor}
 use Rattle.wing_node.specs.declared.cursor.FieldRead.{FieldRead}
 use Rattle.wing_node.specs.declared.cursor.ShortRead.{ShortRead}
@@ -32,9 +34,13 @@ unfoldable pub right : Field → List ℕ → Bool
 right (number w) s = true
 right string s = utf8 (content string s)
 
--- 0, or why the field is refused: 4 past the end, 5 not UTF-8; the length comes before UTF-8
-unfoldable pub fault : Field → List ℕ → ℕ
-fault f s = if (ltb (length s) (size f s)) 4 (if (right f s) 0 5)
+-- why the bytes that it holds are refused: 5
+unfoldable pub heldFault : Field → List ℕ → Fault
+heldFault f s = if (right f s) noFault (because (definitionNotUtf8 (content f s)))
+
+-- why the field is refused: 4 past the end, 5 not UTF-8; the length comes before UTF-8
+unfoldable pub fault : Field → List ℕ → Fault
+fault f s = if (ltb (length s) (size f s)) (byNumber 4) (heldFault f s)
 
 -- its number: a string's is its length
 unfoldable pub valueOf : Field → List ℕ → ℕ
@@ -46,16 +52,16 @@ unfoldable pub contentAt : Field → ℕ → ℕ
 contentAt (number w) at = at
 contentAt string at = at + 1
 
--- a cursor: the place reached, and the refusal met or 0
-abbrev pub cursor : ℕ → ℕ → Cursor
-cursor at why = record { at = at; refused = why }
+-- a cursor: the place reached, and the refusal met, if any
+abbrev pub cursor : ℕ → Fault → Cursor
+cursor at why = record { at = at; fault = why }
 
 -- at the front, with nothing refused
 abbrev pub start : Cursor
-start = cursor 0 0
+start = cursor 0 noFault
 
--- the place stays, with the number of the refusal
-abbrev pub stopped : Cursor → ℕ → Cursor
+-- the place stays, with the refusal
+abbrev pub stopped : Cursor → Fault → Cursor
 stopped c why = cursor (c .at) why
 
 -- the bytes from a cursor on
@@ -77,11 +83,9 @@ shortOf r = record { value = r .value; next = r .next }
 -- the field at a cursor. 01: the first failing field counts, so after a refusal nothing is read
 unfoldable pub readAt : Field → List ℕ → Cursor → FieldRead
 readAt f body c =
-    if (eqb (c .refused) 0)
-    (if (eqb (fault f (from body c)) 0)
-    (fieldRead (valueOf f (from body c)) (contentAt f (c .at)) (cursor (c .at + size f (from body c)) 0))
-    (nothing (stopped c (fault f (from body c)))))
-    (nothing c)
+    if (isRefused (c .fault)) (nothing c)
+    (if (isRefused (fault f (from body c))) (nothing (stopped c (fault f (from body c))))
+    (fieldRead (valueOf f (from body c)) (contentAt f (c .at)) (cursor (c .at + size f (from body c)) noFault)))
 
 -- fields one after the other
 unfoldable pub reads : List Field → List ℕ → Cursor → List FieldRead

@@ -7,6 +7,8 @@ use Rattle.wing_node.specs.Bool.{if}
 use Rattle.wing_node.specs.Signed.{signed}
 use Rattle.wing_node.specs.Cursor.{Field, number, string, start, nothing, readAt, reads, after}
 use Rattle.wing_node.specs.Types.{typeOf, unitOf}
+use Rattle.wing_node.specs.declared.refusal.Fault.{Fault}
+use Rattle.wing_node.specs.declared.refusal.Fault.the-variants.{None, Refused as Because}
 use Rattle.wing_node.specs.declared.cursor.Cursor.{Cursor}
 use Rattle.wing_node.specs.declared.cursor.FieldRead.{FieldRead}
 use Rattle.wing_node.specs.declared.node_type.NodeType.{NodeType}
@@ -16,7 +18,7 @@ use Rattle.wing_node.specs.declared.definition.Item.{Item}
 use Rattle.wing_node.specs.declared.definition.Item.the-variants.{None as noItem, Strings, Float}
 use Rattle.wing_node.specs.declared.definition.ItemRead.{ItemRead}
 use Rattle.wing_node.specs.declared.definition.Details.{Details}
-use Rattle.wing_node.specs.declared.definition.Details.the-variants.{None, Floats, Integers, Items, String as maxLen}
+use Rattle.wing_node.specs.declared.definition.Details.the-variants.{None as noDetails, Floats, Integers, Items, String as maxLen}
 use Rattle.wing_node.specs.declared.definition.DetailsRead.{DetailsRead}
 use Rattle.wing_node.specs.declared.definition.Parsed.{Parsed}
 use Rattle.wing_node.specs.declared.definition.Parsed.the-variants.{Good, Refused}
@@ -139,10 +141,10 @@ itemAt t body c = record { item = itemFrom t (reads (itemOf t) body c); next = a
 -- what the fields that a type adds say; `first` is the place after them, where the items begin.
 -- Steps and integer limits are signed, float limits are their bits
 abbrev pub detailsFrom : NodeType → (FieldName → FieldRead) → ℕ → Details
-detailsFrom Node f first = None
+detailsFrom Node f first = noDetails
 detailsFrom LinearFloat f first = Floats (f Min .value) (f Max .value) (signed 31 (f Steps .value))
 detailsFrom LogarithmicFloat f first = Floats (f Min .value) (f Max .value) (signed 31 (f Steps .value))
-detailsFrom FaderLevel f first = None
+detailsFrom FaderLevel f first = noDetails
 detailsFrom Integer f first = Integers (signed 31 (f Min .value)) (signed 31 (f Max .value))
 detailsFrom StringEnum f first = Items (f Count .value) first
 detailsFrom FloatEnum f first = Items (f Count .value) first
@@ -181,15 +183,16 @@ definitionFrom f details =
     }
 
 -- 01: 4 or 5 by the first field that fails, else the definition
-abbrev pub parsedFrom : ℕ → Definition → Parsed
-parsedFrom refused d = if (eqb refused 0) (Good d) (Refused refused)
+abbrev pub parsedFrom : Fault → Definition → Parsed
+parsedFrom None d = Good d
+parsedFrom (Because why) d = Refused why
 
--- the definition, or the number of the first failing field. 01: later bytes are ignored
+-- the definition, or the refusal of the first failing field. 01: later bytes are ignored
 unfoldable pub definitionOf : List ℕ → Parsed
 definitionOf body =
     let f = named header body start in
     let found = detailsAt (kindFrom f) body (past header body start) in
-    parsedFrom (found .next .refused) (definitionFrom f (found .details))
+    parsedFrom (found .next .fault) (definitionFrom f (found .details))
 
 -- all fields of a body: its type and its count say which they are
 unfoldable pub fieldsIn : List ℕ → List Field

@@ -2,10 +2,13 @@
 use Prim.Native.Nat.{ℕ, _-_}
 use mathlib.Core.List.{List}
 use lib.Dec.{eqb, leb}
+use Rattle.wing_node.specs.Refusal.{alone}
 use Rattle.wing_node.specs.Bool.{if}
 use Rattle.wing_node.specs.Cursor.{cursor, after}
 use Rattle.wing_node.specs.Types.{hasItems}
 use Rattle.wing_node.specs.Definition.{itemAt, itemsOf, definitionOf}
+use Rattle.wing_node.specs.declared.refusal.Fault.{Fault}
+use Rattle.wing_node.specs.declared.refusal.Fault.the-variants.{None as noFault, Refused as Because}
 use Rattle.wing_node.specs.declared.node_type.NodeType.{NodeType}
 use Rattle.wing_node.specs.declared.definition.Item.{Item}
 use Rattle.wing_node.specs.declared.definition.Item.the-variants.{None, Refused}
@@ -35,7 +38,7 @@ walkFrom t (Floats min max steps) = walk 0 0 t
 walkFrom t (Integers min max) = walk 0 0 t
 walkFrom t (maxLen n) = walk 0 0 t
 
--- 01: a refused body is refused here with its number
+-- 01: a body that is refused is refused here for the same reason
 abbrev pub beginFrom : Parsed → Begun
 beginFrom (Good d) = Begun·Good (walkFrom (d .«node_type») (d .details))
 beginFrom (Parsed·Refused why) = Begun·Refused why
@@ -44,21 +47,25 @@ beginFrom (Parsed·Refused why) = Begun·Refused why
 unfoldable pub beginOf : List ℕ → Begun
 beginOf body = beginFrom (definitionOf body)
 
--- an item that was read moves the walk; a refused one does not
+-- by the fault that was met: an item that was read moves the walk; a refused one does not
+abbrev pub stepBy : Fault → ItemRead → ℕ → ℕ → NodeType → Step
+stepBy noFault r at left kind = stayed (r .item) (r .next .at) (left - 1) kind
+stepBy (Because why) r at left kind = stayed (Refused why) at left kind
+
+-- the walk after what was read there
 abbrev pub stepFrom : ItemRead → ℕ → ℕ → NodeType → Step
-stepFrom r at left kind =
-    if (eqb (r .next .refused) 0) (stayed (r .item) (r .next .at) (left - 1) kind) (stayed (Refused (r .next .refused)) at left kind)
+stepFrom r at left kind = stepBy (r .next .fault) r at left kind
 
 -- 01: a step gives none when no items are left or the type has none, else the item there, or 4 or 5
 unfoldable pub stepAt : List ℕ → ℕ → ℕ → NodeType → Step
 stepAt body at left kind =
     if (eqb left 0) (stayed None at left kind)
-    (if (hasItems kind) (stepFrom (itemAt kind body (cursor at 0)) at left kind) (stayed None at left kind))
+    (if (hasItems kind) (stepFrom (itemAt kind body (cursor at noFault)) at left kind) (stayed None at left kind))
 
 -- the item after as many as its number says; 14 where the number is not below the count
 unfoldable pub numberedFrom : List ℕ → ℕ → Walk → Item
 numberedFrom body n w =
-    if (leb (w .left) n) (Refused 14) (stepAt body (after (itemsOf (w .kind) n) body (cursor (w .at) 0) .at) (w .left - n) (w .kind) .item)
+    if (leb (w .left) n) (Refused (alone 14)) (stepAt body (after (itemsOf (w .kind) n) body (cursor (w .at) noFault) .at) (w .left - n) (w .kind) .item)
 
 -- 01: the body's 4 or 5 comes before 14
 abbrev pub numberedIn : List ℕ → ℕ → Begun → Item

@@ -1,10 +1,11 @@
 pub mod Bool
-pub mod Result
 pub mod Digits
 pub mod Bytes
 pub mod Signed
 pub mod Field
 pub mod Utf8
+pub mod Refusal
+pub mod Result
 pub mod Decimal
 pub mod Value
 pub mod Cursor

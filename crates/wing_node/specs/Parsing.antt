@@ -6,6 +6,9 @@ use mathlib.Core.Logic.{_↔_, _⊎_}
 use mathlib.Core.List.{List}
 use lib.ListN.{drop}
 use Rattle.wing_node.specs.Result.{Result, ok, refused}
+use Rattle.wing_node.specs.declared.refusal.Refusal.{Refusal}
+use Rattle.wing_node.specs.declared.refusal.Refusal.the-variants.{DefinitionNotUtf8}
+use Rattle.wing_node.specs.Refusal.{alone, goodBeside}
 use Rattle.wing_node.specs.Types.{hasItems}
 use Rattle.wing_node.specs.Definition.{itemOf, definitionOf}
 use Rattle.wing_node.specs.Items.{walk, beginOf, stepAt, itemNumbered}
@@ -25,14 +28,18 @@ pub record Takes (body : List ℕ) : Type 0 where
   pub definition : DefinitionValues
   pub says : parserSays body ≡ ok definition
 
+-- 4, or 5 with a good
+abbrev pub FourOrFive : Refusal → Type 0
+FourOrFive why = (why ≡ alone 4) ⊎ (why ≡ DefinitionNotUtf8 (goodBeside why))
+
 -- the parser. 01: in a definition the first failing field counts, length before UTF-8
 pub record Parsing (body : List ℕ) : Type 0 where
   -- 01: definition field past the end, 4
-  pub pastEnd : (parserSays body ≡ refused 4) ↔ StopsAt PastEnd (allFields body) body
-  -- 01: definition string not UTF-8, 5
-  pub notUtf8 : (parserSays body ≡ refused 5) ↔ StopsAt NotUtf8 (allFields body) body
-  -- no other number
-  pub numbers : (n : ℕ) → parserSays body ≡ refused n → (n ≡ 4) ⊎ (n ≡ 5)
+  pub pastEnd : (parserSays body ≡ refused (alone 4)) ↔ StopsAt PastEnd (allFields body) body
+  -- 01: definition string not UTF-8, 5; 02: with the good of that string
+  pub notUtf8 : (g : ℕ) → (parserSays body ≡ refused (DefinitionNotUtf8 g)) ↔ StopsAt (NotUtf8 g) (allFields body) body
+  -- no other refusal
+  pub others : (why : Refusal) → parserSays body ≡ refused why → FourOrFive why
   -- else all fields stand. 01: later bytes are ignored
   pub taken : Takes body ↔ Stand (allFields body) body
   -- and then what the fields hold is said
@@ -45,7 +52,7 @@ beginSays body = begunResult (beginOf body)
 -- beginning a walk
 pub record Beginning (body : List ℕ) : Type 0 where
   -- 01: beginning on a body that the parser refuses gives its 4 or 5
-  pub refusals : (n : ℕ) → (beginSays body ≡ refused n) ↔ (parserSays body ≡ refused n)
+  pub refusals : (why : Refusal) → (beginSays body ≡ refused why) ↔ (parserSays body ≡ refused why)
   -- 01: it begins at the first item
   pub begun : Takes body → beginSays body ≡ ok (walkIn body)
 
@@ -66,18 +73,18 @@ abbrev pub IsItem : Result ItemValues → Type 0
 IsItem (ok none) = ⊥
 IsItem (ok (strings a b)) = Unit {0}
 IsItem (ok (float bits b)) = Unit {0}
-IsItem (refused n) = ⊥
+IsItem (refused why) = ⊥
 
 -- a step, from any place. 01: none when no items are left or the type has none, else the item there, or 4 or 5
 pub record Stepping (body : List ℕ) (w : Walk) : Type 0 where
   -- none, exactly then
   pub nothing : (stepSays body w ≡ ok none) ↔ ((w .left ≡ 0) ⊎ (hasItems (w .kind) ≡ false))
   -- 4: a field of the item is past the end
-  pub pastEnd : (stepSays body w ≡ refused 4) ↔ (Left w × StopsAt PastEnd (itemOf (w .kind)) (drop (w .at) body))
-  -- 5: a string of it is not UTF-8
-  pub notUtf8 : (stepSays body w ≡ refused 5) ↔ (Left w × StopsAt NotUtf8 (itemOf (w .kind)) (drop (w .at) body))
-  -- no other number
-  pub numbers : (n : ℕ) → stepSays body w ≡ refused n → (n ≡ 4) ⊎ (n ≡ 5)
+  pub pastEnd : (stepSays body w ≡ refused (alone 4)) ↔ (Left w × StopsAt PastEnd (itemOf (w .kind)) (drop (w .at) body))
+  -- 5: a string of it is not UTF-8; 02: with its good
+  pub notUtf8 : (g : ℕ) → (stepSays body w ≡ refused (DefinitionNotUtf8 g)) ↔ (Left w × StopsAt (NotUtf8 g) (itemOf (w .kind)) (drop (w .at) body))
+  -- no other refusal
+  pub others : (why : Refusal) → stepSays body w ≡ refused why → FourOrFive why
   -- an item, exactly where its fields stand
   pub given : IsItem (stepSays body w) ↔ (Left w × Stand (itemOf (w .kind)) (drop (w .at) body))
   -- and then it says what they hold
@@ -94,7 +101,7 @@ numberSays body n = itemResult body (itemNumbered body n)
 -- the item of a number
 pub record ByNumber (body : List ℕ) (n : ℕ) : Type 0 where
   -- 01: a body that the parser refuses gives its 4 or 5 before 14; 14: item number not below its count
-  pub refusals : (k : ℕ) → (numberSays body n ≡ refused k) ↔ ((parserSays body ≡ refused k) ⊎ (Takes body × (countIn body ≤ n) × (k ≡ 14)))
+  pub refusals : (why : Refusal) → (numberSays body n ≡ refused why) ↔ ((parserSays body ≡ refused why) ⊎ (Takes body × (countIn body ≤ n) × (why ≡ alone 14)))
   -- else an item
   pub given : Takes body → n < countIn body → IsItem (numberSays body n)
   -- and it says what the item of that number holds

@@ -4,7 +4,8 @@ use mathlib.Core.Bool.{true, false}
 use mathlib.Core.Path.{_≡_}
 use mathlib.Core.List.{List, [], _∷_, _++_}
 use lib.ListN.{length, drop}
-use Rattle.wing_node.specs.Cursor.{Field, size, right}
+use Rattle.wing_node.specs.Utf8.{good}
+use Rattle.wing_node.specs.Cursor.{Field, size, content, right}
 
 -- a field is whole at the front of s: the bytes that it takes are there
 abbrev pub Whole : Field → List ℕ → Type 0
@@ -14,9 +15,9 @@ Whole f s = size f s ≤ length s
 abbrev pub PastEnd : Field → List ℕ → Type 0
 PastEnd f s = Whole f s → ⊥
 
--- 01: string not UTF-8; length before UTF-8, so the field is whole
-abbrev pub NotUtf8 : Field → List ℕ → Type 0
-NotUtf8 f s = Whole f s × (right f s ≡ false)
+-- 01: string not UTF-8; length before UTF-8, so the field is whole. 02: so many of its leading bytes form whole characters
+abbrev pub NotUtf8 : ℕ → Field → List ℕ → Type 0
+NotUtf8 g f s = Whole f s × (right f s ≡ false) × (g ≡ good (content f s))
 
 -- how many bytes fields in a row take
 unfoldable pub extent : List Field → List ℕ → ℕ

@@ -96,15 +96,25 @@ ClassesHold = (lead : ℕ) → lead < 256 → (leadLength lead ≡ 0 → ⊥) �
 unfoldable pub second : ℕ → Range
 second lead = getD (rowOf lead) 1 utf8Tail
 
--- characters one after the other, once `skip` more bytes of the last one are passed
-unfoldable pub charsFrom : ℕ → List ℕ → Bool
-charsFrom skip [] = eqb skip 0
-charsFrom (suc skip) (b ∷ s) = charsFrom skip s
-charsFrom zero (b ∷ s) = if (eqb (charLength (b ∷ s)) 0) false (charsFrom (charLength (b ∷ s) - 1) s)
+-- how many leading bytes form whole characters, once `skip` more bytes of the last one are passed
+unfoldable pub goodFrom : ℕ → List ℕ → ℕ
+goodFrom skip [] = 0
+goodFrom (suc skip) (b ∷ s) = 1 + goodFrom skip s
+goodFrom zero (b ∷ s) = if (eqb (charLength (b ∷ s)) 0) 0 (1 + goodFrom (charLength (b ∷ s) - 1) s)
 
--- whether s is UTF8-octets
+-- 02: how many leading bytes of s form whole characters
+unfoldable pub good : List ℕ → ℕ
+good s = goodFrom 0 s
+
+-- 02: the largest such number: the first n bytes are UTF8-octets, and no longer prefix is
+pub record Longest (n : ℕ) (s : List ℕ) : Type 0 where
+  pub within : n ≤ length s
+  pub octets : Octets (take n s)
+  pub none-longer : (m : ℕ) → n < m → m ≤ length s → Octets (take m s) → ⊥
+
+-- whether s is UTF8-octets: all of it is good
 unfoldable pub utf8 : List ℕ → Bool
-utf8 s = charsFrom 0 s
+utf8 s = eqb (good s) (length s)
 
 -- a test that is true exactly when P holds
 pub record Decides (test : Bool) (P : Type 0) : Type 0 where

@@ -12,12 +12,14 @@ use Rattle.wing_node.specs.Result.{Result, ok, refused}
 use Rattle.wing_node.specs.Signed.{unsigned}
 use Rattle.wing_node.specs.Bytes.{placed}
 use Rattle.wing_node.specs.Field.{bytesOf}
-use Rattle.wing_node.specs.Utf8.{utf8}
+use Rattle.wing_node.specs.Refusal.{noFault, byNumber, isRefused, firstFault, textFault}
 use Rattle.wing_node.specs.Types.{typeOf, hasItems}
-use Rattle.wing_node.specs.Cursor.{Field, size, right}
+use Rattle.wing_node.specs.Cursor.{Field, size, heldFault}
 use Rattle.wing_node.specs.Standing.{Whole, extent}
 use Rattle.wing_node.specs.Written.{laidBy}
 use Rattle.wing_node.specs.Definition.{FieldName, ParentId, Id, Index, Name, LongName, Flags, Min, Max, Steps, Count, MaxLen, header, added, itemsOf}
+use Rattle.wing_node.specs.declared.refusal.Fault.{Fault}
+use Rattle.wing_node.specs.declared.refusal.Fault.the-variants.{None, Refused as Because}
 use Rattle.wing_node.specs.declared.node_type.NodeType.{NodeType}
 use Rattle.wing_node.specs.declared.node_type.NodeType.the-variants.{Node, LinearFloat, LogarithmicFloat, FaderLevel, Integer, StringEnum, FloatEnum, String}
 use Rattle.wing_node.specs.declared.writer.Fields.{Fields}
@@ -92,22 +94,26 @@ ExactItems t count items = Exactly (itemsOf t count) items × ((hasItems t ≡ t
 abbrev pub unfit : ℕ → ℕ → ℕ → List ℕ → Bool
 unfit type unit count items = or (ltb 7 type) (or (ltb 7 unit) (not (exactItems (typeOf type) count items)))
 
--- the strings among fields in a row are UTF-8
-unfoldable pub texts : List Field → List ℕ → Bool
-texts [] s = true
-texts (f ∷ fs) s = and (right f s) (texts fs (drop (size f s) s))
+-- the first string among fields in a row that is not UTF-8
+unfoldable pub textsFault : List Field → List ℕ → Fault
+textsFault [] s = noFault
+textsFault (f ∷ fs) s = firstFault (heldFault f s) (textsFault fs (drop (size f s) s))
 
--- 02: names and item strings are UTF-8
-abbrev pub allTexts : Fields → Lent → Bool
-allTexts d l = and (utf8 (l .name)) (and (utf8 (l .longName)) (texts (itemsOf (typeGiven d) (d .count)) (l .items)))
+-- they all are
+abbrev pub texts : List Field → List ℕ → Bool
+texts fs s = not (isRefused (textsFault fs s))
 
--- 02: the writer's order is 15, 16, 5, 2, 9; 0 for none of the first three
-unfoldable pub lentFault : Fields → Lent → ℕ
-lentFault d l = if (tooLong l) 15 (if (unfit (d .«node_type») (d .unit) (d .count) (l .items)) 16 (if (allTexts d l) 0 5))
+-- 02: names and item strings are UTF-8; the first that fails counts: name, long name, items in order
+abbrev pub allTextsFault : Fields → Lent → Fault
+allTextsFault d l = firstFault (textFault (l .name)) (firstFault (textFault (l .longName)) (textsFault (itemsOf (typeGiven d) (d .count)) (l .items)))
 
--- 0 or why a body of these bytes is not written into this output: over 4,096 bytes, an output too short
-unfoldable pub roomFault : List ℕ → List ℕ → ℕ
-roomFault body out = if (ltb 4096 (length body)) 2 (if (ltb (length out) (length body)) 9 0)
+-- 02: the writer's order is 15, 16, 5, 2, 9; the first three of them
+unfoldable pub lentFault : Fields → Lent → Fault
+lentFault d l = if (tooLong l) (byNumber 15) (if (unfit (d .«node_type») (d .unit) (d .count) (l .items)) (byNumber 16) (allTextsFault d l))
+
+-- why a body of these bytes is not written into this output: over 4,096 bytes, an output too short
+unfoldable pub roomFault : List ℕ → List ℕ → Fault
+roomFault body out = if (ltb 4096 (length body)) (byNumber 2) (if (ltb (length out) (length body)) (byNumber 9) noFault)
 
 -- what the call leaves: its answer, and the output
 pub record BodyEffect : Type 0 where
@@ -119,18 +125,19 @@ abbrev pub bodyEffect : BodyWritten → List ℕ → BodyEffect
 bodyEffect answer out = record { answer = answer; out = out }
 
 -- refused, and the output as it was; or the bytes at its front, with those past them as they were
-abbrev pub bodyPut : ℕ → List ℕ → List ℕ → BodyEffect
-bodyPut fault body out = if (eqb fault 0) (bodyEffect (Bytes (length body)) (placed out 0 body)) (bodyEffect (Refused fault) out)
+abbrev pub bodyPut : Fault → List ℕ → List ℕ → BodyEffect
+bodyPut None body out = bodyEffect (Bytes (length body)) (placed out 0 body)
+bodyPut (Because why) body out = bodyEffect (Refused why) out
 
--- 0, or why the call is refused, in that order
-abbrev pub faultOf : Fields → Lent → List ℕ → ℕ
-faultOf d l out = if (eqb (lentFault d l) 0) (roomFault (bodyGiven d l) out) (lentFault d l)
+-- why the call is refused, in that order
+abbrev pub faultOf : Fields → Lent → List ℕ → Fault
+faultOf d l out = firstFault (lentFault d l) (roomFault (bodyGiven d l) out)
 
 -- 02: the writer
 unfoldable pub bodyOfFields : Fields → Lent → List ℕ → BodyEffect
 bodyOfFields d l out = bodyPut (faultOf d l out) (bodyGiven d l) out
 
--- 02, what the call gives: the bytes written, the first n of the output after it, or the number of the refusal
+-- 02, what the call gives: the bytes written, the first n of the output after it, or the refusal
 abbrev pub bodyResult : BodyWritten → List ℕ → Result (List ℕ)
 bodyResult (Bytes n) out = ok (take n out)
-bodyResult (Refused n) out = refused n
+bodyResult (Refused why) out = refused why

@@ -14,6 +14,7 @@ use crate::field::least;
 use crate::node_type::NodeType;
 use crate::node_type::type_number;
 use crate::node_type::unit_number;
+use crate::refusal::Fault;
 use crate::writer::BodyWritten;
 use crate::writer::Fields;
 use crate::writer::to_bytes;
@@ -53,7 +54,7 @@ fn items_part(body: &[u8], kind: NodeType, details: Details) -> Part
                 count,
                 Cursor {
                     at: first,
-                    refused: 0,
+                    fault: Fault::None,
                 },
             );
             part_of(body, first, distance(first, end.at))

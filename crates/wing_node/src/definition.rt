@@ -13,6 +13,9 @@ use crate::node_type::NodeType;
 use crate::node_type::NodeUnit;
 use crate::node_type::type_of;
 use crate::node_type::unit_of;
+use crate::refusal::Fault;
+use crate::refusal::Refusal;
+use crate::refusal::is_refused;
 
 // Where a string lies in the body.
 pub struct Span {
@@ -29,12 +32,12 @@ fn span_of(r: FieldRead) -> Span
     }
 }
 
-// An item of a string or float enum; none, or the number of the refusal.
+// An item of a string or float enum; none, or the refusal.
 pub enum Item {
     None,
     Strings { item: Span, long_item: Span },
     Float { item: u32, long_item: Span },
-    Refused(u8),
+    Refused(Refusal),
 }
 
 pub struct ItemRead {
@@ -68,10 +71,10 @@ pub struct Definition {
     pub details: Details,
 }
 
-// The definition, or the number of the refusal: 4 or 5.
+// The definition, or the refusal: 4 or 5.
 pub enum Parsed {
     Good(Definition),
-    Refused(u8),
+    Refused(Refusal),
 }
 
 fn string_item(body: &[u8], c: Cursor) -> ItemRead
@@ -124,7 +127,8 @@ pub(crate) fn past_items(body: &[u8], kind: NodeType, count: u16, first: Cursor)
     let mut c = first;
     let mut left = count;
     while 0 < left {
-        if c.refused != 0 {
+        let fault = c.fault;
+        if is_refused(fault) {
             return c;
         }
         let read = read_item(body, kind, c);
@@ -204,20 +208,26 @@ fn read_details(body: &[u8], kind: NodeType, c: Cursor) -> DetailsRead
 }
 
 // The definition, unless a field was refused.
-fn finish(refused: u8, d: Definition) -> Parsed
-    ensures { λ r. ⌜ r ≡ parsedFrom refused d ⌝ }
+fn finish(fault: Fault, d: Definition) -> Parsed
+    ensures { λ r. ⌜ r ≡ parsedFrom fault d ⌝ }
 {
-    if refused != 0 {
-        return Parsed::Refused(refused);
+    match fault {
+        Fault::None => Parsed::Good(d),
+        Fault::Refused(why) => Parsed::Refused(why),
     }
-    Parsed::Good(d)
 }
 
 // The definition in a body, or 4 or 5 by its first failing field. Later bytes are ignored.
 pub fn from_bytes(body: &[u8]) -> Parsed
     ensures { λ r. ⌜ r ≡ definitionOf (now (body .entry)) ⌝ }
 {
-    let parent_id = read_32(body, Cursor { at: 0, refused: 0 });
+    let parent_id = read_32(
+        body,
+        Cursor {
+            at: 0,
+            fault: Fault::None,
+        },
+    );
     let id = read_32(body, parent_id.next);
     let index = read_16(body, id.next);
     let name = read_string(body, index.next);
@@ -238,5 +248,7 @@ pub fn from_bytes(body: &[u8]) -> Parsed
         read_only: bits / 512 % 2 == 1,
         details: details,
     };
-    finish(found.next.refused, d)
+    let next = found.next;
+    let fault = next.fault;
+    finish(fault, d)
 }

@@ -10,6 +10,8 @@ use crate::definition::past_items;
 use crate::definition::read_item;
 use crate::node_type::NodeType;
 use crate::node_type::has_items;
+use crate::refusal::Fault;
+use crate::refusal::Refusal;
 
 // Where a walk over the items stands: the place reached, the items left and the type.
 pub struct Walk {
@@ -21,7 +23,7 @@ pub struct Walk {
 // A walk at the first item, or the parser's 4 or 5.
 pub enum Begun {
     Good(Walk),
-    Refused(u8),
+    Refused(Refusal),
 }
 
 pub struct Step {
@@ -82,12 +84,21 @@ pub fn item_step(body: &[u8], at: usize, left: u16, kind: NodeType) -> Step
         return stay(Item::None, at, left, kind);
     }
     if has_items(kind) {
-        let read = read_item(body, kind, Cursor { at: at, refused: 0 });
-        if read.next.refused != 0 {
-            return stay(Item::Refused(read.next.refused), at, left, kind);
-        }
+        let read = read_item(
+            body,
+            kind,
+            Cursor {
+                at: at,
+                fault: Fault::None,
+            },
+        );
+        let next = read.next;
+        let fault = next.fault;
         let item = read.item;
-        return stay(item, read.next.at, left - 1, kind);
+        return match fault {
+            Fault::None => stay(item, next.at, left - 1, kind),
+            Fault::Refused(why) => stay(Item::Refused(why), at, left, kind),
+        };
     }
     stay(Item::None, at, left, kind)
 }
@@ -96,7 +107,7 @@ fn numbered(body: &[u8], number: usize, first: Walk) -> Item
     ensures { λ r. ⌜ r ≡ numberedFrom (now (body .entry)) number first ⌝ }
 {
     if first.left as usize <= number {
-        return Item::Refused(14);
+        return Item::Refused(Refusal::Number(14));
     }
     let before = number as u16;
     let kind = first.kind;
@@ -106,7 +117,7 @@ fn numbered(body: &[u8], number: usize, first: Walk) -> Item
         before,
         Cursor {
             at: first.at,
-            refused: 0,
+            fault: Fault::None,
         },
     );
     let there = item_step(body, c.at, first.left - before, kind);

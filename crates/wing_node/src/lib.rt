@@ -5,6 +5,7 @@ pub mod definition;
 pub mod field;
 pub mod items;
 pub mod node_type;
+pub mod refusal;
 pub mod utf8;
 pub mod value;
 pub mod walker;

@@ -1,9 +1,10 @@
-// UTF-8 (RFC 3629): whether lent bytes are whole characters, one after the other.
+// UTF-8 (RFC 3629): how many leading bytes form whole characters, and whether all do.
 // 01: "a lead byte's class is its count of leading one bits".
 ghost use mathlib.Core.Path.{_≡_};
 ghost use mathlib.Core.List.{_∷_, []};
+ghost use Prim.Native.Nat.{_+_};
 ghost use lib.ListN.{drop, replicate};
-ghost use Rattle.wing_node.specs.Utf8.{_to_, utf8Tail, begins, class, leadLength, second, charLength, utf8, Octets, Decides};
+ghost use Rattle.wing_node.specs.Utf8.{_to_, utf8Tail, begins, class, leadLength, second, charLength, good, utf8, Octets, Longest, Decides};
 use crate::field::left;
 use crate::field::u32_at;
 
@@ -104,9 +105,9 @@ fn char_length(s: &[u8], i: usize) -> usize
     0
 }
 
-// Whether the bytes from a place on are whole characters.
-fn is_utf8_from(s: &[u8], from: usize) -> bool
-    ensures { λ r. ⌜ r ≡ utf8 (drop from (now (s .entry))) ⌝ }
+// The place after the whole characters from a place on.
+fn good_from(s: &[u8], from: usize) -> usize
+    ensures { λ r. ⌜ r ≡ from + good (drop from (now (s .entry))) ⌝ }
 {
     let mut i = from;
     while i < s.len() {
@@ -116,12 +117,12 @@ fn is_utf8_from(s: &[u8], from: usize) -> bool
         } else {
             let length = char_length(s, i);
             if length == 0 {
-                return false;
+                return i;
             }
             i += length;
         }
     }
-    true
+    i
 }
 
 // Whether four bytes of ASCII stand at i: no byte of the number that they make has its high bit.
@@ -134,15 +135,23 @@ fn ascii_4(s: &[u8], i: usize) -> bool
     u32_at(s, i) & 0x8080_8080 == 0
 }
 
-// Whether the bytes are UTF-8 by RFC 3629's grammar.
-pub fn is_utf8(s: &[u8]) -> bool
-    ensures { λ r. ⌜ r ≡ utf8 (now (s .entry)) ⌝ }
-    ensures { λ r. ⌜ Decides r (Octets (now (s .entry))) ⌝ }
+// How many leading bytes form whole characters by RFC 3629's grammar: the largest such number.
+pub fn good_len(s: &[u8]) -> usize
+    ensures { λ r. ⌜ r ≡ good (now (s .entry)) ⌝ }
+    ensures { λ r. ⌜ Longest r (now (s .entry)) ⌝ }
 {
     // ASCII at the front, often the whole, is passed four bytes at a time.
     let mut i = 0;
     while ascii_4(s, i) {
         i += 4;
     }
-    is_utf8_from(s, i)
+    good_from(s, i)
+}
+
+// Whether the bytes are UTF-8: all of them are good.
+pub fn is_utf8(s: &[u8]) -> bool
+    ensures { λ r. ⌜ r ≡ utf8 (now (s .entry)) ⌝ }
+    ensures { λ r. ⌜ Decides r (Octets (now (s .entry))) ⌝ }
+{
+    good_len(s) == s.len()
 }

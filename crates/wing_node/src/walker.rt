@@ -11,6 +11,7 @@ use crate::items::Walk;
 use crate::items::item_step;
 use crate::items::items_begin;
 use crate::node_type::NodeType;
+use crate::refusal::Refusal;
 
 pub struct Walker<'a> {
     pub body: &'a [u8],
@@ -22,7 +23,7 @@ pub struct Walker<'a> {
 // Whether a walk began, or the parser's 4 or 5.
 pub enum Opening {
     Good,
-    Refused(u8),
+    Refused(Refusal),
 }
 
 // A walk that began, on plain numbers.

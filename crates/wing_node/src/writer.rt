@@ -6,17 +6,18 @@ ghost use Prim.Native.Nat.{_+_, _≤_};
 ghost use lib.Dec.{eqb};
 ghost use lib.ListN.{length, drop};
 ghost use lib.Seq.{sets};
-ghost use Rattle.wing_node.specs.Bool.{if, and};
+ghost use Rattle.wing_node.specs.Bool.{if};
 ghost use Rattle.wing_node.specs.Bytes.{placed};
 ghost use Rattle.wing_node.specs.Signed.{unsigned};
 ghost use Rattle.wing_node.specs.Field.{bytesOf};
 ghost use Rattle.wing_node.specs.Types.{typeOf};
-ghost use Rattle.wing_node.specs.Cursor.{string, size, right};
+ghost use Rattle.wing_node.specs.Refusal.{byNumber, firstFault, textFault};
+ghost use Rattle.wing_node.specs.Cursor.{string, size, heldFault};
 ghost use Rattle.wing_node.specs.Laid.{laid};
 ghost use Rattle.wing_node.specs.Standing.{extent};
 ghost use Rattle.wing_node.specs.Definition.{form, header, added, itemOf, itemsOf};
 ghost use Rattle.wing_node.specs.Written.{laidBy};
-ghost use Rattle.wing_node.specs.Writer.{lent, typeGiven, flagsOf, holds, bodyGiven, unfit, texts, lentFault, bodyEffect, bodyOfFields};
+ghost use Rattle.wing_node.specs.Writer.{lent, typeGiven, flagsOf, holds, bodyGiven, unfit, textsFault, lentFault, bodyEffect, bodyOfFields};
 use crate::field::least;
 use crate::field::left;
 use crate::field::of_i32;
@@ -26,7 +27,11 @@ use crate::field::put_u32;
 use crate::node_type::NodeType;
 use crate::node_type::has_items;
 use crate::node_type::type_of;
-use crate::utf8::is_utf8;
+use crate::refusal::Fault;
+use crate::refusal::Refusal;
+use crate::refusal::by_number;
+use crate::refusal::first_fault;
+use crate::utf8::good_len;
 
 // The fields that a definition of any type has, flat. Those that its type lacks are ignored, but for the count (and the
 // items), which are 16. Floats are their 32 bits.
@@ -46,34 +51,40 @@ pub struct Fields {
     pub max_len: u16,
 }
 
-// How many bytes the body took, or the number of the refusal.
+// How many bytes the body took, or the refusal.
 pub enum BodyWritten {
     Bytes(usize),
-    Refused(u8),
+    Refused(Refusal),
 }
 
-// What was passed: the place after it, and whether its strings are UTF-8.
+// What was passed: the place after it, and the first of its strings that is not UTF-8.
 struct Checked {
     at: usize,
-    is_text: bool,
+    fault: Fault,
 }
 
-fn both(a: bool, b: bool) -> bool
-    ensures { λ r. ⌜ r ≡ and a b ⌝ }
+// A definition's string: 5 with its good, unless all of it is.
+fn text_fault(s: &[u8]) -> Fault
+    requires { ⌜ length (now s) ≤ 255 ⌝ }
+    ensures { λ r. ⌜ r ≡ textFault (now (s .entry)) ⌝ }
 {
-    if a { b } else { false }
+    let good = good_len(s);
+    if good == s.len() {
+        return Fault::None;
+    }
+    Fault::Refused(Refusal::DefinitionNotUtf8 { good: good as u16 })
 }
 
 // A string at a place. Its bytes are looked at as far as they are there.
 fn check_string(items: &[u8], at: usize) -> Checked
     requires { ⌜ at ≤ length (now items) + 256 ⌝ }
-    ensures { λ r. ⌜ (r .at ≡ at + size string (drop at (now (items .entry)))) × (r .«is_text» ≡ right string (drop at (now (items .entry)))) ⌝ }
+    ensures { λ r. ⌜ (r .at ≡ at + size string (drop at (now (items .entry)))) × (r .fault ≡ heldFault string (drop at (now (items .entry)))) ⌝ }
 {
     let there = left(items, at);
     if there < 1 {
         return Checked {
             at: at + 1,
-            is_text: true,
+            fault: Fault::None,
         };
     }
     let len = items[at] as usize;
@@ -81,98 +92,98 @@ fn check_string(items: &[u8], at: usize) -> Checked
     let end = first + least(len, there - 1);
     Checked {
         at: first + len,
-        is_text: is_utf8(&items[first..end]),
+        fault: text_fault(&items[first..end]),
     }
 }
 
 // An item at a place.
 fn check_item(items: &[u8], kind: NodeType, at: usize) -> Checked
     requires { ⌜ at ≤ length (now items) ⌝ }
-    ensures { λ r. ⌜ (r .at ≡ at + extent (itemOf kind) (drop at (now (items .entry)))) × (r .«is_text» ≡ texts (itemOf kind) (drop at (now (items .entry)))) ⌝ }
+    ensures { λ r. ⌜ (r .at ≡ at + extent (itemOf kind) (drop at (now (items .entry)))) × (r .fault ≡ textsFault (itemOf kind) (drop at (now (items .entry)))) ⌝ }
 {
     match kind {
         NodeType::StringEnum => {
             let item = check_string(items, at);
             let long_item = check_string(items, item.at);
+            let fault = item.fault;
+            let long_fault = long_item.fault;
             Checked {
                 at: long_item.at,
-                is_text: both(item.is_text, long_item.is_text),
+                fault: first_fault(fault, long_fault),
             }
         }
         NodeType::FloatEnum => check_string(items, at + 4),
         _ => Checked {
             at: at,
-            is_text: true,
+            fault: Fault::None,
         },
     }
 }
 
-// 0, or why items are refused: 16 where their lengths are not exactly so many, else 5. One pass.
-fn items_fault(items: &[u8], kind: NodeType, count: u16) -> u8
-    ensures { λ r. ⌜ r ≡ if (eqb (extent (itemsOf kind count) (now (items .entry))) (length (now (items .entry)))) (if (texts (itemsOf kind count) (now (items .entry))) 0 5) 16 ⌝ }
+// Why items are refused, after what was at fault before them: 16 where their lengths are not exactly so many, else the first 5. One pass.
+fn items_fault(items: &[u8], kind: NodeType, count: u16, before: Fault) -> Fault
+    ensures { λ r. ⌜ r ≡ if (eqb (extent (itemsOf kind count) (now (items .entry))) (length (now (items .entry)))) (firstFault before (textsFault (itemsOf kind count) (now (items .entry)))) (byNumber 16) ⌝ }
 {
     let mut passed = Checked {
         at: 0,
-        is_text: true,
+        fault: before,
     };
     let mut left = count;
     while 0 < left {
         if items.len() < passed.at {
-            return 16;
+            return by_number(16);
         }
         let item = check_item(items, kind, passed.at);
+        let fault = passed.fault;
+        let next = item.fault;
         passed = Checked {
             at: item.at,
-            is_text: both(passed.is_text, item.is_text),
+            fault: first_fault(fault, next),
         };
         left -= 1;
     }
     if passed.at != items.len() {
-        return 16;
+        return by_number(16);
     }
-    if passed.is_text { 0 } else { 5 }
+    passed.fault
 }
 
-// 0, or why a type, a unit or items are refused: 16, then 5.
-fn fields_fault(node_type: u8, unit: u8, count: u16, items: &[u8]) -> u8
-    ensures { λ r. ⌜ r ≡ if (unfit «node_type» unit count (now (items .entry))) 16 (if (texts (itemsOf (typeOf «node_type») count) (now (items .entry))) 0 5) ⌝ }
+// Why a type, a unit or items are refused, after what was at fault in the names: 16, then 5.
+fn fields_fault(node_type: u8, unit: u8, count: u16, items: &[u8], names: Fault) -> Fault
+    ensures { λ r. ⌜ r ≡ if (unfit «node_type» unit count (now (items .entry))) (byNumber 16) (firstFault names (textsFault (itemsOf (typeOf «node_type») count) (now (items .entry)))) ⌝ }
 {
     if node_type > 7 {
-        return 16;
+        return by_number(16);
     }
     if unit > 7 {
-        return 16;
+        return by_number(16);
     }
     let kind = type_of(node_type as u16);
     if has_items(kind) {
-        return items_fault(items, kind, count);
+        return items_fault(items, kind, count, names);
     }
     if count > 0 {
-        return 16;
+        return by_number(16);
     }
-    if items.len() > 0 { 16 } else { 0 }
+    if items.len() > 0 {
+        by_number(16)
+    } else {
+        names
+    }
 }
 
-// 0, or why what is lent is refused: 15, 16, 5.
-fn lent_fault(d: Fields, name: &[u8], long_name: &[u8], items: &[u8]) -> u8
+// Why what is lent is refused: 15, 16, 5.
+fn lent_fault(d: Fields, name: &[u8], long_name: &[u8], items: &[u8]) -> Fault
     ensures { λ r. ⌜ r ≡ lentFault d (lent (now (name .entry)) (now («long_name» .entry)) (now (items .entry))) ⌝ }
 {
     if name.len() > 255 {
-        return 15;
+        return by_number(15);
     }
     if long_name.len() > 255 {
-        return 15;
+        return by_number(15);
     }
-    let why = fields_fault(d.node_type, d.unit, d.count, items);
-    if why == 16 {
-        return 16;
-    }
-    if is_utf8(name) {
-        if is_utf8(long_name) {
-            return why;
-        }
-    }
-    5
+    let names = first_fault(text_fault(name), text_fault(long_name));
+    fields_fault(d.node_type, d.unit, d.count, items, names)
 }
 
 // 02: unused flag bits are written 0.
@@ -296,17 +307,18 @@ pub fn to_bytes(
 ) -> BodyWritten
     ensures { λ r. ⌜ bodyEffect r (now (out .exit)) ≡ bodyOfFields d (lent (now (name .entry)) (now («long_name» .entry)) (now (items .entry))) (now (out .entry)) ⌝ }
 {
-    let why = lent_fault(d, name, long_name, items);
-    if why != 0 {
-        return BodyWritten::Refused(why);
+    let fault = lent_fault(d, name, long_name, items);
+    match fault {
+        Fault::None => {}
+        Fault::Refused(why) => return BodyWritten::Refused(why),
     }
     let kind = type_of(d.node_type as u16);
     let len = 14 + name.len() + long_name.len() + added_len(kind) + items.len();
     if len > 4096 {
-        return BodyWritten::Refused(2);
+        return BodyWritten::Refused(Refusal::Number(2));
     }
     if out.len() < len {
-        return BodyWritten::Refused(9);
+        return BodyWritten::Refused(Refusal::Number(9));
     }
     lay_body(out, d, kind, name, long_name, items);
     BodyWritten::Bytes(len)

@@ -5,6 +5,8 @@ use mathlib.Core.Path.{_≡_}
 use mathlib.Core.List.{List, _++_}
 use lib.Dec.{ltb}
 use lib.ListN.{drop}
+use Rattle.wing_node.specs.declared.refusal.Refusal.{Refusal}
+use Rattle.wing_node.specs.Refusal.{alone}
 use Rattle.wing_node.specs.Bool.{if, and}
 use Rattle.wing_node.specs.Result.{Result, ok, refused}
 use Rattle.wing_wire.specs.Range.{AreBytes, InRange}
@@ -46,8 +48,8 @@ narrowed (Body stored want left) = body (want % 0x10000) (left % 0x10000) stored
 -- the old state of a control that the fields say and of the store after them; 8 for counts that had no room
 unfoldable pub earlierWith : Result Control → List ℕ → Result EarlierState
 earlierWith (ok c) bytes =
-    if (isNarrow (c .token)) (ok (earlierState (earlierControl (c .escape) (c .node) (narrowed (c .token))) (drop 27 bytes))) (refused 8)
-earlierWith (refused n) bytes = refused n
+    if (isNarrow (c .token)) (ok (earlierState (earlierControl (c .escape) (c .node) (narrowed (c .token))) (drop 27 bytes))) (refused (alone 8))
+earlierWith (refused why) bytes = refused why
 
 -- the old state that bytes say, sound or not, if they are as many as a state's and begin with its fields under version 1; else 8
 unfoldable pub earlierFrom : List ℕ → Result EarlierState
@@ -56,7 +58,7 @@ earlierFrom bytes = earlierWith (headFromUnder earlierVersion bytes) bytes
 -- 02: carried over, or 8
 unfoldable pub carriedFrom : Result EarlierState → Result State
 carriedFrom (ok s) = carryOf s
-carriedFrom (refused n) = refused n
+carriedFrom (refused why) = refused why
 
 -- what bytes of version 1 are loaded as
 unfoldable pub loadEarlierOf : List ℕ → Loaded
@@ -95,4 +97,4 @@ pub record EarlierLaws : Type 0 where
   -- bytes that are loaded are those of an old sound state, and it is carried over as what they are loaded as
   pub again : (bytes : List ℕ) (t : State) → AreBytes bytes → carriedFrom (earlierFrom bytes) ≡ ok t → CarriedSaves bytes t
   -- no other number than 8
-  pub refusal : (bytes : List ℕ) (n : ℕ) → carriedFrom (earlierFrom bytes) ≡ refused n → n ≡ 8
+  pub refusal : (bytes : List ℕ) (why : Refusal) → carriedFrom (earlierFrom bytes) ≡ refused why → why ≡ alone 8

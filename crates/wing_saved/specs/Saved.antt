@@ -5,6 +5,8 @@ use mathlib.Core.Path.{_≡_}
 use mathlib.Core.List.{List, [], _∷_, _++_}
 use lib.Dec.{eqb}
 use lib.ListN.{length, drop, getD}
+use Rattle.wing_node.specs.declared.refusal.Refusal.{Refusal}
+use Rattle.wing_node.specs.Refusal.{alone}
 use Rattle.wing_node.specs.Bool.{if, and}
 use Rattle.wing_node.specs.Result.{Result, ok, refused}
 use Rattle.wing_node.specs.Field.{bytesOf, fieldAt}
@@ -118,12 +120,12 @@ begins (a ∷ front) (b ∷ s) = and (eqb b a) (begins front s)
 
 -- a state if it is sound, else 8
 unfoldable pub soundOnly : State → Result State
-soundOnly s = if (soundState s) (ok s) (refused 8)
+soundOnly s = if (soundState s) (ok s) (refused (alone 8))
 
 -- the control that bytes say, if they are as many as a state's and begin with its fields under that version; else 8
 unfoldable pub headFromUnder : ℕ → List ℕ → Result Control
 headFromUnder v bytes =
-    if (eqb (length bytes) savedSize) (if (begins (headUnder v (controlIn bytes)) bytes) (ok (controlIn bytes)) (refused 8)) (refused 8)
+    if (eqb (length bytes) savedSize) (if (begins (headUnder v (controlIn bytes)) bytes) (ok (controlIn bytes)) (refused (alone 8))) (refused (alone 8))
 
 -- under the form's own version
 abbrev pub headFrom : List ℕ → Result Control
@@ -132,7 +134,7 @@ headFrom bytes = headFromUnder version bytes
 -- that control and the store after its fields, if they are a sound state
 unfoldable pub stateWith : Result Control → List ℕ → Result State
 stateWith (ok c) bytes = soundOnly (stateOf c (drop 27 bytes))
-stateWith (refused n) bytes = refused n
+stateWith (refused why) bytes = refused why
 
 -- the state that bytes say, if they are as many as a state's, begin with its fields and it is sound; else 8
 unfoldable pub stateFrom : List ℕ → Result State
@@ -142,22 +144,22 @@ stateFrom bytes = stateWith (headFrom bytes) bytes
 
 -- 8 for a state that is not sound; else its bytes, or 9
 unfoldable pub saveOf : State → List ℕ → WriteEffect
-saveOf s out = if (soundState s) (writeOf (stateBytes s) out) (writeEffect (Refused 8) out)
+saveOf s out = if (soundState s) (writeOf (stateBytes s) out) (writeEffect (Refused (alone 8)) out)
 
 -- the answer with the control, or with a fresh one beside a refusal
 unfoldable pub headAs : Result Control → HeadRead
 headAs (ok c) = record { answer = Good; control = c }
-headAs (refused n) = record { answer = NotLoaded n; control = freshControl }
+headAs (refused why) = record { answer = NotLoaded why; control = freshControl }
 
 -- the answer with the state, or with a fresh one beside a refusal
 unfoldable pub loadedAs : Result State → Loaded
 loadedAs (ok s) = record { answer = Good; state = s }
-loadedAs (refused n) = record { answer = NotLoaded n; state = freshState }
+loadedAs (refused why) = record { answer = NotLoaded why; state = freshState }
 
 -- 01's number and value for each case of the answer, with the state beside it
 unfoldable pub loadedResult : LoadAnswer → State → Result State
 loadedResult Good s = ok s
-loadedResult (NotLoaded n) s = refused n
+loadedResult (NotLoaded why) s = refused why
 
 -- what bytes are loaded as
 unfoldable pub loadOf : List ℕ → Loaded
@@ -204,7 +206,7 @@ pub record SavedLaws : Type 0 where
   -- bytes that read as a state are its bytes
   pub again : (bytes : List ℕ) (s : State) → AreBytes bytes → stateFrom bytes ≡ ok s → Saves bytes s
   -- no other number than 8
-  pub refusal : (bytes : List ℕ) (n : ℕ) → stateFrom bytes ≡ refused n → n ≡ 8
+  pub refusal : (bytes : List ℕ) (why : Refusal) → stateFrom bytes ≡ refused why → why ≡ alone 8
   -- whatever numbers they are, what reads as a state reads as a sound one
   pub loaded : (bytes : List ℕ) (s : State) → stateFrom bytes ≡ ok s → LoadedSound bytes s
   -- a sound state fills an output of the size, whatever stood in it
@@ -213,4 +215,4 @@ pub record SavedLaws : Type 0 where
   -- the head of bytes, whether or not the state is sound
   pub head : (bytes : List ℕ) (c : Control) → headFrom bytes ≡ ok c → HeadOf bytes c
   -- bytes without a head are no state's
-  pub headless : (bytes : List ℕ) (n : ℕ) → headFrom bytes ≡ refused n → stateFrom bytes ≡ refused n
+  pub headless : (bytes : List ℕ) (why : Refusal) → headFrom bytes ≡ refused why → stateFrom bytes ≡ refused why

@@ -13,6 +13,7 @@ use crate::head_under;
 use crate::lay;
 use crate::low_16;
 use crate::refuse;
+use wing_node::refusal::Refusal;
 use wing_wire::earlier;
 use wing_wire::earlier::Carried;
 use wing_wire::earlier::CarryAnswer;
@@ -123,7 +124,7 @@ pub fn load_earlier(bytes: &[u8]) -> Loaded
             if is_narrow(token) {
                 return carry(c, &bytes[HEAD..]);
             }
-            refuse(8)
+            refuse(Refusal::Number(8))
         }
         LoadAnswer::Refused(why) => refuse(why),
     }

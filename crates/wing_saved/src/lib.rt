@@ -4,6 +4,7 @@ ghost use Prim.Native.Nat.{_+_, _%_, _≤_};
 ghost use lib.ListN.{length};
 ghost use lib.Seq.{sets};
 ghost use Rattle.wing_node.specs.Signed.{signed, unsigned};
+ghost use Rattle.wing_node.specs.Refusal.{alone};
 ghost use Rattle.wing_node.specs.Result.{refused};
 ghost use Rattle.wing_wire.specs.Token.{classNumber};
 ghost use Rattle.wing_wire.specs.State.{bodyLimit, stateOf};
@@ -15,6 +16,7 @@ use wing_node::field::put_i32;
 use wing_node::field::put_u32;
 use wing_node::field::u16_at;
 use wing_node::field::u32_at;
+use wing_node::refusal::Refusal;
 use wing_wire::state::Control;
 use wing_wire::state::Escape;
 use wing_wire::state::Pending;
@@ -48,7 +50,7 @@ struct TokenFields {
 // What load answers.
 pub enum LoadAnswer {
     Good,
-    Refused(u8),
+    Refused(Refusal),
 }
 
 // The answer with the control; beside a refusal stands a fresh one.
@@ -203,7 +205,7 @@ pub fn lay_head(out: &mut [u8], c: Control) -> Written
     ensures { λ r. ⌜ writeEffect r (now (out .exit)) ≡ writeOf (headBytes c) (now (out .entry)) ⌝ }
 {
     if out.len() < HEAD {
-        return Written::Refused(9);
+        return Written::Refused(Refusal::Number(9));
     }
     let head = head_of(VERSION, c);
     lay(out, 0, &head);
@@ -214,7 +216,7 @@ fn lay_state(out: &mut [u8], s: State) -> Written
     ensures { λ r. ⌜ writeEffect r (now (out .exit)) ≡ writeOf (stateBytes s) (now (out .entry)) ⌝ }
 {
     if out.len() < SIZE {
-        return Written::Refused(9);
+        return Written::Refused(Refusal::Number(9));
     }
     let c = s.control;
     let head = head_of(VERSION, c);
@@ -230,7 +232,7 @@ pub fn save(out: &mut [u8], s: State) -> Written
     if is_sound(s) {
         return lay_state(out, s);
     }
-    Written::Refused(8)
+    Written::Refused(Refusal::Number(8))
 }
 
 fn pending_in(mark: u8, byte: u8) -> Pending
@@ -343,10 +345,10 @@ fn begins_with(s: &[u8], front: &[u8]) -> bool
 }
 
 fn no_head() -> HeadRead
-    ensures { λ r. ⌜ r ≡ headAs (refused 8) ⌝ }
+    ensures { λ r. ⌜ r ≡ headAs (refused (alone 8)) ⌝ }
 {
     HeadRead {
-        answer: LoadAnswer::Refused(8),
+        answer: LoadAnswer::Refused(Refusal::Number(8)),
         control: Control::fresh(),
     }
 }
@@ -377,7 +379,7 @@ pub fn head(bytes: &[u8]) -> HeadRead
     head_under(VERSION, bytes)
 }
 
-fn refuse(why: u8) -> Loaded
+fn refuse(why: Refusal) -> Loaded
     ensures { λ r. ⌜ r ≡ loadedAs (refused why) ⌝ }
 {
     Loaded {
@@ -402,7 +404,7 @@ fn load_sound(c: Control, bytes: &[u8]) -> Loaded
             state: s,
         };
     }
-    refuse(8)
+    refuse(Refusal::Number(8))
 }
 
 // The state whose bytes these are; 8 if they are no sound state's.

@@ -5,6 +5,8 @@ use mathlib.Core.List.{List, [], _∷_}
 use lib.IntN.{ℤ, pos, negsuc}
 use lib.ListN.{length, drop}
 use Rattle.wing_node.specs.Value.{integer, string}
+use Rattle.wing_node.specs.Refusal.{alone}
+use Rattle.wing_node.specs.declared.refusal.Refusal.the-variants.{StringNotUtf8}
 use Rattle.wing_wire.specs.State.{freshControl, freshState}
 use Rattle.wing_wire.specs.Reader.{Event, more, value, body, refused, eventOf, nextOf}
 use Rattle.wing_wire.specs.Units.{StreamUnit, streamUnit, unitsOf}
@@ -85,7 +87,7 @@ cases =
     -- c0 41 → "A"
     reads (0xc0 ∷ 0x41 ∷ []) (value (string (0x41 ∷ []))) ∷
     -- 80 80 → 1
-    reads (0x80 ∷ 0x80 ∷ []) (refused 1) ∷
+    reads (0x80 ∷ 0x80 ∷ []) (refused (StringNotUtf8 0)) ∷
     -- set 7 to 63: d7 00 00 00 07 3f
     setWrites (pos 63) (0xd7 ∷ 0x00 ∷ 0x00 ∷ 0x00 ∷ 0x07 ∷ 0x3f ∷ []) ∷
     -- to 64: ends d3 00 40
@@ -99,6 +101,6 @@ cases =
     -- 02: count 0, then the 32-bit count 1, its unit 41 → body 41
     reads (0xdf ∷ 0xde ∷ 0x00 ∷ 0x00 ∷ 0x00 ∷ 0x00 ∷ 0x00 ∷ 0x01 ∷ 0x41 ∷ []) (body (0x41 ∷ [])) ∷
     -- 02: both counts 0 → 3
-    reads (0xdf ∷ 0xde ∷ 0x00 ∷ 0x00 ∷ 0x00 ∷ 0x00 ∷ 0x00 ∷ 0x00 ∷ []) (refused 3) ∷
+    reads (0xdf ∷ 0xde ∷ 0x00 ∷ 0x00 ∷ 0x00 ∷ 0x00 ∷ 0x00 ∷ 0x00 ∷ []) (refused (alone 3)) ∷
     -- 02: count 0, then a 32-bit count over 4,096 → none while its units have not come
     reads (0xdf ∷ 0xde ∷ 0x00 ∷ 0x00 ∷ 0x00 ∷ 0x01 ∷ 0x00 ∷ 0x00 ∷ 0x41 ∷ []) more ∷ []

@@ -10,6 +10,7 @@ use Rattle.wing_node.specs.Bool.{if}
 use Rattle.wing_node.specs.Signed.{unsigned}
 use Rattle.wing_node.specs.Utf8.{utf8}
 use Rattle.wing_node.specs.Value.{NodeValue, integer, float, string}
+use Rattle.wing_node.specs.Refusal.{alone, stringNotUtf8}
 use Rattle.wing_wire.specs.Write.{escaped, field, WriteEffect, writeEffect, writeOf}
 use Rattle.wing_wire.specs.declared.set.Suffix.{Suffix}
 use Rattle.wing_wire.specs.declared.set.Suffix.the-variants.{None, Byte}
@@ -63,7 +64,7 @@ setBytes id v = idBytes 0xd7 id (valueBytes v)
 -- 01: a string over 256 is 10, then one that is not UTF-8 is 1, then 9
 unfoldable pub setString : ℤ → List ℕ → List ℕ → WriteEffect
 setString id s out =
-    if (leb (length s) 256) (if (utf8 s) (writeOf (setBytes id (string s)) out) (writeEffect (Refused 1) out)) (writeEffect (Refused 10) out)
+    if (leb (length s) 256) (if (utf8 s) (writeOf (setBytes id (string s)) out) (writeEffect (Refused (stringNotUtf8 s)) out)) (writeEffect (Refused (alone 10)) out)
 
 -- 01: definition request: da dd for id 0, else d7 id dd; data request dc for dd
 unfoldable pub requestBytes : ℕ → ℤ → List ℕ

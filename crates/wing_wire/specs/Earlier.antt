@@ -7,6 +7,7 @@ use lib.IntN.{ℤ, pos, negsuc}
 use lib.ListN.{drop, replicate}
 use Rattle.wing_node.specs.Bool.{if, and}
 use Rattle.wing_node.specs.Result.{Result, ok, refused}
+use Rattle.wing_node.specs.Refusal.{alone}
 use Rattle.wing_wire.specs.State.{bodyLimit, escape, control, stateOf, freshState, zeros, soundEscape, soundNumber, soundString, soundBody}
 use Rattle.wing_wire.specs.declared.token.Class.{Class}
 use Rattle.wing_wire.specs.declared.token.Class.the-variants.{NoEvent, Integer, String as AString, Length, Int16, Int32, Float, Node, End, Count, LongCount}
@@ -93,14 +94,14 @@ carried s = stateOf (control (s .control .escape) (s .control .node) (carriedTok
 
 -- 02: an old sound state is carried over; one that has taken any of the four units after count 0, or isn't sound, gets 8
 unfoldable pub carryOf : EarlierState → Result State
-carryOf s = if (isStarted (s .control .token)) (refused 8) (if (earlierSound s) (ok (carried s)) (refused 8))
+carryOf s = if (isStarted (s .control .token)) (refused (alone 8)) (if (earlierSound s) (ok (carried s)) (refused (alone 8)))
 
 -- the answer with the state, or with a fresh one beside a refusal
 unfoldable pub carriedAs : Result State → Carried
 carriedAs (ok s) = record { answer = Good; state = s }
-carriedAs (refused n) = record { answer = Refused n; state = freshState }
+carriedAs (refused why) = record { answer = Refused why; state = freshState }
 
 -- 01's number and value for each case of the answer, with the state beside it
 unfoldable pub carriedResult : CarryAnswer → State → Result State
 carriedResult Good s = ok s
-carriedResult (Refused n) s = refused n
+carriedResult (Refused why) s = refused why

@@ -7,6 +7,7 @@ use lib.Dec.{leb, eqb}
 use lib.IntN.{ℤ}
 use lib.ListN.{take, set}
 use Rattle.wing_node.specs.Bool.{if, and}
+use Rattle.wing_node.specs.Refusal.{refusalNumber, alone}
 use Rattle.wing_node.specs.Result.{ok, refused}
 use Rattle.wing_node.specs.Signed.{signed}
 use Rattle.wing_node.specs.Utf8.{utf8}
@@ -25,7 +26,7 @@ use Rattle.wing_wire.specs.declared.earlier.Token.the-variants.{Between,
 use Rattle.wing_wire.specs.declared.earlier.Control.{Control}
 use Rattle.wing_wire.specs.declared.earlier.State.{State}
 use Rattle.wing_wire.specs.declared.unit.Answer.{Answer}
-use Rattle.wing_wire.specs.declared.unit.Answer.the-variants.{More, Integer as anInteger, Float as aFloat, String as aString, Body as aBody, Refused}
+use Rattle.wing_wire.specs.declared.unit.Answer.the-variants.{More, Integer as anInteger, Float as aFloat, String as aString, Body as aBody, End as anEnd, Refused}
 
 -- ---- one unit, as it was
 
@@ -66,7 +67,7 @@ earlierNumber node Float v = completed node (aFloat v)
 earlierNumber node Node v = completed (signed 31 v) More
 earlierNumber node End v = completed node More
 earlierNumber node Count v = earlierCount node (v % 0x10000)
-earlierNumber node LongCount v = completed node (Refused 3)
+earlierNumber node LongCount v = completed node (Refused (alone 3))
 
 -- with the store
 pub record EarlierEffect : Type 0 where
@@ -80,12 +81,12 @@ earlierEffect t s = record { taken = t; store = s }
 -- 01: strings are UTF-8, else refusal 1
 unfoldable pub earlierText : ℤ → ℕ → List ℕ → EarlierEffect
 earlierText node want s =
-    if (utf8 (take want s)) (earlierEffect (completed node (aString want)) s) (earlierEffect (completed node (Refused 1)) (cleared want s))
+    if (utf8 (take want s)) (earlierEffect (completed node (aString want)) s) (earlierEffect (completed node (Refused (alone 1))) (cleared want s))
 
 -- 01: count over 4,096 reads all c units, then answers 2
 unfoldable pub earlierNext : ℤ → ℕ → ℕ → ℕ → EarlierTaken
 earlierNext node want left stored =
-    if (leb left 1) (if (leb want bodyLimit) (completed node (aBody stored)) (completed node (Refused 2))) (awaited node (InBody want (left - 1) stored))
+    if (leb left 1) (if (leb want bodyLimit) (completed node (aBody stored)) (completed node (Refused (alone 2)))) (awaited node (InBody want (left - 1) stored))
 
 -- one unit
 unfoldable pub earlierUnit : ℤ → Token → List ℕ → ℕ → Bool → EarlierEffect
@@ -100,6 +101,20 @@ earlierUnit node (InBody want left stored) s u appended =
     (earlierEffect (earlierNext node want left stored) s)
 
 -- ---- bytes, through every answer
+
+-- an answer as it was given then: a refusal is its number alone, without the good that 02, Job 5, puts beside 1
+unfoldable pub withoutGood : Answer → Answer
+withoutGood More = More
+withoutGood (anInteger x) = anInteger x
+withoutGood (aFloat bits) = aFloat bits
+withoutGood (aString n) = aString n
+withoutGood (aBody n) = aBody n
+withoutGood anEnd = anEnd
+withoutGood (Refused why) = Refused (alone (refusalNumber why))
+
+-- a handler of such answers, on today's
+abbrev pub seeing : {M : Type 0} → (ℤ → Answer → List ℕ → M → M) → ℤ → Answer → List ℕ → M → M
+seeing h node a s m = h node (withoutGood a) s m
 
 -- the decoder, and what a handler has made of its answers so far
 pub record EarlierFed (M : Type 0) : Type 0 where
@@ -163,15 +178,15 @@ module _ {M : Type 0} (h : ℤ → Answer → List ℕ → M → M) where
   abbrev pub freshNow : M → Fed M
   freshNow m = record { control = freshState .control; store = freshState .store; memo = m }
 
-  -- 02: for any handler of answers
+  -- 02: for any handler of answers as they were
   pub record CarriesOver : Type 0 where
     -- any old state, sound or not, carried over answers further bytes as it did, and is left as it was left, as long as no long count is started
-    pub further : (x : EarlierFed M) (bytes : List ℕ) → noLongCount x bytes → feedOf h (carriedFed x) bytes ≡ carriedFed (earlierFeed x bytes)
+    pub further : (x : EarlierFed M) (bytes : List ℕ) → noLongCount x bytes → feedOf (seeing h) (carriedFed x) bytes ≡ carriedFed (earlierFeed x bytes)
     -- the same unit by unit, so of a state between two units as well, where a byte may be pending: the escapes are the same in both
-    pub units : (x : EarlierFed M) (us : List StreamUnit) → unstarted x us ≡ true → unitsTaken h (carriedFed x) us ≡ carriedFed (earlierUnits x us)
+    pub units : (x : EarlierFed M) (us : List StreamUnit) → unstarted x us ≡ true → unitsTaken (seeing h) (carriedFed x) us ≡ carriedFed (earlierUnits x us)
     -- a sound state within the four units after a count 0 gets 8 as soon as one of them is taken
     pub started : (x : EarlierFed M) (g : StreamUnit) → earlierSound (earlierIn x) ≡ true → wantsLong (x .control .token) ≡ true →
-        wantsLong (earlierTake x g .control .token) ≡ true → carryOf (earlierIn (earlierTake x g)) ≡ refused 8
+        wantsLong (earlierTake x g .control .token) ≡ true → carryOf (earlierIn (earlierTake x g)) ≡ refused (alone 8)
     -- what bytes without a started long count leave of a fresh old decoder is carried over, and is what they leave of a fresh new one
     pub fresh : (m : M) (bytes : List ℕ) → AreBytes bytes → noLongCount (freshEarlier m) bytes →
-        carryOf (earlierIn (earlierFeed (freshEarlier m) bytes)) ≡ ok (stateIn (feedOf h (freshNow m) bytes))
+        carryOf (earlierIn (earlierFeed (freshEarlier m) bytes)) ≡ ok (stateIn (feedOf (seeing h) (freshNow m) bytes))

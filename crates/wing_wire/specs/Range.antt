@@ -34,7 +34,7 @@ Within (Float bits) s = Unit {0}
 Within (String n) s = (n ≤ 256) × (utf8 (take n s) ≡ true)
 Within (Body n) s = n ≤ bodyLimit
 Within End s = Unit {0}
-Within (Refused n) s = Unit {0}
+Within (Refused why) s = Unit {0}
 
 -- the same of a token in progress: a string wants at most 256 units, and a body has stored at most 4,096
 abbrev pub TokenWithin : Token → Type 0
@@ -76,4 +76,4 @@ AnswerIn (Float bits) = bits < 2 ^ 32
 AnswerIn (String n) = Unit {0}
 AnswerIn (Body n) = Unit {0}
 AnswerIn End = Unit {0}
-AnswerIn (Refused n) = Unit {0}
+AnswerIn (Refused why) = Unit {0}

@@ -5,6 +5,8 @@ use lib.Dec.{leb}
 use lib.ListN.{length, take, replicate}
 use Rattle.wing_node.specs.Bool.{if}
 use Rattle.wing_node.specs.Value.{NodeValue, integer, float, string}
+use Rattle.wing_node.specs.Refusal.{alone}
+use Rattle.wing_node.specs.declared.refusal.Refusal.{Refusal}
 use Rattle.wing_wire.specs.State.{bodyLimit, soundState}
 use Rattle.wing_wire.specs.Stream.{Run, advanceOf, released}
 use Rattle.wing_wire.specs.declared.state.State.{State}
@@ -18,7 +20,7 @@ pub data Event : Type 0 where
   value : NodeValue → Event
   body : List ℕ → Event
   end : Event
-  refused : ℕ → Event
+  refused : Refusal → Event
 
 -- what each case of the answer is, by the bytes of the string and of the body beside it
 unfoldable pub eventOf : Answer → List ℕ → List ℕ → Event
@@ -28,7 +30,7 @@ eventOf (Float bits) s b = value (float bits)
 eventOf (String n) s b = value (string (take n s))
 eventOf (Body n) s b = body (take n b)
 eventOf End s b = end
-eventOf (Refused n) s b = refused n
+eventOf (Refused why) s b = refused why
 
 -- s over the front of d, as far as d reaches
 abbrev pub over : List ℕ → List ℕ → List ℕ
@@ -48,7 +50,7 @@ stringBeside (Float bits) s = replicate 256 0
 stringBeside (String n) s = filled 256 (take n s)
 stringBeside (Body n) s = replicate 256 0
 stringBeside End s = replicate 256 0
-stringBeside (Refused n) s = replicate 256 0
+stringBeside (Refused why) s = replicate 256 0
 
 -- 01: the same of the body
 unfoldable pub bodyBeside : Answer → List ℕ → List ℕ
@@ -58,11 +60,11 @@ bodyBeside (Float bits) s = replicate bodyLimit 0
 bodyBeside (String n) s = replicate bodyLimit 0
 bodyBeside (Body n) s = filled bodyLimit (take n s)
 bodyBeside End s = replicate bodyLimit 0
-bodyBeside (Refused n) s = replicate bodyLimit 0
+bodyBeside (Refused why) s = replicate bodyLimit 0
 
 -- a refused call: nothing taken, the state as it was
 abbrev pub refusedNext : ℕ → State → Reply
-refusedNext why s = record { answer = Refused why; taken = 0; state = s; string = replicate 256 0; body = replicate bodyLimit 0 }
+refusedNext why s = record { answer = Refused (alone why); taken = 0; state = s; string = replicate 256 0; body = replicate bodyLimit 0 }
 
 -- the reply to a run: the store cleared of what was given out
 abbrev pub nextFrom : Run → Reply
@@ -91,4 +93,4 @@ eventIn r = eventOf (r .answer) (r .string) (r .body)
 unfoldable pub nextEvent : State → List ℕ → Event
 nextEvent s bytes =
     let h = advanceOf (s .control) (s .store) bytes .effect in
-    if (soundState s) (if (leb (length bytes) 65536) (eventOf (h .answered .answer) (h .store) (h .store)) (refused 14)) (refused 8)
+    if (soundState s) (if (leb (length bytes) 65536) (eventOf (h .answered .answer) (h .store) (h .store)) (refused (alone 14))) (refused (alone 8))

@@ -35,4 +35,4 @@ pub record ReadBack (id : ℤ) (v : NodeValue) (n : ℕ) (bytes : List ℕ) (s :
 -- that node, in every such state. A refused order wrote nothing to read
 abbrev pub ReadsAsSet : ℤ → NodeValue → Written → List ℕ → Type 0
 ReadsAsSet id v (Bytes n) out = (s : State) → AtRest s → ReadBack id v n (take n out) s
-ReadsAsSet id v (Refused n) out = Unit {0}
+ReadsAsSet id v (Refused why) out = Unit {0}

@@ -43,7 +43,7 @@ isMore (Float bits) = false
 isMore (String n) = false
 isMore (Body n) = false
 isMore End = false
-isMore (Refused n) = false
+isMore (Refused why) = false
 
 -- what a unit gave, with the escapes as they now are
 abbrev pub afterUnit : Escape → UnitEffect → StepEffect
@@ -106,7 +106,7 @@ released (Float bits) s = s
 released (String n) s = cleared n s
 released (Body n) s = cleared n s
 released End s = s
-released (Refused n) s = s
+released (Refused why) s = s
 
 -- ---- through every answer: each is handed, with the current node and the store that holds its bytes, to a handler
 

@@ -12,6 +12,7 @@ use Rattle.wing_node.specs.Field.{big}
 use Rattle.wing_node.specs.Signed.{signed}
 use Rattle.wing_node.specs.Utf8.{utf8}
 use Rattle.wing_node.specs.Value.{integer, float, string}
+use Rattle.wing_node.specs.Refusal.{alone, stringNotUtf8}
 use Rattle.wing_wire.specs.State.{bodyLimit, control}
 use Rattle.wing_wire.specs.Stream.{Fed, feedOf}
 use Rattle.wing_wire.specs.Reader.{Event, value, body, end, refused, eventOf}
@@ -64,7 +65,7 @@ pub data TokenResult : Type 0 where
 
 -- 01: strings are UTF-8; one that is not is 1
 abbrev pub stringOf : List ℕ → TokenResult
-stringOf s = if (utf8 s) (event (value (string s))) (event (refused 1))
+stringOf s = if (utf8 s) (event (value (string s))) (event (refused (stringNotUtf8 s)))
 
 -- 01's table: the units of one token, and what it gives when its last unit comes. t is the first unit, a whether it is appended, and
 -- us are the units that the row wants after it
@@ -96,9 +97,9 @@ pub data InTable : List StreamUnit → TokenResult → Type 0 where
       InTable (streamUnit 0xdf a ∷ (c ++ us)) (event (body (appended us)))
   -- count over 4,096 reads all n units, then answers 2
   count-over : (a : Bool) (c us : List StreamUnit) (n : ℕ) → InForce c n → bodyLimit < n → Further n us →
-      InTable (streamUnit 0xdf a ∷ (c ++ us)) (event (refused 2))
+      InTable (streamUnit 0xdf a ∷ (c ++ us)) (event (refused (alone 2)))
   -- 02: 3 means that both counts are 0
-  counts-zero : (a : Bool) (c : List StreamUnit) → InForce c 0 → InTable (streamUnit 0xdf a ∷ c) (event (refused 3))
+  counts-zero : (a : Bool) (c : List StreamUnit) → InForce c 0 → InTable (streamUnit 0xdf a ∷ c) (event (refused (alone 3)))
   -- 40–7f, d8, da–dd, e0–ff: no event
   no-event : (t : ℕ) (a : Bool) → Rest t → InTable (streamUnit t a ∷ []) nothing
 

@@ -8,6 +8,7 @@ use lib.ListN.{length, take, drop, set, replicate}
 use Rattle.wing_node.specs.Bool.{if}
 use Rattle.wing_node.specs.Signed.{signed}
 use Rattle.wing_node.specs.Utf8.{utf8}
+use Rattle.wing_node.specs.Refusal.{alone, stringNotUtf8}
 use Rattle.wing_wire.specs.State.{bodyLimit}
 use Rattle.wing_wire.specs.Token.{ruleOf}
 use Rattle.wing_wire.specs.declared.token.Class.{Class}
@@ -78,7 +79,7 @@ countOf node c = if (eqb c 0) (awaits node (Number LongCount 4 0)) (counted node
 
 -- 02: the 32-bit count is the count; refusal 3: both counts are 0
 unfoldable pub longCountOf : ℤ → ℕ → Taken
-longCountOf node c = if (eqb c 0) (completes node (Refused 3)) (counted node c)
+longCountOf node c = if (eqb c 0) (completes node (Refused (alone 3))) (counted node c)
 
 -- what a number gives when its last unit is there. The remainders keep each case in the width of its units
 unfoldable pub numberOf : ℤ → Class → ℕ → Taken
@@ -119,7 +120,8 @@ cleared n s = replicate (length (take n s)) 0 ++ drop n s
 -- 01: strings are UTF-8, else refusal 1
 unfoldable pub stringDone : ℤ → ℕ → List ℕ → UnitEffect
 stringDone node want s =
-    if (utf8 (take want s)) (unitEffect (completes node (aString want)) s) (unitEffect (completes node (Refused 1)) (cleared want s))
+    let t = take want s in
+    if (utf8 t) (unitEffect (completes node (aString want)) s) (unitEffect (completes node (Refused (stringNotUtf8 t))) (cleared want s))
 
 -- every unit of a string is stored
 unfoldable pub stringUnit : ℤ → ℕ → ℕ → List ℕ → ℕ → UnitEffect
@@ -133,7 +135,7 @@ keeps want stored appended = if appended (if (leb want bodyLimit) (ltb stored bo
 
 -- 01: count over 4,096 reads all c units, then answers 2; 02: 2 means that the count in force is over 4,096
 unfoldable pub bodyDone : ℤ → ℕ → ℕ → Taken
-bodyDone node want stored = if (leb want bodyLimit) (completes node (aBody stored)) (completes node (Refused 2))
+bodyDone node want stored = if (leb want bodyLimit) (completes node (aBody stored)) (completes node (Refused (alone 2)))
 
 -- one unit less is wanted; the last one gives the body
 unfoldable pub bodyNext : ℤ → ℕ → ℕ → ℕ → Taken

@@ -7,6 +7,7 @@ use lib.ListN.{length, drop}
 use lib.Seq.{sets}
 use Rattle.wing_node.specs.Bool.{if}
 use Rattle.wing_node.specs.Field.{bytesOf}
+use Rattle.wing_node.specs.Refusal.{alone}
 use Rattle.wing_wire.specs.declared.write.Written.{Written}
 use Rattle.wing_wire.specs.declared.write.Written.the-variants.{Bytes, Refused}
 
@@ -36,5 +37,5 @@ writeEffect answer out = record { answer = answer; out = out }
 -- 01: output too short for the whole is 9, as it was; bytes past what is written are not altered
 unfoldable pub writeOf : List ℕ → List ℕ → WriteEffect
 writeOf bytes out =
-    if (ltb (length out) (length bytes)) (writeEffect (Refused 9) out)
+    if (ltb (length out) (length bytes)) (writeEffect (Refused (alone 9)) out)
     (writeEffect (Bytes (length bytes)) (bytes ++ drop (length bytes) out))

@@ -9,6 +9,7 @@ use lib.Seq.{sets}
 use borrow.Rule.Slice.PartMut.{putMid}
 use Rattle.wing_node.specs.Utf8.{utf8}
 use Rattle.wing_node.specs.Value.{integer, float, string}
+use Rattle.wing_node.specs.Refusal.{alone}
 use Rattle.wing_wire.specs.Write.{Laid, writeEffect, writeOf}
 use Rattle.wing_wire.specs.Command.{setBytes, setString}
 use Rattle.wing_wire.specs.declared.write.Written.the-variants.{Bytes, Refused}
@@ -18,7 +19,7 @@ pub record WriterLaws : Type 0 where
   -- bytes laid from the front of an output that has room for them are what a call leaves that writes them
   pub whole : {s d e : List ℕ} {n : ℕ} → Laid s 0 d e n → length s ≤ length d → writeEffect (Bytes n) e ≡ writeOf s d
   -- 01: output too short for the whole: 9, as it was
-  pub short : (s d : List ℕ) → length d < length s → writeEffect (Refused 9) d ≡ writeOf s d
+  pub short : (s d : List ℕ) → length d < length s → writeEffect (Refused (alone 9)) d ≡ writeOf s d
   -- bytes laid where others end are laid with them
   pub after : {s d e : List ℕ} {at n : ℕ} → Laid s at d e n → (t : List ℕ) → sets e n t ≡ sets d at (s ++ t)
   -- 01: each command goes into the part of the lent buffer after the last one: what is laid into that part is laid into the buffer at its place

@@ -2,11 +2,13 @@
 // carried over.
 ghost use mathlib.Core.Path.{_≡_};
 ghost use Rattle.wing_wire.specs.Earlier.{isLongCount, isStarted, carriedToken, carried, carriedAs, carryOf};
+ghost use Rattle.wing_node.specs.Refusal.{alone};
 ghost use Rattle.wing_node.specs.Result.{refused};
 use crate::state;
 use crate::state::Escape;
 use crate::state::is_sound;
 use crate::token::Class;
+use wing_node::refusal::Refusal;
 
 // The token in progress, as it was.
 pub enum Token {
@@ -30,7 +32,7 @@ pub struct State {
 
 pub enum CarryAnswer {
     Good,
-    Refused(u8),
+    Refused(Refusal),
 }
 
 // The answer with the state; beside a refusal stands a fresh one.
@@ -125,10 +127,10 @@ fn carried_state(s: State) -> state::State
 }
 
 fn refuse() -> Carried
-    ensures { λ r. ⌜ r ≡ carriedAs (refused 8) ⌝ }
+    ensures { λ r. ⌜ r ≡ carriedAs (refused (alone 8)) ⌝ }
 {
     Carried {
-        answer: CarryAnswer::Refused(8),
+        answer: CarryAnswer::Refused(Refusal::Number(8)),
         state: state::State::fresh(),
     }
 }

@@ -12,6 +12,7 @@ use crate::write::Written;
 use wing_node::field::bytes_16;
 use wing_node::field::bytes_32;
 use wing_node::field::of_i32;
+use wing_node::refusal::Refusal;
 
 // One byte as it is.
 pub(crate) fn lay(out: &mut [u8], at: usize, b: u8) -> usize
@@ -85,7 +86,7 @@ pub(crate) fn hand_over(out: &mut [u8], laid: &[u8], n: usize) -> Written
 {
     let room = out.len();
     if room < n {
-        return Written::Refused(9);
+        return Written::Refused(Refusal::Number(9));
     }
     copy_front(out, laid, n);
     Written::Bytes(n)

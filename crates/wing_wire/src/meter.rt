@@ -14,6 +14,8 @@ use crate::laying::lay_16;
 use crate::write::Written;
 use wing_node::field::to_i16;
 use wing_node::field::u16_at;
+use wing_node::refusal::Refusal;
+use wing_node::refusal::number;
 
 pub enum Meter {
     Channel(u8),
@@ -161,7 +163,7 @@ pub fn request_meter(
     let w = hand_over(out, &scratch, n);
     match w {
         Written::Bytes(len) => Requested::Bytes { len: len, id: id },
-        Written::Refused(why) => Requested::Refused(why),
+        Written::Refused(why) => Requested::Refused(number(why)),
     }
 }
 
@@ -214,7 +216,7 @@ pub fn keep_alive_meters(out: &mut [u8], last_id: u16, port: u16) -> Written
 {
     if out.len() < 13 * (last_id as usize) {
         if out.len() < keep_alives_len(last_id, port) {
-            return Written::Refused(9);
+            return Written::Refused(Refusal::Number(9));
         }
     }
     Written::Bytes(lay_keep_alives(out, last_id, port))

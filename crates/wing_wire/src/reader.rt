@@ -10,6 +10,7 @@ use crate::stream::advance;
 use crate::stream::release;
 use crate::unit::Answer;
 use wing_node::field::least;
+use wing_node::refusal::Refusal;
 
 // The answer, the bytes taken, the state after it, and the string or body, zero-filled.
 // 01: a value belongs to the current node, which is state.control.node.
@@ -82,7 +83,7 @@ fn refuse(s: State, why: u8) -> Reply
     ensures { λ r. ⌜ r ≡ refusedNext why s ⌝ }
 {
     Reply {
-        answer: Answer::Refused(why),
+        answer: Answer::Refused(Refusal::Number(why)),
         taken: 0,
         state: s,
         string: [0u8; 256],

@@ -18,7 +18,9 @@ use crate::laying::lay_id;
 use crate::write::Written;
 use wing_node::field::of_i16;
 use wing_node::field::of_i32;
-use wing_node::utf8::is_utf8;
+use wing_node::refusal::Fault;
+use wing_node::refusal::Refusal;
+use wing_node::refusal::string_fault;
 
 // What follows an id.
 pub enum Suffix {
@@ -138,20 +140,22 @@ fn lay_set_string(out: &mut [u8], id: i32, value: &[u8]) -> usize
     lay_escaped(out, next, value)
 }
 
-// 01: a string over 256 bytes is 10, then one that is not UTF-8 is 1, then 9.
+// 01: a string over 256 bytes is 10, then one that is not UTF-8 is 1 (02: with its good), then 9.
 pub fn set_string(out: &mut [u8], id: i32, value: &[u8]) -> Written
     ensures { λ r. ⌜ writeEffect r (now (out .exit)) ≡ setString id (now (value .entry)) (now (out .entry)) ⌝ }
 {
     if 256 < value.len() {
-        return Written::Refused(10);
+        return Written::Refused(Refusal::Number(10));
     }
-    if is_utf8(value) {
-        if 395 <= out.len() {
-            return Written::Bytes(lay_set_string(out, id, value));
-        }
-        let mut scratch = [0u8; 395];
-        let n = lay_set_string(&mut scratch, id, value);
-        return hand_over(out, &scratch, n);
+    let fault = string_fault(value, 256);
+    match fault {
+        Fault::None => {}
+        Fault::Refused(why) => return Written::Refused(why),
     }
-    Written::Refused(1)
+    if 395 <= out.len() {
+        return Written::Bytes(lay_set_string(out, id, value));
+    }
+    let mut scratch = [0u8; 395];
+    let n = lay_set_string(&mut scratch, id, value);
+    hand_over(out, &scratch, n)
 }

@@ -1,8 +1,7 @@
 // Units to tokens, tokens to events (libwing's read): what one unit makes of the token in progress.
 ghost use mathlib.Core.Path.{_≡_};
 ghost use Prim.Native.Nat.{_-_};
-ghost use lib.ListN.{set, take};
-ghost use Rattle.wing_node.specs.Utf8.{utf8};
+ghost use lib.ListN.{set};
 ghost use Rattle.wing_wire.specs.Unit.{taken, singleOf, isString, tokenOf, beginOf, counted, countOf, longCountOf, numberOf, shiftIn, numberUnit, unitEffect, cleared, stringDone, stringUnit, keeps, bodyDone, bodyNext, bodyUnit, unitOf};
 use crate::state::State;
 use crate::state::Token;
@@ -11,9 +10,11 @@ use crate::token::Class;
 use crate::token::first_rule;
 use wing_node::field::to_i16;
 use wing_node::field::to_i32;
-use wing_node::utf8::is_utf8;
+use wing_node::refusal::Fault;
+use wing_node::refusal::Refusal;
+use wing_node::refusal::string_fault;
 
-// What reading gives: 01's events, the number of a refusal, or that more bytes are wanted.
+// What reading gives: 01's events, a refusal, or that more bytes are wanted.
 // A string's or a body's bytes stand at the front of the store, or of the array beside the answer.
 pub enum Answer {
     More,
@@ -22,7 +23,7 @@ pub enum Answer {
     String(u16),
     Body(u16),
     End,
-    Refused(u8),
+    Refused(Refusal),
 }
 
 // What one unit makes of the token layer.
@@ -40,6 +41,13 @@ fn taken_of(answer: Answer, node: i32, token: Token) -> Taken
         node: node,
         token: token,
     }
+}
+
+// The token is read to its end, and the refusal given.
+fn refuse(why: Refusal, node: i32) -> Taken
+    ensures { λ r. ⌜ r ≡ taken (Answer.Refused why) node Token.Between ⌝ }
+{
+    taken_of(Answer::Refused(why), node, Token::Between)
 }
 
 // What a first unit that is its whole token gives.
@@ -148,7 +156,7 @@ fn long_count(node: i32, c: u32) -> Taken
     ensures { λ r. ⌜ r ≡ longCountOf node c ⌝ }
 {
     if c == 0 {
-        return taken_of(Answer::Refused(3), node, Token::Between);
+        return refuse(Refusal::Number(3), node);
     }
     body_of(node, c)
 }
@@ -223,24 +231,17 @@ pub(crate) fn clear(store: &mut [u8], n: usize)
     }
 }
 
-fn front_is_utf8(store: &[u8], n: usize) -> bool
-    ensures { λ r. ⌜ r ≡ utf8 (take n (now (store .entry))) ⌝ }
-{
-    if n < store.len() {
-        return is_utf8(&store[..n]);
-    }
-    is_utf8(store)
-}
-
 fn string_done(node: i32, want: u16, store: &mut [u8]) -> Taken
     ensures { λ r. ⌜ unitEffect r (now (store .exit)) ≡ stringDone node want (now (store .entry)) ⌝ }
 {
-    let n = want as usize;
-    if front_is_utf8(store, n) {
-        return taken_of(Answer::String(want), node, Token::Between);
+    let fault = string_fault(store, want);
+    match fault {
+        Fault::None => taken_of(Answer::String(want), node, Token::Between),
+        Fault::Refused(why) => {
+            clear(store, want as usize);
+            refuse(why, node)
+        }
     }
-    clear(store, n);
-    taken_of(Answer::Refused(1), node, Token::Between)
 }
 
 fn string_unit(node: i32, want: u16, left: u16, store: &mut [u8], u: u8) -> Taken
@@ -278,7 +279,7 @@ fn body_done(node: i32, want: u32, stored: u16) -> Taken
     if want as usize <= State::BODY_LIMIT {
         return taken_of(Answer::Body(stored), node, Token::Between);
     }
-    taken_of(Answer::Refused(2), node, Token::Between)
+    refuse(Refusal::Number(2), node)
 }
 
 fn body_next(node: i32, want: u32, left: u32, stored: u16) -> Taken

@@ -1,7 +1,8 @@
 // What a writer answers.
+use wing_node::refusal::Refusal;
 
-// How many bytes a command took, or the number of the refusal.
+// How many bytes a command took, or the refusal.
 pub enum Written {
     Bytes(usize),
-    Refused(u8),
+    Refused(Refusal),
 }

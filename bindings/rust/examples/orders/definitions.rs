@@ -78,7 +78,7 @@ pub fn define(w: &[&str]) -> Option<String> {
     let (f, name, long_name, items) = (fields(w)?, hex(w[11])?, hex(w[12])?, hex(w[13])?);
     let mut out = vec![BEFORE; count(w[14], ROOM)?];
     let got = raw::write_definition(f, &name, &long_name, &items, &mut out);
-    let written = Refusal::check(got.status).map(|_| got.len);
+    let written = Refusal::check_with(got.status, got.good).map(|_| got.len);
     let agrees = match by_fields(&f, &name, &long_name, &items) {
         Some(Ok(body)) => written == Err(Refusal::OUTPUT_SHORT) || (out[..got.len] == body[..] && read_back(&f, &body)),
         Some(Err(why)) => written == Err(why),
@@ -99,7 +99,7 @@ fn read_back(f: &WingFields, body: &[u8]) -> bool {
 pub fn again(body: &[u8]) -> String {
     let mut out = vec![BEFORE; BODY_LIMIT];
     let got = raw::write_anew(body, &mut out);
-    let written = Refusal::check(got.status).map(|_| out[..got.len].to_vec());
+    let written = Refusal::check_with(got.status, got.good).map(|_| out[..got.len].to_vec());
     let by_crate = Definition::from_bytes(body).and_then(|d| d.to_bytes());
     let clean = out[got.len..].iter().all(|b| *b == BEFORE);
     let fault = if clean && written == by_crate { "" } else { "!" };

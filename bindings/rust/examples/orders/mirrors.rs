@@ -23,8 +23,10 @@ impl Default for Held {
     }
 }
 
+/// With the good beside 1 and 5.
 pub fn refused(why: Refusal) -> String {
-    format!("refused {}", why.number())
+    let good = why.good().map_or(String::new(), |good| format!(" good {good}"));
+    format!("refused {}{good}", why.number())
 }
 
 fn value_text(value: &Value) -> String {
@@ -153,7 +155,7 @@ impl Held {
                 let mut out = vec![BEFORE; room];
                 let set = raw::set_string(&mut self.table, self.count, &mut out, id, &bytes);
                 self.count = set.count;
-                Some(sent(&out, Refusal::check(set.status).map(|_| set.len)))
+                Some(sent(&out, Refusal::check_with(set.status, set.good).map(|_| set.len)))
             }
         }
     }

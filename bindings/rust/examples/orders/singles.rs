@@ -1,9 +1,10 @@
 //! Orders that stand alone: streams, definitions, commands, packets.
 use crate::definitions::{again, define};
+use crate::mirrors;
 use crate::words::{bits, count, hex, int32, plain};
 use whistleloam::{
-    is_utf8, raw, read_meters, request_meter, Decoder, Definition, Details, Event, Item, Meter, Refusal, Value,
-    STATE_SIZE,
+    is_utf8, raw, read_meters, request_meter, utf8_good, Decoder, Definition, Details, Event, Item, Meter, Refusal,
+    Value, STATE_SIZE, STRING_MAX,
 };
 
 const ROOM: u64 = 16384;
@@ -23,7 +24,9 @@ pub fn order(name: &str, w: &[&str]) -> Option<String> {
         ("step", 4) => step_order(w),
         ("define", 15) => define(w),
         ("again", 1) => Some(again(&hex(w[0])?)),
-        ("utf8", 1) => Some(flag(is_utf8(&hex(w[0])?))),
+        ("utf8", 1) => Some(utf8(&hex(w[0])?)),
+        ("utf8s", 1) => utf8s(&hex(w[0])?),
+        ("places", 1) => places(&hex(w[0])?),
         ("setint", 3) => {
             let (id, value) = (int32(w[1])?, int32(w[2])?);
             command(w[0], |out| raw::order_int(out, id, value))
@@ -49,8 +52,29 @@ fn flag(yes: bool) -> String {
     u8::from(yes).to_string()
 }
 
+/// Whether the bytes are UTF-8, and how many leading ones are. By Rust's own test too.
+fn utf8(bytes: &[u8]) -> String {
+    let good = utf8_good(bytes);
+    let fault = if std::str::from_utf8(bytes).map_or_else(|e| e.valid_up_to(), str::len) == good { "" } else { "!" };
+    format!("{}{good:04x}{fault}", flag(is_utf8(bytes)))
+}
+
+/// With every last byte.
+fn utf8s(front: &[u8]) -> Option<String> {
+    (front.len() < STRING_MAX).then(|| (0..=255).map(|last| utf8(&[front, &[last]].concat())).collect())
+}
+
+/// How many leading bytes are good where these bytes stand at each place of a string of 256, all others a.
+fn places(piece: &[u8]) -> Option<String> {
+    let last = STRING_MAX.checked_sub(piece.len()).filter(|_| !piece.is_empty())?;
+    let good = |at| utf8_good(&[&vec![b'a'; at], piece, &vec![b'a'; last - at]].concat());
+    Some((0..=last).map(|at| format!("{:04x}", good(at))).collect())
+}
+
+/// With the good beside 1 and 5.
 fn refused(why: Refusal) -> String {
-    format!("r{:02}", why.number())
+    let good = why.good().map_or(String::new(), |good| format!("g{good:04x}"));
+    format!("r{:02}{good}", why.number())
 }
 
 fn event(event: &Result<Event, Refusal>) -> String {
@@ -70,7 +94,7 @@ fn next(decoder: &mut Decoder, bytes: &[u8]) -> (Option<String>, usize) {
     let body = decoder.handed();
     let (text, want) = match answer.transpose() {
         None => return (None, taken),
-        Some(Err(why)) if why == Refusal::DEFINITION_SHORT || why == Refusal::DEFINITION_STRING => {
+        Some(Err(why)) if matches!(why.number(), 4 | 5) => {
             let fault = if definition(body) == refused(why) { "" } else { "!" };
             (format!("b{}:{}{fault}", plain(body), refused(why)), body.to_vec())
         }
@@ -189,7 +213,7 @@ fn definition(body: &[u8]) -> String {
 fn numbered(body: &[u8], number: usize) -> String {
     match Definition::from_bytes(body).and_then(|d| d.item(number)) {
         Ok(found) => item(&found),
-        Err(why) => format!("refused {}", why.number()),
+        Err(why) => mirrors::refused(why),
     }
 }
 
@@ -200,8 +224,8 @@ fn place(body: &[u8], start: usize, len: u32) -> String {
 fn step(body: &[u8], walk: raw::WingWalk) -> (String, raw::WingWalk) {
     let step = raw::item_step(body, walk.at, walk.left, walk.node_type);
     let i = step.item;
-    let text = match (Refusal::check(i.status), i.kind) {
-        (Err(why), _) => format!("refused {}", why.number()),
+    let text = match (Refusal::check_with(i.status, i.good), i.kind) {
+        (Err(why), _) => mirrors::refused(why),
         (Ok(0), _) => "none".to_string(),
         (_, 0) => format!(",{}/{}", place(body, i.start, i.len), place(body, i.long_start, i.long_len)),
         _ => format!(",{:08x}/{}", i.bits, place(body, i.long_start, i.long_len)),
@@ -212,13 +236,13 @@ fn step(body: &[u8], walk: raw::WingWalk) -> (String, raw::WingWalk) {
 fn step_order(w: &[&str]) -> Option<String> {
     let (at, left) = (count(w[0], UINT16)?, count(w[1], UINT16)? as u16);
     let node_type = count(w[2], UINT16)?.min(255) as u8;
-    Some(step(&hex(w[3])?, raw::WingWalk { status: 0, at, left, node_type }).0)
+    Some(step(&hex(w[3])?, raw::WingWalk { status: 0, good: 0, at, left, node_type }).0)
 }
 
 fn walk(body: &[u8]) -> String {
     let mut walk = raw::items_begin(body);
-    if let Err(why) = Refusal::check(walk.status) {
-        return format!("refused {}", why.number());
+    if let Err(why) = Refusal::check_with(walk.status, walk.good) {
+        return mirrors::refused(why);
     }
     let mut text = format!("at {} left {}", walk.at, walk.left);
     for _ in 0..=walk.left {
@@ -230,9 +254,9 @@ fn walk(body: &[u8]) -> String {
 }
 
 /// The meter id, the bytes written, and whether those after them are as they were.
-fn written(out: &[u8], status: i32, id: u16, len: usize) -> String {
+fn written(out: &[u8], answer: Result<i32, Refusal>, id: u16, len: usize) -> String {
     let clean = flag(out[len..].iter().all(|b| *b == BEFORE));
-    match Refusal::check(status) {
+    match answer {
         Ok(_) => format!("{id:04x}{}{clean}", plain(&out[..len])),
         Err(why) => refused(why) + &clean,
     }
@@ -241,14 +265,14 @@ fn written(out: &[u8], status: i32, id: u16, len: usize) -> String {
 fn command(room: &str, call: impl FnOnce(&mut [u8]) -> raw::WingWritten) -> Option<String> {
     let mut out = vec![BEFORE; count(room, ROOM)?];
     let w = call(&mut out);
-    Some(written(&out, w.status, 0, w.len))
+    Some(written(&out, Refusal::check_with(w.status, w.good), 0, w.len))
 }
 
 fn keep_alive(w: &[&str]) -> Option<String> {
     let (last_id, port) = (count(w[1], UINT16)? as u16, count(w[2], UINT16)? as u16);
     let mut out = vec![BEFORE; count(w[0], 851_968)?];
     let w = raw::keep_alive_meters(&mut out, port, last_id);
-    Some(written(&out, w.status, 0, w.len))
+    Some(written(&out, Refusal::check_with(w.status, w.good), 0, w.len))
 }
 
 fn meter(kind: u8, n: u8) -> Meter {
@@ -288,7 +312,7 @@ fn ask_meters(w: &[&str]) -> Option<String> {
         Ok((id, bytes)) => got.status == -9 || (got.id == id && out[..got.len] == bytes[..]),
         Err(why) => got.status == -i32::from(why.number()),
     };
-    Some(written(&out, got.status, got.id, got.len) + if agrees { "" } else { "!" })
+    Some(written(&out, Refusal::check(got.status), got.id, got.len) + if agrees { "" } else { "!" })
 }
 
 fn packet(room: usize, bytes: &[u8]) -> Option<String> {

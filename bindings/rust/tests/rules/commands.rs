@@ -1,7 +1,7 @@
 use crate::hex;
 use whistleloam::{
     is_utf8, keep_alive_meters, raw, read_meters, request_meter, request_node_data, request_node_definition, set_float,
-    set_int, set_string, Meter, Refusal,
+    set_int, set_string, utf8_good, Meter, Refusal,
 };
 
 #[test]
@@ -91,9 +91,11 @@ fn utf8_is_rusts() {
         for b in [0, 0x41, 0x7f, 0x80, 0x8f, 0x90, 0x9f, 0xa0, 0xbf, 0xc2, 0xff] {
             for rest in [&[][..], &[0x80], &[0x80, 0x80], &[0xbf, 0x41]] {
                 let bytes = [&[a, b], rest].concat();
-                assert_eq!(is_utf8(&bytes), std::str::from_utf8(&bytes).is_ok(), "{bytes:x?}");
+                let rusts = std::str::from_utf8(&bytes);
+                assert_eq!(is_utf8(&bytes), rusts.is_ok(), "{bytes:x?}");
+                assert_eq!(utf8_good(&bytes), rusts.map_or_else(|e| e.valid_up_to(), str::len), "{bytes:x?}");
             }
         }
     }
-    assert!(is_utf8(&[]));
+    assert_eq!((is_utf8(&[]), utf8_good(&[])), (true, 0));
 }

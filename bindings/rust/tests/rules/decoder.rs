@@ -17,7 +17,7 @@ fn tokens_give_what_the_rules_say() {
     assert_eq!(events("d3 ff fe"), [value(0, -2)]);
     assert_eq!(events("d4 80 00 00 00"), [value(0, i32::MIN)]);
     assert_eq!(events("c0 41"), [value(0, "A")]);
-    assert_eq!(events("80 80"), [Err(Refusal::STRING)]);
+    assert_eq!(events("80 80"), [Err(Refusal::StringNotUtf8 { good: 0 })]);
     assert_eq!(events("d0"), [value(0, "")]);
     assert_eq!(events(&("d1 ff".to_string() + &" 41".repeat(256))), [value(0, "A".repeat(256))]);
     assert_eq!(
@@ -36,7 +36,7 @@ fn a_call_without_bytes_can_finish_a_pending_byte() {
     let (event, taken) = decoder.next(&hex("df d1 d9 df 05"));
     assert_eq!((event, taken), (Ok(Some(Event::Value(0, Value::Int(5)))), 5));
     let (event, taken) = decoder.next(&hex("df d1 80 df 05"));
-    assert_eq!((event, taken), (Err(Refusal::STRING), 5));
+    assert_eq!((event, taken), (Err(Refusal::StringNotUtf8 { good: 0 }), 5));
     assert_eq!(decoder.next(&[]), (Ok(Some(Event::Value(0, Value::Int(5)))), 0));
     assert_eq!(decoder.next(&[]), (Ok(None), 0));
 }
@@ -107,12 +107,12 @@ fn what_was_handed_out_can_be_read() {
     assert_eq!(decoder.clone().handed(), hex("df 07"));
     let body = hex("00 00 00 00 00 00 00 02 00 00 01 80 00 00 00");
     let sent = [&hex("df de 00 0f")[..], &body].concat();
-    assert_eq!(decoder.next(&sent), (Err(Refusal::DEFINITION_STRING), 19));
+    assert_eq!(decoder.next(&sent), (Err(Refusal::DefinitionNotUtf8 { good: 0 }), 19));
     assert_eq!(decoder.handed(), body);
     // In pieces too: nothing while more is wanted.
     assert_eq!(decoder.next(&sent[..9]), (Ok(None), 9));
     assert_eq!(decoder.handed(), []);
-    assert_eq!(decoder.next(&sent[9..]), (Err(Refusal::DEFINITION_STRING), 10));
+    assert_eq!(decoder.next(&sent[9..]), (Err(Refusal::DefinitionNotUtf8 { good: 0 }), 10));
     assert_eq!(decoder.handed(), body);
     // A string, and what has no bytes: an integer, an end, a refused string or count, a refused call.
     assert_eq!(decoder.next(&hex("81 41 42")).0, Ok(Some(Event::Value(0, "AB".into()))));
@@ -129,7 +129,7 @@ fn what_was_handed_out_can_be_read() {
     // The longest body, and through the events of a piece.
     let long = [&hex("df de 10 00")[..], &[0xff; 4096]].concat();
     let mut events = decoder.events(&long);
-    assert_eq!(events.next(), Some(Err(Refusal::DEFINITION_STRING)));
+    assert_eq!(events.next(), Some(Err(Refusal::DefinitionNotUtf8 { good: 0 })));
     assert_eq!(events.handed(), [0xff; 4096]);
     assert_eq!(events.next(), None);
     assert_eq!(events.handed(), []);
@@ -199,7 +199,7 @@ fn a_state_has_its_bytes() {
     }
     // A byte is pending after the call that gave an event before it.
     let mut decoder = Decoder::new();
-    assert_eq!(decoder.next(&hex("df d1 80 df 05")), (Err(Refusal::STRING), 5));
+    assert_eq!(decoder.next(&hex("df d1 80 df 05")), (Err(Refusal::StringNotUtf8 { good: 0 }), 5));
     assert_eq!(decoder.save()[..11], hex("02 00 01 01 05 00 00 00 00 00 00"));
 }
 

@@ -143,8 +143,8 @@ fn a_string_that_is_not_utf8_is_5() {
     let mut broken = body(0x50, TYPES[5].1);
     let last = broken.len() - 2;
     broken[last] = 0xff;
-    assert_eq!(Definition::from_bytes(&broken).unwrap_err(), Refusal::DEFINITION_STRING);
+    assert_eq!(Definition::from_bytes(&broken).unwrap_err(), Refusal::DefinitionNotUtf8 { good: 1 });
     assert_eq!(Definition::from_bytes(&broken[..last]).unwrap_err(), Refusal::DEFINITION_SHORT);
     broken[11] = 0x80;
-    assert_eq!(Definition::from_bytes(&broken[..last]).unwrap_err(), Refusal::DEFINITION_STRING);
+    assert_eq!(Definition::from_bytes(&broken[..last]).unwrap_err(), Refusal::DefinitionNotUtf8 { good: 0 });
 }

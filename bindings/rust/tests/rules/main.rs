@@ -1,8 +1,9 @@
-//! The crate against the rules of 01 and 02's first two requests: byte examples, every refusal, streams cut anywhere, definitions of all
-//! types, read and written, listings printed and loaded.
+//! The crate against the rules of 01 and 02's requests: byte examples, every refusal, streams cut anywhere, definitions of all types, read and
+//! written, listings printed and loaded, how much of a broken string is good.
 mod commands;
 mod decoder;
 mod definition;
+mod good;
 mod listing;
 mod mirror;
 mod refused;
@@ -115,11 +116,11 @@ fn constants_are_those_of_the_header() {
         ("METER_BUS2", meter_byte(Meter::Bus2(1))),
         ("METER_MAIN2", meter_byte(Meter::Main2(1))),
         ("METER_MATRIX2", meter_byte(Meter::Matrix2(1))),
-        refused("REFUSED_STRING", Refusal::STRING),
+        refused("REFUSED_STRING", Refusal::StringNotUtf8 { good: 7 }),
         refused("REFUSED_BODY_LONG", Refusal::BODY_LONG),
         refused("REFUSED_BODY_EMPTY", Refusal::BODY_EMPTY),
         refused("REFUSED_DEFINITION_SHORT", Refusal::DEFINITION_SHORT),
-        refused("REFUSED_DEFINITION_STRING", Refusal::DEFINITION_STRING),
+        refused("REFUSED_DEFINITION_STRING", Refusal::DefinitionNotUtf8 { good: 7 }),
         refused("REFUSED_NO_PLACE", Refusal::NO_PLACE),
         refused("REFUSED_TABLE", Refusal::TABLE),
         refused("REFUSED_STATE", Refusal::STATE),

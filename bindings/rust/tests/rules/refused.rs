@@ -1,4 +1,4 @@
-//! Every number of 01's table 'What is sent back' and of 02's first two requests, and that what was lent is as it was.
+//! Every number of 01's table 'What is sent back' and of 02's requests, and that what was lent is as it was.
 use crate::hex;
 use whistleloam::raw;
 use whistleloam::{
@@ -43,6 +43,9 @@ fn each_number_has_its_cause() {
         assert_eq!(why.number(), number, "{why}");
         assert!(why.to_string().starts_with(&format!("refusal {number}: ")), "{why}");
         assert!(!why.words().contains("do not have"), "{why}");
+        // 1 and 5 have a good, all others are a number alone.
+        assert_eq!(why.good().is_some(), number == 1 || number == 5, "{why}");
+        assert_eq!(why == Refusal::Other(number), why.good().is_none(), "{why}");
     }
 }
 

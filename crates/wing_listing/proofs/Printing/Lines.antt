@@ -7,6 +7,7 @@ use native.Mathlib.Omega.{arith}
 use native.Mathlib.Numerals.{add-one}
 use lib.ListN.{length, drop, getD, set, length-append}
 use lib.Seq.{sets, drop-cons}
+use Rattle.wing_node.specs.Refusal.{alone}
 use Rattle.wing_node.specs.Bytes.{joined}
 use Rattle.wing_wire.specs.Write.{writeEffect, writeOf}
 use Rattle.wing_wire.specs.declared.write.Written.the-variants.{Refused}
@@ -83,6 +84,6 @@ module _ (t : Table) where
   unfolding printOf
   print-usable out u = rw u
 
-  pub print-unusable : (out : List ℕ) → usable full t ≡ false → writeEffect (Refused 7) out ≡ printOf t out
+  pub print-unusable : (out : List ℕ) → usable full t ≡ false → writeEffect (Refused (alone 7)) out ≡ printOf t out
   unfolding printOf
   print-unusable out u = rw u

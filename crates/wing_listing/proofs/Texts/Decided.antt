@@ -1,14 +1,19 @@
 -- Which texts are taken and which line is the first bad one: a reading says exactly that.
 use Prim.Native.Nat.{ℕ, zero, suc, _+_, _≤_, _<_}
-use mathlib.Core.Bool.{Bool, true, false}
+use mathlib.Core.Bool.{true, false}
 use mathlib.Core.Path.{_≡_, refl, sym, ap, ap₂, _∙_, subst}
-use mathlib.Core.Logic.{_⊎_, inl, inr, _↔_}
+use mathlib.Core.Logic.{inl, inr, _↔_}
 use mathlib.Core.List.{List, [], _∷_, _++_, append-assoc}
 use native.Mathlib.Omega.{arith}
-use borrow.Author.Tests.{ltb-true, ltb-false, eqb-true, eqb-false, eq-eqb, ne-eqb}
+use borrow.Author.Tests.{ltb-true, ltb-false, eqb-true, eqb-false}
 use lib.Dec.{ltb, eqb}
 use lib.IntN.{ℤ}
 use lib.ListN.{length, getD, drop, length-append, length-drop}
+use Rattle.wing_node.proofs.Refusals.{reasonOf}
+use Rattle.wing_node.specs.declared.refusal.Fault.the-variants.{None, Refused as Because}
+use Rattle.wing_node.specs.declared.refusal.Fault.{Fault}
+use Rattle.wing_node.specs.declared.refusal.Refusal.{Refusal}
+use Rattle.wing_node.specs.Refusal.{alone, noFault, because, byNumber}
 use Rattle.wing_node.specs.Bool.{if}
 use Rattle.wing_node.specs.Bytes.{joined}
 use Rattle.wing_mirror.specs.Rows.{Found, found, nothing, All}
@@ -20,16 +25,16 @@ use Rattle.wing_mirror.specs.Query.{sameBytes}
 use Rattle.wing_mirror.proofs.Records.Equals.{bytes-true, bytes-refl}
 use Rattle.wing_listing.specs.Parts.{newline, parted, part, ended}
 use Rattle.wing_listing.specs.Listing.{header, lineOf, listingOf}
-use Rattle.wing_listing.specs.Reading.{isLine, idSaid, entrySaid, above, valueFault, lineFault, Reading, good, bad, after, linesFrom, readingOf}
-use Rattle.wing_listing.specs.FirstBad.{Bytewise, Printable, TakenEntries, lastId, entryFault, BadHeader, BadForm, BadEntry, FirstBad}
+use Rattle.wing_listing.specs.Reading.{isLine, idSaid, entrySaid, above, lineFault, Reading, good, bad, after, unlessBad, linesFrom, readingOf}
+use Rattle.wing_listing.specs.FirstBad.{Bytewise, Printable, TakenEntries, lastId, entryFault, BadHeader, FirstBad}
 use Rattle.wing_listing.proofs.Texts.Numbers.{by-test}
-use Rattle.wing_listing.proofs.Texts.Parts.{parted-some, parted-ended, front-text}
+use Rattle.wing_listing.proofs.Texts.Parts.{parted-ended, front-text}
 use Rattle.wing_listing.proofs.Texts.Lines.{true-false}
-use Rattle.wing_listing.proofs.Texts.Scans.{ne-zero, lines-end, lines-unended, lines-next, header-none, header-next, faultless-line, faultless-id, faultless-value, next-line, Says}
-use Rattle.wing_listing.proofs.Texts.Said.{DigitBytes, line-plain, line-again, line-id, line-says}
-use Rattle.wing_listing.proofs.Texts.Listed.{Rises, rises-all, rising-all, Listable, body, body-next, line-faultless, listing-read, listing-said}
+use Rattle.wing_listing.proofs.Texts.Scans.{ne-zero, lines-end, lines-unended, lines-next, header-none, header-next, faultless-line, faultless-id, faultless-value}
+use Rattle.wing_listing.proofs.Texts.Said.{DigitBytes, line-again, line-id}
+use Rattle.wing_listing.proofs.Texts.Listed.{Rises, rises-all, rising-all, Listable, body, line-faultless, listing-read, listing-said}
 use Rattle.wing_listing.proofs.Texts.Shown.{digit-bytes, byte-digits, said-printable, said-listable}
-use Rattle.wing_listing.proofs.Texts.First.{printed-front, printed-long, printed-formed, printed-fault, FormFrom, EntryFrom, BadFrom, whyIn, lineIn, bad-not, after-bad, empty, form-here, line-more}
+use Rattle.wing_listing.proofs.Texts.First.{printed-front, printed-long, printed-formed, printed-fault, BadFrom, whyIn, lineIn, bad-not, after-bad, empty, form-here, line-more}
 
 body-nil : (x : List ℕ) → body [] ++ x ≡ x
 unfolding joined
@@ -39,7 +44,7 @@ last-nil : (before : Found ℤ) → before ≡ lastId before []
 unfolding lastId
 last-nil before = refl
 
-out-of-form : (before : Found ℤ) (line : List ℕ) → isLine line ≡ false → lineFault before line ≡ 17
+out-of-form : (before : Found ℤ) (line : List ℕ) → isLine line ≡ false → lineFault before line ≡ byNumber 17
 unfolding lineFault
 out-of-form before line t = rw t
 
@@ -49,7 +54,7 @@ said-id line = refl
 
 -- ---- a bad reading names the first bad line
 
-module _ (n : ℕ) (before : Found ℤ) (text : List ℕ) (why line : ℕ) (e : linesFrom n before (parted newline text) ≡ bad why line) where
+module _ (n : ℕ) (before : Found ℤ) (text : List ℕ) (why : Refusal) (line : ℕ) (e : linesFrom n before (parted newline text) ≡ bad why line) where
   abbrev p : List ℕ
   p = part newline 0 text
 
@@ -66,9 +71,9 @@ module _ (n : ℕ) (before : Found ℤ) (text : List ℕ) (why line : ℕ) (e : 
       (λ x next q t. let l = subst (λ (y : List ℕ). length (part newline 0 y) < length y) t (printed-long x q next) in omega arith)
       (sym (lines-unended n before text h k) ∙ e))
 
-  bad-line : length p < length text → (lineFault before p ≡ 0 → ⊥) → BadFrom n before text why line
-  bad-line k f =
-      let q : bad (lineFault before p) n ≡ bad why line = sym (lines-next n before text k ∙ ap (λ t. if t (after (entrySaid p) (linesFrom (suc n) (found (idSaid p)) (parted newline r))) (bad (lineFault before p) n)) (ne-eqb (lineFault before p) 0 f)) ∙ e in
+  bad-line : length p < length text → (w : Refusal) → lineFault before p ≡ because w → BadFrom n before text why line
+  bad-line k w f =
+      let q : bad w n ≡ bad why line = sym (lines-next n before text k ∙ ap (λ x. unlessBad x n (after (entrySaid p) (linesFrom (suc n) (found (idSaid p)) (parted newline r)))) f) ∙ e in
       by-test (isLine p)
       (λ t.
       let s : ended (lineOf (entrySaid p)) ++ r ≡ text = append-assoc (lineOf (entrySaid p)) (newline ∷ []) r ∙ ap (λ (l : List ℕ). l ++ (newline ∷ r)) (line-again p t) ∙ sym (front-text newline text k) in
@@ -82,39 +87,40 @@ module _ (n : ℕ) (before : Found ℤ) (text : List ℕ) (why line : ℕ) (e : 
         rises = tt;
         printable = said-printable p t;
         begins = body-nil (ended (lineOf (entrySaid p)) ++ r) ∙ s;
-        number = sym (ap whyIn q) ∙ m ∙ ap (λ b. entryFault b (entrySaid p)) (last-nil before);
-        wrong = λ z. f (ap whyIn q ∙ z);
+        fault = ap (λ b. entryFault b (entrySaid p)) (sym (last-nil before)) ∙ sym m ∙ f ∙ ap because (ap (whyIn w) q);
         at = sym (ap lineIn q) ∙ omega arith;
       }))
       (λ t.
       let m = out-of-form before p t in
       form-here n before text why line (omega arith)
       (λ x next y s. true-false (sym (subst (λ (z : List ℕ). isLine (part newline 0 z) ≡ true) s (printed-formed x y next)) ∙ t))
-      (ap (λ w. bad w n) (sym m) ∙ q))
+      (ap (λ x. bad x n) (ap (reasonOf w) (sym m ∙ f)) ∙ q))
 
-  good-line : length p < length text → lineFault before p ≡ 0 → (linesFrom (suc n) (found (idSaid p)) (parted newline r) ≡ bad why line → BadFrom (suc n) (found (idSaid p)) r why line) → BadFrom n before text why line
+  good-line : length p < length text → lineFault before p ≡ noFault → (linesFrom (suc n) (found (idSaid p)) (parted newline r) ≡ bad why line → BadFrom (suc n) (found (idSaid p)) r why line) → BadFrom n before text why line
   good-line k f ih =
       let t = faultless-line before p f in
       let s : ended (lineOf (entrySaid p)) ++ r ≡ text = append-assoc (lineOf (entrySaid p)) (newline ∷ []) r ∙ ap (λ (l : List ℕ). l ++ (newline ∷ r)) (line-again p t) ∙ sym (front-text newline text k) in
-      let q = after-bad (entrySaid p) (linesFrom (suc n) (found (idSaid p)) (parted newline r)) why line (sym (lines-next n before text k ∙ ap (λ b. if b (after (entrySaid p) (linesFrom (suc n) (found (idSaid p)) (parted newline r))) (bad (lineFault before p) n)) (eq-eqb (lineFault before p) 0 f)) ∙ e) in
+      let q = after-bad (entrySaid p) (linesFrom (suc n) (found (idSaid p)) (parted newline r)) why line (sym (lines-next n before text k ∙ ap (λ x. unlessBad x n (after (entrySaid p) (linesFrom (suc n) (found (idSaid p)) (parted newline r)))) f) ∙ e) in
       line-more n before text why line (entrySaid p) r (said-listable p t (faultless-value before p f)) (ap (above before) (sym (said-id p)) ∙ faultless-id before p f) s (subst (λ i. BadFrom (suc n) (found i) r why line) (said-id p) (ih q))
 
-bad-from : (m n : ℕ) (before : Found ℤ) (text : List ℕ) (why line : ℕ) → length text ≤ m → linesFrom n before (parted newline text) ≡ bad why line → BadFrom n before text why line
+bad-from : (m n : ℕ) (before : Found ℤ) (text : List ℕ) (why : Refusal) (line : ℕ) → length text ≤ m → linesFrom n before (parted newline text) ≡ bad why line → BadFrom n before text why line
 bad-from zero n before text why line h e = unended n before text why line e (omega arith)
 bad-from (suc m) n before text why line h e =
     let p = part newline 0 text in
     let r = drop (length p + 1) text in
     by-test (ltb (length p) (length text))
-    (λ t.
-    let k = ltb-true (length p) (length text) t in
-    by-test (eqb (lineFault before p) 0)
-    (λ u. good-line n before text why line e k (eqb-true (lineFault before p) 0 u) (bad-from m (suc n) (found (idSaid p)) r why line (omega (arith, length-drop (length p + 1) text))))
-    (λ u. bad-line n before text why line e k (eqb-false (lineFault before p) 0 u)))
+    (λ t. go (ltb-true (length p) (length text) t) (lineFault before p) refl (bad-from m (suc n) (found (idSaid p)) r why line (omega (arith, length-drop (length p + 1) text, ltb-true (length p) (length text) t))))
     (λ t. unended n before text why line e (ltb-false (length p) (length text) t))
+  where
+    go : length (part newline 0 text) < length text → (f : Fault) → lineFault before (part newline 0 text) ≡ f →
+        (linesFrom (suc n) (found (idSaid (part newline 0 text))) (parted newline (drop (length (part newline 0 text) + 1) text)) ≡ bad why line →
+        BadFrom (suc n) (found (idSaid (part newline 0 text))) (drop (length (part newline 0 text) + 1) text) why line) → BadFrom n before text why line
+    go k None u ih = good-line n before text why line e k u ih
+    go k (Because w) u ih = bad-line n before text why line e k w u
 
 -- ---- and the first bad line makes the reading
 
-after-on : (e : Entry) (r : Reading) (why line : ℕ) → r ≡ bad why line → after e r ≡ bad why line
+after-on : (e : Entry) (r : Reading) (why : Refusal) (line : ℕ) → r ≡ bad why line → after e r ≡ bad why line
 unfolding after
 after-on e r why line h = ap (after e) h
 
@@ -130,7 +136,7 @@ rest-after x y more =
     ap₂ (λ (l t : List ℕ). drop (length l + 1) t) (printed-front x y more) (append-assoc (lineOf x) (newline ∷ []) more) ∙ drop-front (lineOf x) more newline
 
 -- good lines at the front are passed
-lines-on : (n : ℕ) (before : Found ℤ) (es : List Entry) (rest : List ℕ) (why line : ℕ) → All Listable es → Rises before es →
+lines-on : (n : ℕ) (before : Found ℤ) (es : List Entry) (rest : List ℕ) (why : Refusal) (line : ℕ) → All Listable es → Rises before es →
     linesFrom (n + length es) (lastId before es) (parted newline rest) ≡ bad why line → linesFrom n before (parted newline (body es ++ rest)) ≡ bad why line
 unfolding joined lastId
 lines-on n before [] rest why line g u e = ap (λ m. linesFrom m before (parted newline rest)) (sym-zero n) ∙ e
@@ -142,17 +148,17 @@ lines-on n before (x ∷ es) rest why line g u e =
     let y : Printable x = record { node = g .0 .0 .node; typed = g .0 .0 .typed; bytes = byte-digits (x .value) (g .0 .1) } in
     let more = body es ++ rest in
     let t = ended (lineOf x) ++ more in
-    let f : lineFault before (part newline 0 t) ≡ 0 = ap (lineFault before) (printed-front x y more) ∙ line-faultless before x (g .0) (u .0) in
+    let f : lineFault before (part newline 0 t) ≡ noFault = ap (lineFault before) (printed-front x y more) ∙ line-faultless before x (g .0) (u .0) in
     let i : idSaid (part newline 0 t) ≡ x .id = ap idSaid (printed-front x y more) ∙ line-id x (y .node) (y .typed) (g .0 .1) in
     let d : drop (length (part newline 0 t) + 1) t ≡ more = rest-after x y more in
     let m : n + length (x ∷ es) ≡ suc n + length es = omega arith in
     let ih = lines-on (suc n) (found (x .id)) es rest why line (g .1) (u .1) (ap (λ k. linesFrom k (lastId (found (x .id)) es) (parted newline rest)) (sym m) ∙ e) in
     ap (λ (z : List ℕ). linesFrom n before (parted newline z)) q ∙ lines-next n before t (printed-long x y more) ∙
-    ap (λ b. if b (after (entrySaid (part newline 0 t)) (linesFrom (suc n) (found (idSaid (part newline 0 t))) (parted newline (drop (length (part newline 0 t) + 1) t)))) (bad (lineFault before (part newline 0 t)) n)) (eq-eqb (lineFault before (part newline 0 t)) 0 f) ∙
+    ap (λ x. unlessBad x n (after (entrySaid (part newline 0 t)) (linesFrom (suc n) (found (idSaid (part newline 0 t))) (parted newline (drop (length (part newline 0 t) + 1) t))))) f ∙
     after-on (entrySaid (part newline 0 t)) (linesFrom (suc n) (found (idSaid (part newline 0 t))) (parted newline (drop (length (part newline 0 t) + 1) t))) why line
     (ap₂ (λ j (z : List ℕ). linesFrom (suc n) (found j) (parted newline z)) i d ∙ ih)
 
-form-base : (n : ℕ) (before : Found ℤ) (rest : List ℕ) → (rest ≡ [] → ⊥) → ((e : Entry) (next : List ℕ) → Printable e → ended (lineOf e) ++ next ≡ rest → ⊥) → linesFrom n before (parted newline rest) ≡ bad 17 n
+form-base : (n : ℕ) (before : Found ℤ) (rest : List ℕ) → (rest ≡ [] → ⊥) → ((e : Entry) (next : List ℕ) → Printable e → ended (lineOf e) ++ next ≡ rest → ⊥) → linesFrom n before (parted newline rest) ≡ bad (alone 17) n
 form-base n before rest some none =
     let p = part newline 0 rest in
     let r = drop (length p + 1) rest in
@@ -163,17 +169,15 @@ form-base n before rest some none =
     (λ u. absurd (none (entrySaid p) r (said-printable p u) (append-assoc (lineOf (entrySaid p)) (newline ∷ []) r ∙ ap (λ (l : List ℕ). l ++ (newline ∷ r)) (line-again p u) ∙ sym (front-text newline rest k))))
     (λ u.
     let m = out-of-form before p u in
-    lines-next n before rest k ∙ ap (λ w. if (eqb w 0) (after (entrySaid p) (linesFrom (suc n) (found (idSaid p)) (parted newline r))) (bad w n)) m))
+    lines-next n before rest k ∙ ap (λ x. unlessBad x n (after (entrySaid p) (linesFrom (suc n) (found (idSaid p)) (parted newline r)))) m))
     (λ t. lines-unended n before rest (ne-zero (length rest) (λ z. some (empty rest z))) (ltb-false (length p) (length rest) t))
 
-entry-base : (n : ℕ) (before : Found ℤ) (e : Entry) (y : Printable e) (next : List ℕ) → (entryFault before e ≡ 0 → ⊥) → linesFrom n before (parted newline (ended (lineOf e) ++ next)) ≡ bad (entryFault before e) n
-entry-base n before e y next w =
+entry-base : (n : ℕ) (before : Found ℤ) (e : Entry) (y : Printable e) (next : List ℕ) (why : Refusal) → entryFault before e ≡ because why → linesFrom n before (parted newline (ended (lineOf e) ++ next)) ≡ bad why n
+entry-base n before e y next why w =
     let t = ended (lineOf e) ++ next in
     let p = part newline 0 t in
     let r = drop (length p + 1) t in
-    lines-next n before t (printed-long e y next) ∙
-    ap (λ f. if (eqb f 0) (after (entrySaid p) (linesFrom (suc n) (found (idSaid p)) (parted newline r))) (bad f n)) (printed-fault e y next before) ∙
-    ap (λ b. if b (after (entrySaid p) (linesFrom (suc n) (found (idSaid p)) (parted newline r))) (bad (entryFault before e) n)) (ne-eqb (entryFault before e) 0 w)
+    lines-next n before t (printed-long e y next) ∙ ap (λ x. unlessBad x n (after (entrySaid p) (linesFrom (suc n) (found (idSaid p)) (parted newline r)))) (printed-fault e y next before ∙ w)
 
 -- ---- entries that a table takes
 
@@ -218,8 +222,8 @@ module _ (x : List ℕ) where
   head-reads : readingOf headed ≡ linesFrom 2 nothing (parted newline x)
   head-reads =
       header-next headed head-long ∙
-      ap₂ (λ (l r : List ℕ). if (sameBytes l header) (linesFrom 2 nothing (parted newline r)) (bad 17 1)) head-front head-rest ∙
-      ap (λ t. if t (linesFrom 2 nothing (parted newline x)) (bad 17 1)) (bytes-refl header)
+      ap₂ (λ (l r : List ℕ). if (sameBytes l header) (linesFrom 2 nothing (parted newline r)) (bad (alone 17) 1)) head-front head-rest ∙
+      ap (λ t. if t (linesFrom 2 nothing (parted newline x)) (bad (alone 17) 1)) (bytes-refl header)
 
 listed-text : (es : List Entry) (rest : List ℕ) → listingOf es ++ rest ≡ ended header ++ (body es ++ rest)
 unfolding listingOf
@@ -227,7 +231,7 @@ listed-text es rest = append-assoc (ended header) (body es) rest
 
 -- ---- both ways
 
-module _ (text : List ℕ) (why line : ℕ) where
+module _ (text : List ℕ) (why : Refusal) (line : ℕ) where
   from-lines : (r : List ℕ) → ended header ++ r ≡ text → BadFrom 2 nothing r why line → FirstBad text why line
   from-lines r t (inl f) =
       inr (inl (record {
@@ -248,13 +252,12 @@ module _ (text : List ℕ) (why line : ℕ) where
         taken = taken-entries (f .es) (f .good) (f .rises);
         printable = f .printable;
         begins = listed-text (f .es) (ended (lineOf (f .e)) ++ f .next) ∙ ap (λ (x : List ℕ). ended header ++ x) (f .begins) ∙ t;
-        number = f .number;
-        wrong = f .wrong;
+        fault = f .fault;
         next = f .at ∙ omega arith;
       }))
 
-  no-header : ((rest : List ℕ) → ended header ++ rest ≡ text → ⊥) → bad 17 1 ≡ bad why line → FirstBad text why line
-  no-header none e = inl (record { none = none; number = sym (ap whyIn e); first = sym (ap lineIn e) })
+  no-header : ((rest : List ℕ) → ended header ++ rest ≡ text → ⊥) → bad (alone 17) 1 ≡ bad why line → FirstBad text why line
+  no-header none e = inl (record { none = none; number = sym (ap (whyIn why) e); first = sym (ap lineIn e) })
 
   abbrev front : List ℕ
   front = part newline 0 text
@@ -279,16 +282,16 @@ module _ (text : List ℕ) (why line : ℕ) where
 
   header-wrong : BadHeader text why line → readingOf text ≡ bad why line
   header-wrong f =
-      let q : bad 17 1 ≡ bad why line = ap₂ (λ a b. bad a b) (sym (f .number)) (sym (f .first)) in
+      let q : bad (alone 17) 1 ≡ bad why line = ap₂ (λ a b. bad a b) (sym (f .number)) (sym (f .first)) in
       by-test (ltb (length front) (length text))
       (λ t.
       let k = ltb-true (length front) (length text) t in
       by-test (sameBytes front header)
       (λ u. absurd (f .none (drop (length front + 1) text) (after-front k (bytes-true front header u))))
-      (λ u. header-next text k ∙ ap (λ b. if b (linesFrom 2 nothing (parted newline (drop (length front + 1) text))) (bad 17 1)) u ∙ q))
+      (λ u. header-next text k ∙ ap (λ b. if b (linesFrom 2 nothing (parted newline (drop (length front + 1) text))) (bad (alone 17) 1)) u ∙ q))
       (λ t. header-none text (ltb-false (length front) (length text) t) ∙ q)
 
-  lines-wrong : (es : List Entry) (rest : List ℕ) (w : ℕ) → TakenEntries es → listingOf es ++ rest ≡ text → linesFrom (2 + length es) (lastId nothing es) (parted newline rest) ≡ bad w (2 + length es) → why ≡ w → line ≡ length es + 2 →
+  lines-wrong : (es : List Entry) (rest : List ℕ) (w : Refusal) → TakenEntries es → listingOf es ++ rest ≡ text → linesFrom (2 + length es) (lastId nothing es) (parted newline rest) ≡ bad w (2 + length es) → why ≡ w → line ≡ length es + 2 →
       readingOf text ≡ bad why line
   lines-wrong es rest w t s e a b =
       let l = lines-on 2 nothing es rest w (2 + length es) (all-listable es (t .valid) (t .bytes)) (rises-all es (t .rises)) e in
@@ -297,10 +300,10 @@ module _ (text : List ℕ) (why line : ℕ) where
 
   wrong-left : FirstBad text why line → readingOf text ≡ bad why line
   wrong-left (inl f) = header-wrong f
-  wrong-left (inr (inl f)) = lines-wrong (f .es) (f .rest) 17 (f .taken) (f .begins) (form-base (2 + length (f .es)) (lastId nothing (f .es)) (f .rest) (f .more) (f .none)) (f .number) (f .next)
+  wrong-left (inr (inl f)) = lines-wrong (f .es) (f .rest) (alone 17) (f .taken) (f .begins) (form-base (2 + length (f .es)) (lastId nothing (f .es)) (f .rest) (f .more) (f .none)) (f .number) (f .next)
   wrong-left (inr (inr f)) =
-      lines-wrong (f .es) (ended (lineOf (f .e)) ++ f .after) (entryFault (lastId nothing (f .es)) (f .e)) (f .taken) (f .begins)
-      (entry-base (2 + length (f .es)) (lastId nothing (f .es)) (f .e) (f .printable) (f .after) (λ z. f .wrong (f .number ∙ z))) (f .number) (f .next)
+      lines-wrong (f .es) (ended (lineOf (f .e)) ++ f .after) why (f .taken) (f .begins)
+      (entry-base (2 + length (f .es)) (lastId nothing (f .es)) (f .e) (f .printable) (f .after) why (f .fault)) refl (f .next)
 
   pub wrong : readingOf text ≡ bad why line ↔ FirstBad text why line
   wrong = (wrong-right, wrong-left)

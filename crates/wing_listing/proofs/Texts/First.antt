@@ -1,33 +1,26 @@
 -- The first bad line, both ways: what a reading says of it is what is said by printed lines.
-use Prim.Native.Nat.{ℕ, zero, suc, _+_, _≤_, _<_}
+use Prim.Native.Nat.{ℕ, suc, _+_, _<_}
 use mathlib.Core.Bool.{Bool, true, false}
-use mathlib.Core.Path.{_≡_, refl, sym, ap, ap₂, _∙_, subst}
+use mathlib.Core.Path.{_≡_, refl, sym, ap, _∙_}
 use mathlib.Core.Logic.{_⊎_, inl, inr}
-use mathlib.Core.List.{List, [], _∷_, _++_, map, append-assoc}
+use mathlib.Core.List.{List, [], _∷_, _++_, append-assoc}
 use native.Mathlib.Omega.{arith}
-use borrow.Author.Tests.{ltb-true, ltb-false, eqb-true, eqb-false, eq-eqb, ne-eqb}
-use lib.Dec.{ltb, eqb}
 use lib.IntN.{ℤ}
-use lib.ListN.{length, getD, drop, length-append, length-drop}
-use Rattle.wing_node.specs.Bool.{if}
+use lib.ListN.{length, getD, length-append}
+use Rattle.wing_node.specs.declared.refusal.Refusal.{Refusal}
+use Rattle.wing_node.specs.Refusal.{alone, because}
 use Rattle.wing_node.specs.Bytes.{joined}
-use Rattle.wing_mirror.specs.Rows.{Found, found, nothing, All}
-use Rattle.wing_mirror.specs.Entry.{Entry, ids, risingIds}
-use Rattle.wing_mirror.specs.Layout.{ValidEntry}
-use Rattle.wing_mirror.specs.Record.{full}
-use Rattle.wing_mirror.specs.Query.{sameBytes}
-use Rattle.wing_mirror.proofs.Records.Equals.{bytes-true, bytes-refl}
+use Rattle.wing_mirror.specs.Rows.{Found, found, All}
+use Rattle.wing_mirror.specs.Entry.{Entry}
 use Rattle.wing_listing.specs.Parts.{newline, parted, part, ended}
-use Rattle.wing_listing.specs.Listing.{header, lineOf, listingOf}
-use Rattle.wing_listing.specs.Reading.{isLine, idSaid, entrySaid, above, valueFault, lineFault, Reading, good, bad, after, linesFrom, afterHeader, readingOf}
+use Rattle.wing_listing.specs.Listing.{lineOf}
+use Rattle.wing_listing.specs.Reading.{isLine, above, lineFault, Reading, good, bad, after}
 use Rattle.wing_listing.specs.FirstBad.{Printable, lastId, entryFault}
-use Rattle.wing_listing.proofs.Texts.Numbers.{by-test}
-use Rattle.wing_listing.proofs.Texts.Parts.{parted-some, parted-ended, front-text}
+use Rattle.wing_listing.proofs.Texts.Parts.{parted-ended}
 use Rattle.wing_listing.proofs.Texts.Lines.{true-false}
-use Rattle.wing_listing.proofs.Texts.Scans.{ne-zero, lines-end, lines-unended, lines-next, faultless-line, faultless-id, faultless-value}
-use Rattle.wing_listing.proofs.Texts.Said.{line-formed, line-id, line-says, line-plain, line-again, line-valid}
-use Rattle.wing_listing.proofs.Texts.Listed.{Rises, Listable, body, body-next, line-faultless}
-use Rattle.wing_listing.proofs.Texts.Shown.{digit-bytes, said-printable, said-listable}
+use Rattle.wing_listing.proofs.Texts.Said.{line-formed, line-id, line-says, line-plain}
+use Rattle.wing_listing.proofs.Texts.Listed.{Rises, Listable, body}
+use Rattle.wing_listing.proofs.Texts.Shown.{digit-bytes}
 
 -- ---- a printed line at the front of a text
 
@@ -57,7 +50,7 @@ module _ (e : Entry) (p : Printable e) (more : List ℕ) where
 
 -- ---- the first bad line after an id, of the lines from one of a number on
 
-pub record FormFrom (n : ℕ) (before : Found ℤ) (text : List ℕ) (why line : ℕ) : Type 0 where
+pub record FormFrom (n : ℕ) (before : Found ℤ) (text : List ℕ) (why : Refusal) (line : ℕ) : Type 0 where
   pub es : List Entry
   pub rest : List ℕ
   pub good : All Listable es
@@ -65,10 +58,10 @@ pub record FormFrom (n : ℕ) (before : Found ℤ) (text : List ℕ) (why line :
   pub begins : body es ++ rest ≡ text
   pub more : rest ≡ [] → ⊥
   pub none : (e : Entry) (next : List ℕ) → Printable e → ended (lineOf e) ++ next ≡ rest → ⊥
-  pub number : why ≡ 17
+  pub number : why ≡ alone 17
   pub at : line ≡ n + length es
 
-pub record EntryFrom (n : ℕ) (before : Found ℤ) (text : List ℕ) (why line : ℕ) : Type 0 where
+pub record EntryFrom (n : ℕ) (before : Found ℤ) (text : List ℕ) (why : Refusal) (line : ℕ) : Type 0 where
   pub es : List Entry
   pub e : Entry
   pub next : List ℕ
@@ -76,16 +69,15 @@ pub record EntryFrom (n : ℕ) (before : Found ℤ) (text : List ℕ) (why line 
   pub rises : Rises before es
   pub printable : Printable e
   pub begins : body es ++ (ended (lineOf e) ++ next) ≡ text
-  pub number : why ≡ entryFault (lastId before es) e
-  pub wrong : why ≡ 0 → ⊥
+  pub fault : entryFault (lastId before es) e ≡ because why
   pub at : line ≡ n + length es
 
-abbrev pub BadFrom : ℕ → Found ℤ → List ℕ → ℕ → ℕ → Type 0
+abbrev pub BadFrom : ℕ → Found ℤ → List ℕ → Refusal → ℕ → Type 0
 BadFrom n before text why line = FormFrom n before text why line ⊎ EntryFrom n before text why line
 
-abbrev pub whyIn : Reading → ℕ
-whyIn (good es) = 0
-whyIn (bad why line) = why
+abbrev pub whyIn : Refusal → Reading → Refusal
+whyIn other (good es) = other
+whyIn other (bad why line) = why
 
 abbrev pub lineIn : Reading → ℕ
 lineIn (good es) = 0
@@ -95,10 +87,10 @@ abbrev isGood : Reading → Bool
 isGood (good es) = true
 isGood (bad why line) = false
 
-pub bad-not : {A : Type 0} {es : List Entry} {why line : ℕ} → good es ≡ bad why line → A
+pub bad-not : {A : Type 0} {es : List Entry} {why : Refusal} {line : ℕ} → good es ≡ bad why line → A
 bad-not e = absurd (true-false (ap isGood e))
 
-pub after-bad : (e : Entry) (r : Reading) (why line : ℕ) → after e r ≡ bad why line → r ≡ bad why line
+pub after-bad : (e : Entry) (r : Reading) (why : Refusal) (line : ℕ) → after e r ≡ bad why line → r ≡ bad why line
 unfolding after
 after-bad e (good es) why line h = bad-not h
 after-bad e (bad w l) why line h = h
@@ -109,7 +101,7 @@ empty (a ∷ s) e = absurd (omega arith)
 
 -- nothing good at the front
 module _ (n : ℕ) (before : Found ℤ) (text : List ℕ) where
-  pub form-here : (why line : ℕ) → 0 < length text → ((e : Entry) (next : List ℕ) → Printable e → ended (lineOf e) ++ next ≡ text → ⊥) → bad 17 n ≡ bad why line → BadFrom n before text why line
+  pub form-here : (why : Refusal) (line : ℕ) → 0 < length text → ((e : Entry) (next : List ℕ) → Printable e → ended (lineOf e) ++ next ≡ text → ⊥) → bad (alone 17) n ≡ bad why line → BadFrom n before text why line
   unfolding joined
   form-here why line h none e =
       inl (record {
@@ -120,12 +112,12 @@ module _ (n : ℕ) (before : Found ℤ) (text : List ℕ) where
         begins = refl;
         more = λ z. omega (arith, h, ap length z);
         none = none;
-        number = sym (ap whyIn e);
+        number = sym (ap (whyIn why) e);
         at = sym (ap lineIn e) ∙ omega arith;
       })
 
   -- one good line more
-  pub line-more : (why line : ℕ) (e : Entry) (r : List ℕ) → Listable e → above before (e .id) ≡ true → ended (lineOf e) ++ r ≡ text → BadFrom (suc n) (found (e .id)) r why line → BadFrom n before text why line
+  pub line-more : (why : Refusal) (line : ℕ) (e : Entry) (r : List ℕ) → Listable e → above before (e .id) ≡ true → ended (lineOf e) ++ r ≡ text → BadFrom (suc n) (found (e .id)) r why line → BadFrom n before text why line
   unfolding joined lastId
   line-more why line e r g u t (inl f) =
       inl (record {
@@ -148,7 +140,6 @@ module _ (n : ℕ) (before : Found ℤ) (text : List ℕ) where
         rises = (u, f .rises);
         printable = f .printable;
         begins = append-assoc (ended (lineOf e)) (body (f .es)) (ended (lineOf (f .e)) ++ f .next) ∙ ap (λ (x : List ℕ). ended (lineOf e) ++ x) (f .begins) ∙ t;
-        number = f .number;
-        wrong = f .wrong;
+        fault = f .fault;
         at = f .at ∙ omega arith;
       })

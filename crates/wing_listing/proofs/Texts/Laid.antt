@@ -7,6 +7,7 @@ use native.Mathlib.Omega.{arith}
 use borrow.Rule.Slice.PartMut.{postOf, putMid}
 use lib.ListN.{length, getD, take, drop, length-append, length-drop, length-map}
 use lib.Seq.{take-suc, drop-cons, drop-drop, take-append-seam, length-take-le}
+use Rattle.wing_node.specs.Refusal.{noFault}
 use Rattle.wing_node.specs.Bytes.{joined}
 use Rattle.wing_mirror.specs.Rows.{found, laid}
 use Rattle.wing_mirror.specs.Entry.{Entry}
@@ -69,7 +70,7 @@ module _ (text : List ℕ) (count number at : ℕ) (c : count ≤ length (entrie
     pub turn-line : isLine said ≡ true
     turn-line = ap isLine same ∙ faultless-line (l .before) (part newline 0 (drop at text)) (next .fault)
 
-    pub turn-fault : valueFault (entrySaid said .value) ≡ 0
+    pub turn-fault : valueFault (entrySaid said .value) ≡ noFault
     turn-fault = ap (λ (s : List ℕ). valueFault (entrySaid s .value)) same ∙ faultless-value (l .before) (part newline 0 (drop at text)) (next .fault)
 
     pub turn-left : Left (drop (at + k + 1) text) (drop (number + 1) all)

@@ -1,15 +1,14 @@
 -- A whole text, both ways: the listing of entries is read as these entries, and a text that is read as entries is their listing.
-use Prim.Native.Nat.{ℕ, zero, suc, _+_, _≤_, _<_}
-use mathlib.Core.Bool.{Bool, true, false, not}
+use Prim.Native.Nat.{ℕ, suc, _+_}
+use mathlib.Core.Bool.{true}
 use mathlib.Core.Path.{_≡_, refl, sym, ap, ap₂, _∙_, subst}
 use mathlib.Core.List.{List, [], _∷_, _++_, map, append-assoc}
 use native.Mathlib.Omega.{arith}
-use borrow.Author.Tests.{eq-eqb}
-use lib.Dec.{eqb}
 use lib.IntN.{ℤ}
 use lib.Signed.{ltZ}
 use lib.ListN.{length, getD, drop}
-use Rattle.wing_node.specs.Bool.{if, and}
+use Rattle.wing_node.specs.Refusal.{alone, noFault}
+use Rattle.wing_node.specs.Bool.{if}
 use Rattle.wing_node.specs.Bytes.{joined}
 use Rattle.wing_node.proofs.Branches.{if-both}
 use Rattle.wing_mirror.specs.Rows.{Found, found, nothing, All}
@@ -19,9 +18,9 @@ use Rattle.wing_mirror.specs.Record.{full}
 use Rattle.wing_mirror.specs.Table.{every}
 use Rattle.wing_mirror.specs.Query.{sameBytes}
 use Rattle.wing_mirror.proofs.Records.Equals.{bytes-refl}
-use Rattle.wing_listing.specs.Parts.{newline, comma, parted, part, ended}
+use Rattle.wing_listing.specs.Parts.{newline, parted, part, ended}
 use Rattle.wing_listing.specs.Listing.{header, lineOf, listingOf}
-use Rattle.wing_listing.specs.Reading.{isLine, idSaid, entrySaid, above, valueFault, lineFault, Reading, good, bad, after, linesFrom, afterHeader, readingOf}
+use Rattle.wing_listing.specs.Reading.{idSaid, entrySaid, above, lineFault, Reading, good, bad, after, unlessBad, linesFrom, afterHeader, readingOf}
 use Rattle.wing_listing.proofs.Texts.Parts.{parted-some, parted-ended, front-text}
 use Rattle.wing_listing.proofs.Texts.Scans.{faultless-line, faultless-id, faultless-value, Says, next-line, none-left, header-ended, header-said, header-rest}
 use Rattle.wing_listing.proofs.Texts.Said.{DigitBytes, text-faultless, line-formed, line-id, line-says, line-plain, line-again, line-valid, line-bytes}
@@ -64,7 +63,7 @@ body-next e es = append-assoc (lineOf e) (newline ∷ []) (body es)
 
 -- ---- what is printed is read
 
-pub line-faultless : (before : Found ℤ) (e : Entry) → Listable e → above before (e .id) ≡ true → lineFault before (lineOf e) ≡ 0
+pub line-faultless : (before : Found ℤ) (e : Entry) → Listable e → above before (e .id) ≡ true → lineFault before (lineOf e) ≡ noFault
 unfolding lineFault
 line-faultless before e p h =
     rw (line-formed e (p .0 .node) (p .0 .typed) (p .1), line-id e (p .0 .node) (p .0 .typed) (p .1), h, line-says e (p .0 .node) (p .0 .typed) (p .1)) (text-faultless (e .value) (p .0 .text))
@@ -75,14 +74,13 @@ lines-read n before [] a r = refl
 lines-read n before (e ∷ es) a r =
     let p = a .0 in
     let f = line-faultless before e p (r .0) in
-    let k = eq-eqb (lineFault before (lineOf e)) 0 f in
-    let goes : Reading → Reading = λ rest. if (eqb (lineFault before (lineOf e)) 0) (after (entrySaid (lineOf e)) rest) (bad (lineFault before (lineOf e)) n) in
+    let goes : Reading → Reading = λ rest. unlessBad (lineFault before (lineOf e)) n (after (entrySaid (lineOf e)) rest) in
     ap (λ (t : List ℕ). linesFrom n before (parted newline t)) (body-next e es) ∙
     ap (linesFrom n before) (parted-ended newline (lineOf e) (body es) (line-plain e (p .0 .node) (p .0 .typed) (p .1)) ∙ ap (λ (ps : List (List ℕ)). lineOf e ∷ ps) (parted-some newline (body es))) ∙
     ap (λ (ps : List (List ℕ)). goes (linesFrom (suc n) (found (idSaid (lineOf e))) ps)) (sym (parted-some newline (body es))) ∙
     ap (λ i. goes (linesFrom (suc n) (found i) (parted newline (body es)))) (line-id e (p .0 .node) (p .0 .typed) (p .1)) ∙
     ap goes (lines-read (suc n) (found (e .id)) es (a .1) (r .1)) ∙
-    ap (λ t. if t (after (entrySaid (lineOf e)) (good es)) (bad (lineFault before (lineOf e)) n)) k ∙
+    ap (λ x. unlessBad x n (after (entrySaid (lineOf e)) (good es))) f ∙
     unfold after in (ap (λ (x : Entry). good (x ∷ es)) (line-says e (p .0 .node) (p .0 .typed) (p .1)))
 
 pub listing-read : (es : List Entry) → All Listable es → Rises nothing es → readingOf (listingOf es) ≡ good es
@@ -90,8 +88,8 @@ unfolding readingOf listingOf afterHeader every
 listing-read es a r =
     ap (λ (t : List ℕ). afterHeader (parted newline t)) (append-assoc header (newline ∷ []) (body es)) ∙
     ap afterHeader (parted-ended newline header (body es) refl ∙ ap (λ (ps : List (List ℕ)). header ∷ ps) (parted-some newline (body es))) ∙
-    ap (λ (ps : List (List ℕ)). if (sameBytes header header) (linesFrom 2 nothing ps) (bad 17 1)) (sym (parted-some newline (body es))) ∙
-    ap (λ t. if t (linesFrom 2 nothing (parted newline (body es))) (bad 17 1)) (bytes-refl header) ∙ lines-read 2 nothing es a r
+    ap (λ (ps : List (List ℕ)). if (sameBytes header header) (linesFrom 2 nothing ps) (bad (alone 17) 1)) (sym (parted-some newline (body es))) ∙
+    ap (λ t. if t (linesFrom 2 nothing (parted newline (body es))) (bad (alone 17) 1)) (bytes-refl header) ∙ lines-read 2 nothing es a r
 
 -- ---- what is read is printed
 

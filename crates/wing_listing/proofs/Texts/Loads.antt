@@ -1,14 +1,15 @@
 -- A load by its steps: what is wrong with the text, the records laid, the answer.
 use Prim.Native.Nat.{ℕ, _*_, _/_, _≤_}
 use mathlib.Core.Path.{_≡_, ap, ap₂, _∙_}
-use mathlib.Core.List.{List, [], _∷_, map}
+use mathlib.Core.List.{List, [], map}
 use native.Mathlib.Omega.{arith}
 use native.Mathlib.Nat.{mul-div-le, mul-le-mul-left}
-use borrow.Author.Tests.{leb-true, le-leb, ne-eqb}
-use lib.Dec.{leb, eqb}
+use borrow.Author.Tests.{leb-true, le-leb}
+use lib.Dec.{leb}
 use lib.ListN.{length, take}
 use lib.Seq.{take-length}
-use Rattle.wing_node.specs.Bool.{if}
+use Rattle.wing_node.specs.declared.refusal.Refusal.{Refusal}
+use Rattle.wing_node.specs.Refusal.{alone}
 use Rattle.wing_wire.specs.State.{freshState}
 use Rattle.wing_wire.specs.declared.state.State.{State}
 use Rattle.wing_mirror.specs.Rows.{laid}
@@ -24,7 +25,6 @@ use Rattle.wing_listing.specs.declared.answer.Loaded.{Loaded}
 use Rattle.wing_listing.specs.declared.answer.Loaded.the-variants.{Records, Refused}
 use Rattle.wing_listing.specs.declared.answer.LoadReply.{LoadReply}
 use Rattle.wing_listing.proofs.Texts.Numbers.{by-test}
-use Rattle.wing_listing.proofs.Texts.Faults.{Known, fault-some, known-reading}
 
 -- ---- the steps
 
@@ -33,26 +33,26 @@ module _ (memory : List ℕ) where
   abbrev leaves : Scanned → List Entry → LoadEffect
   leaves s es = loadEffect (replyOf (loadedAs s)) (laid width (map recordOf (take (s .count) es)) memory)
 
-  sent-back : (why line : ℕ) (es : List Entry) → (why ≡ 0 → ⊥) → leaves (scannedBad why line) es ≡ sentBack why line memory
+  sent-back : (why : Refusal) (line : ℕ) (es : List Entry) → leaves (scannedBad why line) es ≡ sentBack why line memory
   unfolding loadedAs
-  sent-back why line es w = rw (ne-eqb why 0 w) (ap (loadEffect (replyOf (Refused why line))) (laid-nil width memory))
+  sent-back why line es = ap (loadEffect (replyOf (Refused why line))) (laid-nil width memory)
 
-  read-steps : (r : Reading) → Known r → leaves (fitting (scannedAs r) (length memory / width)) (entriesIn r) ≡ loadRead r memory
+  read-steps : (r : Reading) → leaves (fitting (scannedAs r) (length memory / width)) (entriesIn r) ≡ loadRead r memory
   unfolding fitting scannedAs entriesIn loadRead loadEntries loadedAs
-  read-steps (good es) w =
+  read-steps (good es) =
       by-test (leb (length es) (length memory / width))
       (λ t. rw t (ap (λ (fs : List Entry). loadEffect (replyOf (Records (length es))) (laid width (map recordOf fs) memory)) (take-length es)))
-      (λ t. rw t (ap (loadEffect (replyOf (Refused 6 0))) (laid-nil width memory)))
-  read-steps (bad why line) w = rw (le-leb 0 (length memory / width) (omega arith)) (sent-back why line [] (fault-some why w))
+      (λ t. rw t (ap (loadEffect (replyOf (Refused (alone 6) 0))) (laid-nil width memory)))
+  read-steps (bad why line) = rw (le-leb 0 (length memory / width) (omega arith)) (sent-back why line [])
 
   pub load-steps : (text : List ℕ) → leaves (checkedAs text (length memory / width)) (entriesIn (readingOf text)) ≡ loadOf text memory
   unfolding checkedAs loadOf
   load-steps text =
       by-test (placesAllowed (length memory / width))
       (λ a. by-test (leb (length text) 65536)
-      (λ s. rw (a, s) (read-steps (readingOf text) (known-reading text)))
-      (λ s. rw (a, s) (sent-back 14 0 (entriesIn (readingOf text)) (λ e. omega arith))))
-      (λ a. rw a (sent-back 7 0 (entriesIn (readingOf text)) (λ e. omega arith)))
+      (λ s. rw (a, s) (read-steps (readingOf text)))
+      (λ s. rw (a, s) (sent-back (alone 14) 0 (entriesIn (readingOf text)))))
+      (λ a. rw a (sent-back (alone 7) 0 (entriesIn (readingOf text))))
 
 -- the records to be laid are there, and have room
 few-read : (r : Reading) (places : ℕ) → (fitting (scannedAs r) places .count ≤ length (entriesIn r)) × (fitting (scannedAs r) places .count ≤ places)

@@ -10,6 +10,7 @@ use lib.Dec.{eqb}
 use lib.IntN.{ℤ}
 use lib.ListN.{length, replicate, take, set, replicate-append-replicate}
 use lib.Seq.{sets, take-suc-set}
+use Rattle.wing_node.specs.Refusal.{noFault, isRefused}
 use Rattle.wing_node.specs.Bool.{and}
 use Rattle.wing_node.specs.Decimal.{integerOf}
 use Rattle.wing_node.specs.Field.{bytesOf}
@@ -35,9 +36,9 @@ zero-next out i h e =
 -- ---- a value laid
 
 -- a string that is not too long
-no-fault : (p : List ℕ) → valueFault (string p) ≡ 0 → length p ≤ 256
+no-fault : (p : List ℕ) → valueFault (string p) ≡ noFault → length p ≤ 256
 unfolding valueFault
-no-fault p e = by-test (tooLong (string p)) (λ t. let z : _≡_ {A = ℕ} 10 0 = rw t at e in absurd (omega arith)) (short p)
+no-fault p e = by-test (tooLong (string p)) (λ t. absurd (true≢false (ap isRefused (rw t at e)))) (short p)
 
 -- what is said of a value that is no integer: pairs of at most 256 bytes, which are its payload
 pub record Said (k : ℕ) (s : List ℕ) : Type 0 where
@@ -60,7 +61,7 @@ module _ (k : ℕ) (s : List ℕ) where
         payload = rw f (sym (word-again (fromPairs s) (omega (arith, length-from s)) (from-bytes s (pairs-hex s p .0))));
       }
 
-  said-string : k ≡ 0x73 → isValue k s ≡ true → valueFault (valueSaid k s) ≡ 0 → Said k s
+  said-string : k ≡ 0x73 → isValue k s ≡ true → valueFault (valueSaid k s) ≡ noFault → Said k s
   unfolding isValue valueSaid kindOfLetter kindOf payloadOf
   said-string f v e =
       record {
@@ -70,7 +71,7 @@ module _ (k : ℕ) (s : List ℕ) where
         payload = rw f;
       }
 
-  pub said : (k ≡ 0x69 → ⊥) → isValue k s ≡ true → valueFault (valueSaid k s) ≡ 0 → Said k s
+  pub said : (k ≡ 0x69 → ⊥) → isValue k s ≡ true → valueFault (valueSaid k s) ≡ noFault → Said k s
   unfolding isValue
   said i v e =
       by-test (eqb k 0x66) (λ t. said-float (eqb-true k 0x66 t) v)

@@ -1,21 +1,18 @@
 -- 02's two sentences: loading what was printed, and printing what was loaded.
 use Prim.Native.Nat.{ℕ, _*_, _/_, _≤_}
 use mathlib.Core.Bool.{Bool, true, false}
-use mathlib.Core.Path.{_≡_, refl, sym, ap, ap₂, _∙_, subst}
+use mathlib.Core.Path.{_≡_, refl, sym, ap, _∙_, subst}
 use mathlib.Core.List.{List, [], _∷_, map}
 use native.Mathlib.Omega.{arith}
 use native.Mathlib.Nat.{mul-div-le, mul-le-mul-left}
-use borrow.Author.Tests.{leb-true, le-leb, eqb-false}
+use borrow.Author.Tests.{leb-true, le-leb}
 use lib.Dec.{leb, eqb}
 use lib.ListN.{length, drop, length-map}
-use Rattle.wing_node.specs.Bool.{if}
+use Rattle.wing_node.specs.declared.refusal.Refusal.{Refusal}
 use Rattle.wing_node.specs.Signed.{InBits}
 use Rattle.wing_node.specs.Utf8.{Decides}
-use Rattle.wing_node.specs.Value.{NodeValue, integer, float, string}
-use Rattle.wing_node.specs.Field.{big}
 use Rattle.wing_node.proofs.Branches.{branch}
 use Rattle.wing_node.proofs.Numerals.Numbers.{digits-take, digits-drop}
-use Rattle.wing_wire.specs.State.{freshState}
 use Rattle.wing_wire.specs.Range.{AreBytes}
 use Rattle.wing_mirror.specs.Rows.{Table, records, laid, All}
 use Rattle.wing_mirror.specs.Entry.{Entry, ids, risingIds}
@@ -31,7 +28,7 @@ use Rattle.wing_mirror.proofs.Records.Ids.{rising-ids}
 use Rattle.wing_mirror.proofs.Records.Entries.{each, rows-valid, rows-back, rows-rise}
 use Rattle.wing_listing.specs.Listing.{listingOf, printed}
 use Rattle.wing_listing.specs.Reading.{isLine, entrySaid, Reading, good, bad, readingOf}
-use Rattle.wing_listing.specs.Calls.{LoadEffect, loadEffect, replyOf, sentBack, loadEntries, loadRead, loadOf}
+use Rattle.wing_listing.specs.Calls.{LoadEffect, loadEffect, replyOf, loadEntries, loadRead, loadOf}
 use Rattle.wing_listing.specs.FirstBad.{PrintedLine}
 use Rattle.wing_listing.specs.BothWays.{EqualMirror, PrintsAgain, BothWays}
 use Rattle.wing_listing.specs.declared.answer.Loaded.{Loaded}
@@ -41,7 +38,7 @@ use Rattle.wing_listing.proofs.Texts.Lines.{true-false}
 use Rattle.wing_listing.proofs.Texts.Said.{DigitBytes, line-formed, line-again}
 use Rattle.wing_listing.proofs.Texts.Shown.{digit-bytes, said-printable}
 use Rattle.wing_listing.proofs.Texts.Decided.{taken, wrong}
-use Rattle.wing_listing.proofs.Texts.Listed.{Rises, rises-all, rising-all, Listable, listing-read, listing-said}
+use Rattle.wing_listing.proofs.Texts.Listed.{rises-all, rising-all, Listable, listing-read, listing-said}
 
 -- ---- entries laid into a memory are a usable table that says them
 
@@ -111,7 +108,7 @@ abbrev recordsIn : Loaded → ℕ
 recordsIn (Records n) = n
 recordsIn (Refused why line) = 0
 
-not-records : {A : Type 0} {why line n : ℕ} → Refused why line ≡ Records n → A
+not-records : {A : Type 0} {why : Refusal} {line n : ℕ} → Refused why line ≡ Records n → A
 not-records e = absurd (true-false (sym (ap isRecords e)))
 
 -- what a text is that is loaded

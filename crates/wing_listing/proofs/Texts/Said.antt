@@ -1,22 +1,23 @@
 -- A value's text and a line, both ways: what is printed is in form and says the entry, and what is in form is what its entry prints.
-use Prim.Native.Nat.{ℕ, zero, suc, _+_, _/_, _%_, _^_, _≤_, _<_}
-use mathlib.Core.Bool.{Bool, true, false, not}
+use Prim.Native.Nat.{ℕ, zero, suc, _+_, _/_, _%_, _^_, _<_}
+use mathlib.Core.Bool.{true, false, not, true≢false}
 use mathlib.Core.Path.{_≡_, refl, sym, ap, ap₂, _∙_, subst}
 use mathlib.Core.List.{List, [], _∷_, _++_}
 use native.Mathlib.Omega.{arith}
-use borrow.Author.Tests.{ltb-true, leb-true, eqb-true, eqb-false, eq-eqb, ne-eqb}
-use lib.Dec.{ltb, leb, eqb}
+use borrow.Author.Tests.{ltb-true, eqb-true, eq-eqb, ne-eqb}
+use lib.Dec.{leb, eqb}
 use lib.IntN.{ℤ}
 use lib.Signed.{mag}
 use lib.ListN.{length, getD, drop}
-use Rattle.wing_node.specs.Bool.{if, and}
+use Rattle.wing_node.specs.Refusal.{noFault, isRefused}
+use Rattle.wing_node.specs.Bool.{and}
 use Rattle.wing_node.specs.Decimal.{decimal, integerOf}
 use Rattle.wing_node.specs.Digits.{digitsIn}
 use Rattle.wing_node.specs.Field.{big, bytesOf}
 use Rattle.wing_node.specs.Signed.{InBits}
 use Rattle.wing_node.specs.Utf8.{utf8}
 use Rattle.wing_node.specs.Value.{NodeValue, integer, float, string}
-use Rattle.wing_node.proofs.Branches.{branch, if-both, and-left, and-right}
+use Rattle.wing_node.proofs.Branches.{if-both, and-left, and-right}
 use Rattle.wing_node.proofs.Numerals.Numbers.{Digits, length-digitsIn, number-below}
 use Rattle.wing_node.proofs.Numerals.Spelled.{read-back}
 use Rattle.wing_mirror.specs.Entry.{Entry, entry, storable, Typed}
@@ -73,7 +74,7 @@ text-said (integer x) t b = ap integer (read-back x)
 text-said (float bits) t b = ap float (ap big (pairs-formed (bytesOf 4 bits) (bytes-digits 4 bits) .1) ∙ word-back bits t)
 text-said (string s) t b = ap string (pairs-formed s b .1)
 
-pub text-faultless : (v : NodeValue) → storable v ≡ true → valueFault v ≡ 0
+pub text-faultless : (v : NodeValue) → storable v ≡ true → valueFault v ≡ noFault
 unfolding valueFault tooLong notText storable
 text-faultless (integer x) e = refl
 text-faultless (float bits) e = refl
@@ -169,14 +170,14 @@ said-bytes : (k : ℕ) (s : List ℕ) → isValue k s ≡ true → DigitBytes (v
 unfolding valueSaid
 said-bytes k s e = by-kind (λ j. DigitBytes (valueSaid j s)) k s e (λ i. tt) (λ l p. tt) (λ p. from-bytes s (pairs-hex s p .0))
 
-pub said-storable : (v : NodeValue) → valueFault v ≡ 0 → storable v ≡ true
+pub said-storable : (v : NodeValue) → valueFault v ≡ noFault → storable v ≡ true
 unfolding valueFault tooLong notText storable
 said-storable (integer x) e = refl
 said-storable (float bits) e = refl
 said-storable (string s) e =
     by-test (leb (length s) 256)
-    (λ t. rw t (by-test (utf8 s) (λ u. u) (λ u. absurd (let z : 1 ≡ 0 = rw (t, u) at e in omega arith))))
-    (λ t. absurd (let z : 10 ≡ 0 = rw t at e in omega arith))
+    (λ t. rw t (by-test (utf8 s) (λ u. u) (λ u. absurd (true≢false (ap isRefused (rw (t, u) at e))))))
+    (λ t. absurd (true≢false (ap isRefused (rw t at e))))
 
 module _ (s : List ℕ) (e : isLine s ≡ true) where
   -- the line of the entry that it says
@@ -202,5 +203,5 @@ module _ (s : List ℕ) (e : isLine s ≡ true) where
   unfolding entrySaid
   line-bytes = said-bytes (first (part comma 1 s)) (part comma 2 s) (formed-said s e)
 
-  pub line-valid : valueFault (entrySaid s .value) ≡ 0 → ValidEntry full (entrySaid s)
+  pub line-valid : valueFault (entrySaid s .value) ≡ noFault → ValidEntry full (entrySaid s)
   line-valid f = record { node = line-node; typed = line-typed; text = said-storable (entrySaid s .value) f; isKept = refl }

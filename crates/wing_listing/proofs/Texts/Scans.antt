@@ -1,22 +1,26 @@
 -- A text line by line: how its reading goes on after a line, what is counted, and what is left to be laid.
 use Prim.Native.Nat.{ℕ, zero, suc, _+_, _-_, _≤_, _<_}
-use mathlib.Core.Bool.{Bool, true, false, not}
-use mathlib.Core.Path.{_≡_, refl, sym, ap, _∙_, subst}
-use mathlib.Core.List.{List, [], _∷_, _++_}
+use mathlib.Core.Bool.{Bool, true, false, true≢false}
+use mathlib.Core.Path.{_≡_, refl, sym, ap, _∙_}
+use mathlib.Core.List.{List, [], _∷_}
 use native.Mathlib.Omega.{arith}
-use borrow.Author.Tests.{ltb-true, ltb-false, eqb-true, eqb-false, lt-ltb, eq-eqb, ne-eqb}
+use borrow.Author.Tests.{ltb-true, ltb-false, eqb-true, eqb-false, ne-eqb}
 use lib.Dec.{ltb, eqb}
 use lib.IntN.{ℤ}
-use lib.ListN.{length, getD, drop}
-use Rattle.wing_node.specs.Bool.{if, and}
+use lib.ListN.{length, drop}
+use Rattle.wing_node.specs.declared.refusal.Fault.the-variants.{None, Refused as Because}
+use Rattle.wing_node.specs.declared.refusal.Fault.{Fault}
+use Rattle.wing_node.specs.declared.refusal.Refusal.{Refusal}
+use Rattle.wing_node.specs.Refusal.{alone, noFault, isRefused}
+use Rattle.wing_node.specs.Bool.{if}
 use Rattle.wing_mirror.specs.Rows.{Found, found, nothing}
 use Rattle.wing_mirror.specs.Entry.{Entry}
 use Rattle.wing_mirror.specs.Query.{sameBytes}
 use Rattle.wing_mirror.proofs.Records.Equals.{bytes-true}
 use Rattle.wing_listing.specs.Parts.{newline, comma, parted, part}
 use Rattle.wing_listing.specs.Listing.{header}
-use Rattle.wing_listing.specs.Reading.{isLine, idSaid, entrySaid, above, valueFault, lineFault, Reading, good, bad, after, linesFrom, afterHeader, readingOf, entriesIn}
-use Rattle.wing_listing.specs.Steps.{integerRead, idBefore, scannedBad, scannedAs}
+use Rattle.wing_listing.specs.Reading.{isLine, idSaid, entrySaid, above, valueFault, lineFault, Reading, good, bad, after, unlessBad, linesFrom, afterHeader, readingOf, entriesIn}
+use Rattle.wing_listing.specs.Steps.{integerRead, scannedBad, scannedAs}
 use Rattle.wing_listing.specs.declared.scan.Scanned.{Scanned}
 use Rattle.wing_listing.proofs.Texts.Numbers.{by-test}
 use Rattle.wing_listing.proofs.Texts.Parts.{parted-some, parted-hit, parted-whole}
@@ -28,16 +32,16 @@ ne-zero (suc n) h = omega arith
 
 -- ---- a line and what is wrong with it
 
-module _ (before : Found ℤ) (line : List ℕ) (e : lineFault before line ≡ 0) where
+module _ (before : Found ℤ) (line : List ℕ) (e : lineFault before line ≡ noFault) where
   pub faultless-line : isLine line ≡ true
   unfolding lineFault
-  faultless-line = by-test (isLine line) (λ t. t) (λ t. absurd (let z : 17 ≡ 0 = rw t at e in omega arith))
+  faultless-line = by-test (isLine line) (λ t. t) (λ t. absurd (true≢false (ap isRefused (rw t at e))))
 
   pub faultless-id : above before (idSaid line) ≡ true
   unfolding lineFault
-  faultless-id = by-test (above before (idSaid line)) (λ t. t) (λ t. absurd (let z : 18 ≡ 0 = rw (faultless-line, t) at e in omega arith))
+  faultless-id = by-test (above before (idSaid line)) (λ t. t) (λ t. absurd (true≢false (ap isRefused (rw (faultless-line, t) at e))))
 
-  pub faultless-value : valueFault (entrySaid line .value) ≡ 0
+  pub faultless-value : valueFault (entrySaid line .value) ≡ noFault
   unfolding lineFault
   faultless-value = rw (faultless-line, faultless-id) at e
 
@@ -52,39 +56,38 @@ module _ (n : ℕ) (before : Found ℤ) where
   unfolding linesFrom parted
   lines-end = refl
 
-  pub lines-unended : (text : List ℕ) → 0 < length text → length text ≤ length (part newline 0 text) → linesFrom n before (parted newline text) ≡ bad 17 n
+  pub lines-unended : (text : List ℕ) → 0 < length text → length text ≤ length (part newline 0 text) → linesFrom n before (parted newline text) ≡ bad (alone 17) n
   unfolding linesFrom
   lines-unended text h k = ap (linesFrom n before) (parted-whole newline text k) ∙ rw (ne-eqb (length text) 0 (λ e. omega arith))
 
   pub lines-next : (text : List ℕ) → length (part newline 0 text) < length text →
       linesFrom n before (parted newline text) ≡
-      if (eqb (lineFault before (part newline 0 text)) 0)
+      unlessBad (lineFault before (part newline 0 text)) n
       (after (entrySaid (part newline 0 text)) (linesFrom (suc n) (found (idSaid (part newline 0 text))) (parted newline (drop (length (part newline 0 text) + 1) text))))
-      (bad (lineFault before (part newline 0 text)) n)
   unfolding linesFrom
   lines-next text h =
       let p = part newline 0 text in
       let r = drop (length p + 1) text in
       ap (linesFrom n before) (parted-hit newline text h ∙ ap (λ (ps : List (List ℕ)). p ∷ ps) (parted-some newline r)) ∙
-      ap (λ (ps : List (List ℕ)). if (eqb (lineFault before p) 0) (after (entrySaid p) (linesFrom (suc n) (found (idSaid p)) ps)) (bad (lineFault before p) n)) (sym (parted-some newline r))
+      ap (λ (ps : List (List ℕ)). unlessBad (lineFault before p) n (after (entrySaid p) (linesFrom (suc n) (found (idSaid p)) ps))) (sym (parted-some newline r))
 
-pub header-none : (text : List ℕ) → length text ≤ length (part newline 0 text) → readingOf text ≡ bad 17 1
+pub header-none : (text : List ℕ) → length text ≤ length (part newline 0 text) → readingOf text ≡ bad (alone 17) 1
 unfolding readingOf afterHeader
 header-none text h = ap afterHeader (parted-whole newline text h)
 
 pub header-next : (text : List ℕ) → length (part newline 0 text) < length text →
-    readingOf text ≡ if (sameBytes (part newline 0 text) header) (linesFrom 2 nothing (parted newline (drop (length (part newline 0 text) + 1) text))) (bad 17 1)
+    readingOf text ≡ if (sameBytes (part newline 0 text) header) (linesFrom 2 nothing (parted newline (drop (length (part newline 0 text) + 1) text))) (bad (alone 17) 1)
 unfolding readingOf afterHeader
 header-next text h =
     let p = part newline 0 text in
     let r = drop (length p + 1) text in
     ap afterHeader (parted-hit newline text h ∙ ap (λ (ps : List (List ℕ)). p ∷ ps) (parted-some newline r)) ∙
-    ap (λ (ps : List (List ℕ)). if (sameBytes p header) (linesFrom 2 nothing ps) (bad 17 1)) (sym (parted-some newline r))
+    ap (λ (ps : List (List ℕ)). if (sameBytes p header) (linesFrom 2 nothing ps) (bad (alone 17) 1)) (sym (parted-some newline r))
 
 -- ---- what is counted
 
 abbrev pub counted : ℕ → Reading → Scanned
-counted k (good es) = record { why = 0; line = 0; count = k + length es }
+counted k (good es) = record { fault = noFault; line = 0; count = k + length es }
 counted k (bad why line) = scannedBad why line
 
 pub counted-all : (r : Reading) → counted 0 r ≡ scannedAs r
@@ -106,7 +109,7 @@ Says n before text es = linesFrom n before (parted newline text) ≡ good es
 -- then the next line says the first of them, and nothing is wrong with it
 pub record Next (n : ℕ) (before : Found ℤ) (text : List ℕ) (es : List Entry) : Type 0 where
   pub ended : length (part newline 0 text) < length text
-  pub fault : lineFault before (part newline 0 text) ≡ 0
+  pub fault : lineFault before (part newline 0 text) ≡ noFault
   pub says : es ≡ entrySaid (part newline 0 text) ∷ drop 1 es
   pub rest : Says (suc n) (found (idSaid (part newline 0 text))) (drop (length (part newline 0 text) + 1) text) (drop 1 es)
 
@@ -114,7 +117,7 @@ abbrev isGood : Reading → Bool
 isGood (good es) = true
 isGood (bad why line) = false
 
-good-not : {A : Type 0} {es : List Entry} {why line : ℕ} → bad why line ≡ good es → A
+good-not : {A : Type 0} {es : List Entry} {why : Refusal} {line : ℕ} → bad why line ≡ good es → A
 good-not e = absurd (true-false (sym (ap isGood e)))
 
 after-good : (e : Entry) (r : Reading) (es : List Entry) → after e r ≡ good es → (es ≡ e ∷ drop 1 es) × (r ≡ good (drop 1 es))
@@ -144,12 +147,14 @@ ended-text n before text es l k =
 begun-text : (n : ℕ) (before : Found ℤ) (text : List ℕ) (es : List Entry) → Says n before text es → length (part newline 0 text) < length text → Next n before text es
 begun-text n before text es l k =
     let p = part newline 0 text in
-    let q = sym (lines-next n before text k) ∙ l in
-    by-test (eqb (lineFault before p) 0)
-    (λ u.
-    let g = after-good (entrySaid p) (linesFrom (suc n) (found (idSaid p)) (parted newline (drop (length p + 1) text))) es (rw u at q) in
-    record { ended = k; fault = eqb-true (lineFault before p) 0 u; says = g .0; rest = g .1 })
-    (λ u. good-not (rw u at q))
+    go (lineFault before p) refl (sym (lines-next n before text k) ∙ l)
+  where
+    rest : Reading
+    rest = linesFrom (suc n) (found (idSaid (part newline 0 text))) (parted newline (drop (length (part newline 0 text) + 1) text))
+
+    go : (f : Fault) → lineFault before (part newline 0 text) ≡ f → unlessBad f n (after (entrySaid (part newline 0 text)) rest) ≡ good es → Next n before text es
+    go None u q = let g = after-good (entrySaid (part newline 0 text)) rest es q in record { ended = k; fault = u; says = g .0; rest = g .1 }
+    go (Because why) u q = good-not q
 
 pub next-line : (n : ℕ) (before : Found ℤ) (text : List ℕ) (es : List Entry) → Says n before text es → 0 < length es → Next n before text es
 next-line n before text es l h =
@@ -171,7 +176,7 @@ module _ (text : List ℕ) (es : List Entry) (g : readingOf text ≡ good es) wh
       by-test (ltb (length (part newline 0 text)) (length text)) (ltb-true (length (part newline 0 text)) (length text))
       (λ t. good-not (sym (header-none text (ltb-false (length (part newline 0 text)) (length text) t)) ∙ g))
 
-  header-read : if (sameBytes (part newline 0 text) header) (linesFrom 2 nothing (parted newline (drop (length (part newline 0 text) + 1) text))) (bad 17 1) ≡ good es
+  header-read : if (sameBytes (part newline 0 text) header) (linesFrom 2 nothing (parted newline (drop (length (part newline 0 text) + 1) text))) (bad (alone 17) 1) ≡ good es
   header-read = sym (header-next text header-ended) ∙ g
 
   pub header-said : part newline 0 text ≡ header

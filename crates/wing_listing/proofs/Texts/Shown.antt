@@ -3,6 +3,7 @@ use Prim.Native.Nat.{ℕ, suc}
 use mathlib.Core.Bool.{true}
 use mathlib.Core.Path.{_≡_}
 use mathlib.Core.List.{List, [], _∷_}
+use Rattle.wing_node.specs.Refusal.{noFault}
 use Rattle.wing_node.specs.Value.{NodeValue, integer, float, string}
 use Rattle.wing_node.proofs.Numerals.Numbers.{Digits}
 use Rattle.wing_wire.specs.Range.{AreBytes, noBytes, byteThen}
@@ -31,5 +32,5 @@ module _ (line : List ℕ) (e : isLine line ≡ true) where
   pub said-printable : Printable (entrySaid line)
   said-printable = record { node = line-node line e; typed = line-typed line e; bytes = byte-digits (entrySaid line .value) (line-bytes line e) }
 
-  pub said-listable : valueFault (entrySaid line .value) ≡ 0 → Listable (entrySaid line)
+  pub said-listable : valueFault (entrySaid line .value) ≡ noFault → Listable (entrySaid line)
   said-listable f = (line-valid line e f, line-bytes line e)

@@ -1,7 +1,7 @@
 -- A line's value by its kind letter: whether it is in form, and what is wrong with it.
 use Prim.Native.Nat.{ℕ, _/_, _+_, _^_, _≤_, _<_}
-use mathlib.Core.Bool.{Bool, true, false, true≢false}
-use mathlib.Core.Path.{_≡_, sym, ap, _∙_}
+use mathlib.Core.Bool.{Bool, true, false, true≢false, not}
+use mathlib.Core.Path.{_≡_, sym, ap, _∙_, refl}
 use mathlib.Core.List.{List}
 use native.Mathlib.Omega.{arith}
 use borrow.Author.Tests.{ltb-true, ne-eqb, le-leb, lt-leb}
@@ -12,6 +12,7 @@ use lib.Dec.{eqb}
 use lib.Signed.{mag}
 use lib.ListN.{length, take, drop}
 use lib.Seq.{sets, sets-eq, take-append-seam}
+use Rattle.wing_node.specs.Refusal.{stringNotUtf8, noFault, because, byNumber, stringFault}
 use Rattle.wing_node.specs.Bool.{if}
 use Rattle.wing_node.specs.Decimal.{integerOf}
 use Rattle.wing_node.specs.Utf8.{utf8}
@@ -66,20 +67,23 @@ module _ (k : ℕ) (s : List ℕ) where
 
   module _ (e : k ≡ 0x73) (v : isValue k s ≡ true) where
     -- 02: a string over 256 bytes gets 10
-    pub fault-long : 512 < length s → 10 ≡ valueFault (valueSaid k s)
+    pub fault-long : 512 < length s → byNumber 10 ≡ valueFault (valueSaid k s)
     unfolding valueFault tooLong
     fault-long h =
         let p = pairs-hex s (value-pairs e v) .1 in
         rw (said-string e, lt-leb (length (fromPairs s)) 256 (omega (arith, length-from s)))
 
-    -- and one that is not UTF-8 gets 1
-    pub fault-text : length s ≤ 512 → (t : Bool) → utf8 (fromPairs s) ≡ t → if t 0 1 ≡ valueFault (valueSaid k s)
-    unfolding valueFault tooLong notText
-    fault-text h true u = rw (said-string e, le-leb (length (fromPairs s)) 256 (omega (arith, length-from s)), u)
-    fault-text h false u = rw (said-string e, le-leb (length (fromPairs s)) 256 (omega (arith, length-from s)), u)
+    -- and one that is not UTF-8 gets 1, with its good
+    pub fault-text : length s ≤ 512 → stringFault (fromPairs s) ≡ valueFault (valueSaid k s)
+    unfolding valueFault stringFault tooLong notText
+    fault-text h = rw (said-string e, le-leb (length (fromPairs s)) 256 (omega (arith, length-from s))) (go (utf8 (fromPairs s)))
+      where
+        go : (t : Bool) → if t noFault (because (stringNotUtf8 (fromPairs s))) ≡ if (not t) (because (stringNotUtf8 (fromPairs s))) noFault
+        go true = refl
+        go false = refl
 
   -- a number has no fault
-  pub fault-none : (k ≡ 0x73 → ⊥) → isValue k s ≡ true → 0 ≡ valueFault (valueSaid k s)
+  pub fault-none : (k ≡ 0x73 → ⊥) → isValue k s ≡ true → noFault ≡ valueFault (valueSaid k s)
   unfolding isValue valueSaid valueFault tooLong notText
   fault-none n v =
       by-test (eqb k 0x69)

@@ -7,6 +7,7 @@ use borrow.Author.Tests.{le-leb, lt-leb, leb-true}
 use lib.Dec.{ltb, leb}
 use lib.IntN.{ℤ}
 use lib.ListN.{length, take}
+use Rattle.wing_node.specs.Refusal.{alone, stringNotUtf8}
 use Rattle.wing_node.specs.Bool.{if}
 use Rattle.wing_node.specs.Utf8.{utf8}
 use Rattle.wing_node.specs.Value.{NodeValue, integer, float, string}
@@ -61,7 +62,7 @@ settled k out = record { answer = k .answer; out = out; table = k .after }
 module _ (L : Layout) (id : ℤ) (v : NodeValue) (t : Table) (out : List ℕ) where
   open Layout L using (width, keyOf, recordOf, keeping)
 
-  pub unusable : usable L t ≡ false → refusedSet 7 t out ≡ mirrorSet L id v t out
+  pub unusable : usable L t ≡ false → refusedSet (alone 7) t out ≡ mirrorSet L id v t out
   unfolding mirrorSet
   unusable u = rw u
 
@@ -70,7 +71,7 @@ module _ (L : Layout) (id : ℤ) (v : NodeValue) (t : Table) (out : List ℕ) wh
     takes-is : takes width keyOf (recordOf (entry id v)) t ≡ h
     takes-is = ap (λ (r : List ℕ). takes width keyOf r t) (sym er) ∙ sym eh
 
-    pub no-room : h ≡ false → refusedSet 6 t out ≡ mirrorSet L id v t out
+    pub no-room : h ≡ false → refusedSet (alone 6) t out ≡ mirrorSet L id v t out
     unfolding mirrorSet fits
     no-room q = rw (u, o, not-long v s, is-text v s, takes-is, q)
 
@@ -92,18 +93,18 @@ module _ (L : Layout) (id : ℤ) (v : NodeValue) (t : Table) (out : List ℕ) wh
 
 -- of a string that is refused for what it is: 7 before that
 module _ (L : Layout) (id : ℤ) (s : List ℕ) (t : Table) (out : List ℕ) (o : L .keeping (string s) ≡ kept) where
-  pub long-string : 256 < length s → refusedSet (if (usable L t) 10 7) t out ≡ mirrorSet L id (string s) t out
+  pub long-string : 256 < length s → refusedSet (if (usable L t) (alone 10) (alone 7)) t out ≡ mirrorSet L id (string s) t out
   unfolding mirrorSet tooLong
   long-string h = go (usable L t) refl
     where
-      go : (b : Bool) → usable L t ≡ b → refusedSet (if b 10 7) t out ≡ mirrorSet L id (string s) t out
+      go : (b : Bool) → usable L t ≡ b → refusedSet (if b (alone 10) (alone 7)) t out ≡ mirrorSet L id (string s) t out
       go true u = rw (u, o, lt-leb (length s) 256 h)
       go false u = rw u
 
-  pub bad-string : length s ≤ 256 → utf8 s ≡ false → refusedSet (if (usable L t) 1 7) t out ≡ mirrorSet L id (string s) t out
+  pub bad-string : length s ≤ 256 → utf8 s ≡ false → refusedSet (if (usable L t) (stringNotUtf8 s) (alone 7)) t out ≡ mirrorSet L id (string s) t out
   unfolding mirrorSet tooLong notText
   bad-string h q = go (usable L t) refl
     where
-      go : (b : Bool) → usable L t ≡ b → refusedSet (if b 1 7) t out ≡ mirrorSet L id (string s) t out
+      go : (b : Bool) → usable L t ≡ b → refusedSet (if b (stringNotUtf8 s) (alone 7)) t out ≡ mirrorSet L id (string s) t out
       go true u = rw (u, o, le-leb (length s) 256 h, q)
       go false u = rw u

@@ -7,6 +7,8 @@ use borrow.Author.Tests.{le-leb}
 use lib.Dec.{ltb, leb}
 use lib.IntN.{ℤ}
 use lib.ListN.{length, drop}
+use Rattle.wing_node.specs.declared.refusal.Refusal.{Refusal}
+use Rattle.wing_node.specs.Refusal.{alone, stringNotUtf8}
 use Rattle.wing_node.specs.Bool.{if}
 use Rattle.wing_node.specs.Utf8.{utf8}
 use Rattle.wing_node.specs.Value.{NodeValue, integer, float, string}
@@ -19,7 +21,7 @@ use Rattle.wing_mirror.specs.Rows.{Table}
 use Rattle.wing_mirror.specs.Entry.{entry, storable}
 use Rattle.wing_mirror.specs.Layout.{kept, Layout}
 use Rattle.wing_mirror.specs.Table.{usable, put, fits}
-use Rattle.wing_mirror.specs.Call.{tooLong, notText}
+use Rattle.wing_mirror.specs.Call.{textIn, tooLong, notText}
 use Rattle.wing_mirror.specs.Counts.{zeroCounts}
 use Rattle.wing_mirror.specs.Mirror.{tableTally, keepEvent, fedAll, takenFeed, mirrorFeed, SetEffect, refusedSet, mirrorSet}
 use Rattle.wing_mirror.specs.Machine.{decodeAll, events}
@@ -58,15 +60,15 @@ module _ (L : Layout) (id : ℤ) (v : NodeValue) (t : Table) (out : List ℕ) wh
   open Layout L using (keeping)
 
   -- what holds after every refusal, and after a set that is taken
-  pub set-cases : (P : SetEffect → Type 0) → ((n : ℕ) → P (refusedSet n t out)) →
+  pub set-cases : (P : SetEffect → Type 0) → ((why : Refusal) → P (refusedSet why t out)) →
       (keeping v ≡ kept → tooLong v ≡ false → notText v ≡ false → not (fits L (entry id v) t) ≡ false → ltb (length out) (length (setBytes id v)) ≡ false →
       P (record { answer = Bytes (length (setBytes id v)); out = setBytes id v ++ drop (length (setBytes id v)) out; table = put L (entry id v) t })) →
       P (mirrorSet L id v t out)
   unfolding mirrorSet
   set-cases P r w =
-      branch P (not (usable L t)) _ _ (λ _. r 7)
-      (λ _. keeping-cases P (keeping v) _ _ (λ mark number. r number)
-      (λ k. branch P (tooLong v) _ _ (λ _. r 10)
-      (λ a. branch P (notText v) _ _ (λ _. r 1)
-      (λ b. branch P (not (fits L (entry id v) t)) _ _ (λ _. r 6)
-      (λ c. branch P (ltb (length out) (length (setBytes id v))) _ _ (λ _. r 9) (w k a b c))))))
+      branch P (not (usable L t)) _ _ (λ _. r (alone 7))
+      (λ _. keeping-cases P (keeping v) _ _ (λ mark number. r (alone number))
+      (λ k. branch P (tooLong v) _ _ (λ _. r (alone 10))
+      (λ a. branch P (notText v) _ _ (λ _. r (stringNotUtf8 (textIn v)))
+      (λ b. branch P (not (fits L (entry id v) t)) _ _ (λ _. r (alone 6))
+      (λ c. branch P (ltb (length out) (length (setBytes id v))) _ _ (λ _. r (alone 9)) (w k a b c))))))

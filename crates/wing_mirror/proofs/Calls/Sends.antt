@@ -8,6 +8,7 @@ use borrow.Author.Tests.{eqb-false, le-ltb, lt-leb, leb-true}
 use lib.Dec.{leb, eqb}
 use lib.ListN.{length, take, drop, getD, length-append, length-drop}
 use lib.Seq.{sets-eq, length-take-le}
+use Rattle.wing_node.specs.Refusal.{alone}
 use Rattle.wing_node.specs.Bool.{if}
 use Rattle.wing_node.specs.Field.{big}
 use Rattle.wing_node.specs.Signed.{signed}
@@ -130,6 +131,6 @@ module _ (t : Table) where
   unfolding recallOf
   recalled out u = rw u
 
-  pub unusable : (out : List ℕ) → usable full t ≡ false → writeEffect (Refused 7) out ≡ recallOf full t out
+  pub unusable : (out : List ℕ) → usable full t ≡ false → writeEffect (Refused (alone 7)) out ≡ recallOf full t out
   unfolding recallOf
   unusable out u = rw u

@@ -7,6 +7,7 @@ use native.Mathlib.Omega.{arith}
 use native.Mathlib.Nat.{add-zero, add-assoc}
 use lib.IntN.{ℤ}
 use lib.ListN.{length}
+use Rattle.wing_node.specs.Refusal.{refusalNumber}
 use Rattle.wing_node.specs.Bool.{if}
 use Rattle.wing_node.specs.Definition.{definitionOf}
 use Rattle.wing_node.proofs.Branches.{branch}
@@ -50,7 +51,7 @@ keep-total L node (value v) k =
     P x = total (x .counts) ≤ suc (total (k .counts))
 keep-total L node (body b) k = tick-total (bodyMark (definitionOf b)) (k .counts)
 keep-total L node end k = tick-total Ended (k .counts)
-keep-total L node (refused n) k = tick-total (refusalMark n) (k .counts)
+keep-total L node (refused why) k = tick-total (refusalMark (refusalNumber why)) (k .counts)
 
 -- so the counts sum to at most the events
 pub fold-total : (L : Layout) (rs : List StreamEvent) (k : TableTally) → total (foldEvents (keepEvent L) rs k .counts) ≤ total (k .counts) + length rs
@@ -88,4 +89,4 @@ keep-adds L c node (value v) k = go (L .keeping v) (fits L (entry node v) (k .ta
     go kept false = ap (tableTally (k .table)) (tick-adds Unplaced c (k .counts))
 keep-adds L c node (body b) k = ap (tableTally (k .table)) (tick-adds (bodyMark (definitionOf b)) c (k .counts))
 keep-adds L c node end k = ap (tableTally (k .table)) (tick-adds Ended c (k .counts))
-keep-adds L c node (refused n) k = ap (tableTally (k .table)) (tick-adds (refusalMark n) c (k .counts))
+keep-adds L c node (refused why) k = ap (tableTally (k .table)) (tick-adds (refusalMark (refusalNumber why)) c (k .counts))

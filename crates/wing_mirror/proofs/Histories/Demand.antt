@@ -7,6 +7,7 @@ use native.Mathlib.Omega.{arith}
 use lib.Dec.{ltb}
 use lib.ListN.{length, take, drop, length-map}
 use lib.Seq.{take-append-seam}
+use Rattle.wing_node.specs.Refusal.{alone}
 use Rattle.wing_node.specs.Bool.{if}
 use Rattle.wing_wire.specs.Write.{WriteEffect, writeEffect, writeOf}
 use Rattle.wing_wire.specs.declared.write.Written.the-variants.{Bytes, Refused}
@@ -36,7 +37,7 @@ module _ {L : Layout} (laws : Lawful L) where
       bytes : List ℕ
       bytes = recallBytes L t
 
-      go : (u : Bool) → usable L t ≡ u → (s : Bool) → let x : WriteEffect = if u (if s (writeEffect (Refused 9) out) (writeEffect (Bytes (length bytes)) (bytes ++ drop (length bytes) out))) (writeEffect (Refused 7) out) in
+      go : (u : Bool) → usable L t ≡ u → (s : Bool) → let x : WriteEffect = if u (if s (writeEffect (Refused (alone 9)) out) (writeEffect (Bytes (length bytes)) (bytes ++ drop (length bytes) out))) (writeEffect (Refused (alone 7)) out) in
           x .answer ≡ Bytes n → (u ≡ true) × (take n (x .out) ≡ bytes)
       go true q true e = absurd (let z : _≡_ {A = ℕ} 0 1 = cc in omega arith)
       go true q false e = let k : length bytes ≡ n = cc in (refl, rw (← k) (take-append-seam bytes (drop (length bytes) out)))

@@ -9,6 +9,8 @@ use borrow.Author.Tests.{lt-ltb, ltb-true, leb-true, eq-eqb}
 use lib.Dec.{ltb, leb}
 use lib.IntN.{ℤ}
 use lib.ListN.{length, getD, replicate, length-replicate}
+use Rattle.wing_node.specs.declared.refusal.Refusal.{Refusal}
+use Rattle.wing_node.specs.Refusal.{alone}
 use Rattle.wing_node.specs.Bool.{if}
 use Rattle.wing_node.specs.Result.{Result, ok, refused}
 use Rattle.wing_node.specs.Signed.{InBits}
@@ -50,17 +52,17 @@ all-at P default (x ∷ xs) zero a l = a .0
 all-at P default (x ∷ xs) (suc n) a l = all-at P default xs n (a .1) (omega arith)
 
 -- a refusal is no value
-no-value : {A : Type 0} (n : ℕ) (a : A) → refused n ≡ ok a → ⊥
-no-value n a e = let z : _≡_ {A = ℕ} 0 1 = cc in omega arith
+no-value : {A : Type 0} (why : Refusal) (a : A) → refused why ≡ ok a → ⊥
+no-value why a e = let z : _≡_ {A = ℕ} 0 1 = cc in omega arith
 
 module _ {L : Layout} (laws : Lawful L) where
   open Layout L using (width, keyOf, entryIn)
 
-  lookup-refused : (t : Table) (id : ℤ) → usable L t ≡ false → lookupResult (lookupAnswer L t id) ≡ refused 7
+  lookup-refused : (t : Table) (id : ℤ) → usable L t ≡ false → lookupResult (lookupAnswer L t id) ≡ refused (alone 7)
   unfolding lookupAnswer lookupResult
   lookup-refused t id q = rw q
 
-  record-refused : (t : Table) (n : ℕ) → usable L t ≡ false → recordResult (recordAnswer L t n) ≡ refused 7
+  record-refused : (t : Table) (n : ℕ) → usable L t ≡ false → recordResult (recordAnswer L t n) ≡ refused (alone 7)
   unfolding recordAnswer entryResult
   record-refused t n q = rw q
 
@@ -85,7 +87,7 @@ module _ {L : Layout} (laws : Lawful L) where
     key-row n l = sym (row-stands laws (row n) (formed n l))
 
     -- a number that is not below the count
-    past : (n : ℕ) → ltb n (t .count) ≡ false → recordResult (recordAnswer L t n) ≡ refused 14
+    past : (n : ℕ) → ltb n (t .count) ≡ false → recordResult (recordAnswer L t n) ≡ refused (alone 14)
     unfolding recordAnswer entryResult
     past n q = rw (u, q)
 
@@ -120,7 +122,7 @@ module _ {L : Layout} (laws : Lawful L) where
               let w : _≡_ {A = Entry} (entryIn (row n)) (entry id (r .value)) = cc in
               let e : entryIn (row n) .id ≡ id = ap (λ (x : Entry). x .id) w in
               found-at keyOf [] (rankOf id) n (rows L t) (up L t u) (omega (arith, l, counted)) (key-row n l ∙ ap rankOf e)
-          go false q = absurd (no-value 14 (entry id (r .value)) (sym (past n q) ∙ r .read))
+          go false q = absurd (no-value (alone 14) (entry id (r .value)) (sym (past n q) ∙ r .read))
 
       -- lookup and record read, both ways
       pub at-row : (n : ℕ) → (lookupResult (lookupAnswer L t id) ≡ ok (found n) ↔ RecordOf L t n id)
@@ -143,12 +145,12 @@ module _ {L : Layout} (laws : Lawful L) where
 
   -- a table that is not usable is refused by both
   unusable : (t : Table) (id : ℤ) (n : ℕ) → usable L t ≡ false → (lookupResult (lookupAnswer L t id) ≡ ok (found n) ↔ RecordOf L t n id)
-  unusable t id n q = (λ e. absurd (no-value 7 (found n) (sym looks ∙ e)), λ r. absurd (no-value 7 (entry id (r .value)) (sym reads ∙ r .read)))
+  unusable t id n q = (λ e. absurd (no-value (alone 7) (found n) (sym looks ∙ e)), λ r. absurd (no-value (alone 7) (entry id (r .value)) (sym reads ∙ r .read)))
     where
-      looks : lookupResult (lookupAnswer L t id) ≡ refused 7
+      looks : lookupResult (lookupAnswer L t id) ≡ refused (alone 7)
       looks = lookup-refused t id q
 
-      reads : recordResult (recordAnswer L t n) ≡ refused 7
+      reads : recordResult (recordAnswer L t n) ≡ refused (alone 7)
       reads = record-refused t n q
 
   pub lookups : Lookups L

@@ -5,17 +5,18 @@ use mathlib.Core.Logic.{_↔_}
 use mathlib.Core.List.{List, [], _∷_, _++_, map, append-assoc, append-nil}
 use Prim.Native.Nat.{ℕ, zero, suc, _+_, _-_, _/_, _%_, _^_, _≤_, _<_}
 use native.Mathlib.Omega.{arith}
-use lib.Dec.{ltb, eqb}
+use lib.Dec.{eqb}
 use lib.ListN.{length, take, drop, length-append, length-drop, drop-of-length-le}
 use lib.Seq.{take-append-seam, drop-append-seam, drop-append-add, take-at, drop-at}
 use borrow.Author.Tests.{eq-eqb, lt-ltb, le-ltb}
+use Rattle.wing_node.specs.Refusal.{noFault, byNumber}
 use Rattle.wing_node.specs.Bool.{if, or}
 use Rattle.wing_node.specs.Result.{Result, ok, refused}
 use Rattle.wing_node.specs.Field.{big, bytesOf}
 use Rattle.wing_node.specs.Types.{typeOf, typeNumber, unitNumber, hasItems}
 use Rattle.wing_node.specs.Cursor.{Field, number, string, cursor, after}
 use Rattle.wing_node.specs.Standing.{extent, beyond, Stand}
-use Rattle.wing_node.specs.Definition.{FieldName, ParentId, Id, Index, Name, LongName, Flags, Min, Max, Steps, Count, MaxLen, form, header, added, times, itemsOf, definitionOf}
+use Rattle.wing_node.specs.Definition.{FieldName, ParentId, Id, Index, Name, LongName, Flags, Min, Max, Steps, Count, MaxLen, form, header, added, times, itemsOf}
 use Rattle.wing_node.specs.Laid.{laid, laidAll, FitsAll}
 use Rattle.wing_node.specs.Answers.{DefinitionValues, valuesOf, detailsBy, parsedResult}
 use Rattle.wing_node.specs.InBody.{numberNamed, bytesNamed, typeIn, namesIn, countIn, allFields, firstIn, definitionIn}
@@ -23,13 +24,14 @@ use Rattle.wing_node.specs.Written.{laidBy}
 use Rattle.wing_node.specs.Writer.{Lent, lent, typeGiven, holds, bodyGiven, exactItems, texts, roomFault, faultOf, bodyOfFields}
 use Rattle.wing_node.specs.Anew.{fieldsBy, fieldsOf, itemBytes, lentFrom}
 use Rattle.wing_node.specs.BothWays.{BothWays, Canonical, flagsIn, Ends, flagsAt, flagsAnew, WrittenAnew, gives, Reading}
+use Rattle.wing_node.specs.declared.refusal.Refusal.the-variants.{Number}
+use Rattle.wing_node.specs.declared.refusal.Fault.{Fault}
 use Rattle.wing_node.specs.declared.node_type.NodeType.{NodeType}
 use Rattle.wing_node.specs.declared.node_type.NodeType.the-variants.{Node, LinearFloat, LogarithmicFloat, FaderLevel, Integer, StringEnum, FloatEnum, String}
 use Rattle.wing_node.specs.declared.definition.Span.{Span}
 use Rattle.wing_node.specs.declared.definition.Details.{Details}
 use Rattle.wing_node.specs.declared.definition.Details.the-variants.{None, Floats, Integers, Items, String as maxLen}
 use Rattle.wing_node.specs.declared.definition.Definition.{Definition}
-use Rattle.wing_node.specs.declared.definition.Parsed.the-variants.{Good}
 use Rattle.wing_node.specs.declared.writer.Fields.{Fields}
 use Rattle.wing_node.proofs.Numerals.Numbers.{Digits, length-digitsIn, number-digits}
 use Rattle.wing_node.proofs.Numerals.Signs.{unsigned-signed}
@@ -39,7 +41,7 @@ use Rattle.wing_node.proofs.Bodies.InBody.{has, number-later}
 use Rattle.wing_node.proofs.Bodies.Parsing.{taken, said}
 use Rattle.wing_node.proofs.Bodies.Laid.{laid-stand, laid-extent}
 use Rattle.wing_node.proofs.Bodies.Walks.{no-count}
-use Rattle.wing_node.proofs.Bodies.Back.{Passed, passed-lent, writer-gives, written-back}
+use Rattle.wing_node.proofs.Bodies.Back.{givenBy, Passed, passed-lent, writer-gives, written-back}
 use Rattle.wing_node.proofs.Bodies.Held.{contentsIn, stand-laid, stand-fits, stand-texts, stand-within, named-contents, number-back, string-back, extent-laid, front-laid}
 
 -- the fields of a definition by what the parser said of it
@@ -142,7 +144,7 @@ none-lent : (n : ℕ) (s : List ℕ) → [] ≡ take (extent (times n []) s) s
 none-lent n s = rw (no-extent n s)
 
 some-lent : (t : NodeType) (n first : ℕ) (body : List ℕ) → Stand (itemsOf t n) (drop first body) →
-    take (after (itemsOf t n) body (cursor first 0) .at - first) (drop first body) ≡ take (extent (itemsOf t n) (drop first body)) (drop first body)
+    take (after (itemsOf t n) body (cursor first noFault) .at - first) (drop first body) ≡ take (extent (itemsOf t n) (drop first body)) (drop first body)
 some-lent t n first body h =
     let e : first + extent (itemsOf t n) (drop first body) - first ≡ extent (itemsOf t n) (drop first body) = omega arith in
     rw (passes (itemsOf t n) body first h, e)
@@ -389,7 +391,7 @@ module _ (body : List ℕ) (b : Digits 256 body) (stand : Stand (allFields body)
 -- by the parser's own answer
 abbrev valuesIn : DefinitionValues → Result DefinitionValues → DefinitionValues
 valuesIn v (ok w) = w
-valuesIn v (refused n) = v
+valuesIn v (refused why) = v
 
 said-values : (r s : DefinitionValues) → _≡_ {A = Result DefinitionValues} (ok r) (ok s) → r ≡ s
 said-values r s e = ap (valuesIn r) e
@@ -409,15 +411,15 @@ module _ (body out : List ℕ) (d : Definition) (reading : Reading body d) where
       ap (λ (g : Fields). gives (bodyOfFields g (lentFrom body d) out)) (same-fields body d (d .details)) ∙
       ap (λ (v : DefinitionValues). gives (bodyOfFields (fieldsSaid v) (lentSaid body v) out)) values-are
 
-  came : (n : ℕ) → roomFault anew out ≡ n → gives (bodyOfFields (fieldsOf d) (lentFrom body d) out) ≡ if (eqb n 0) (ok anew) (refused n)
-  came n e = given-is ∙ writer-gives _ _ out ∙ rw (anew-fault body (reading .bytes) body-stands out, e)
+  came : (x : Fault) → roomFault anew out ≡ x → gives (bodyOfFields (fieldsOf d) (lentFrom body d) out) ≡ givenBy x anew
+  came x e = given-is ∙ writer-gives _ _ out ∙ rw (anew-fault body (reading .bytes) body-stands out, e)
 
   long-is : length anew ≡ extent (allFields body) body
   long-is = anew-length body (reading .bytes) body-stands
 
-  pub written-long : 4096 < extent (allFields body) body → gives (bodyOfFields (fieldsOf d) (lentFrom body d) out) ≡ refused 2
+  pub written-long : 4096 < extent (allFields body) body → gives (bodyOfFields (fieldsOf d) (lentFrom body d) out) ≡ refused (Number 2)
   unfolding roomFault
-  written-long h = came 2 (rw (long-is, lt-ltb 4096 (extent (allFields body) body) h))
+  written-long h = came (byNumber 2) (rw (long-is, lt-ltb 4096 (extent (allFields body) body) h))
 
   module _ (fits : extent (allFields body) body ≤ 4096) where
     pub written-anew : extent (allFields body) body ≤ length out → WrittenAnew body (gives (bodyOfFields (fieldsOf d) (lentFrom body d) out))
@@ -425,16 +427,16 @@ module _ (body out : List ℕ) (d : Definition) (reading : Reading body d) where
     written-anew h =
         record {
           bytes = anew;
-          written = came 0 (rw (long-is, le-ltb 4096 (extent (allFields body) body) fits, le-ltb (length out) (extent (allFields body) body) h));
+          written = came noFault (rw (long-is, le-ltb 4096 (extent (allFields body) body) fits, le-ltb (length out) (extent (allFields body) body) h));
           same = same-bytes body (reading .bytes) body-stands;
           front = anew-front body (reading .bytes) body-stands;
           flags = anew-flags body (reading .bytes) body-stands;
           rest = anew-rest body (reading .bytes) body-stands;
         }
 
-    pub written-short : length out < extent (allFields body) body → gives (bodyOfFields (fieldsOf d) (lentFrom body d) out) ≡ refused 9
+    pub written-short : length out < extent (allFields body) body → gives (bodyOfFields (fieldsOf d) (lentFrom body d) out) ≡ refused (Number 9)
     unfolding roomFault
-    written-short h = came 9 (rw (long-is, le-ltb 4096 (extent (allFields body) body) fits, lt-ltb (length out) (extent (allFields body) body) h))
+    written-short h = came (byNumber 9) (rw (long-is, le-ltb 4096 (extent (allFields body) body) fits, lt-ltb (length out) (extent (allFields body) body) h))
 
 pub both-ways : BothWays
 both-ways = record { back = written-back; anew = written-anew; long = written-long; short = written-short }

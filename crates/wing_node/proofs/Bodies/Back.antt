@@ -1,35 +1,39 @@
 -- What is written reads back as the fields that were given: the laws of Laid, at the bytes that the writer lays.
 use mathlib.Core.Path.{_≡_, refl, _∙_, ap, sym, subst}
-use mathlib.Core.Bool.{Bool, true, false, not}
+use mathlib.Core.Bool.{Bool, true, false, not, true≢false}
+use mathlib.Core.Logic.{_↔_, inl, inr}
 use mathlib.Core.List.{List, [], _∷_, _++_, map}
-use Prim.Native.Nat.{ℕ, zero, suc, _+_, _-_, _/_, _%_, _^_, _≤_, _<_}
+use Prim.Native.Nat.{ℕ, _+_, _-_, _/_, _%_, _^_, _≤_, _<_}
 use native.Mathlib.Omega.{arith}
 use lib.Dec.{ltb, eqb}
 use lib.IntN.{ℤ, pos, negsuc}
 use lib.ListN.{length, take, drop, length-append, length-drop}
-use lib.Seq.{take-append-seam}
-use borrow.Author.Tests.{ne-eqb, eqb-true, le-ltb, ltb-false}
+use lib.Seq.{drop-drop, take-append-seam}
+use borrow.Author.Tests.{eqb-true, le-ltb, ltb-false}
 use Rattle.wing_node.specs.Bool.{if, or}
+use Rattle.wing_node.specs.Refusal.{noFault, because, byNumber, isRefused, firstFault, textFault}
 use Rattle.wing_node.specs.Result.{Result, ok, refused}
 use Rattle.wing_node.specs.Signed.{signed, unsigned, InBits}
 use Rattle.wing_node.specs.Bytes.{placed}
 use Rattle.wing_node.specs.Field.{big, bytesOf}
 use Rattle.wing_node.specs.Utf8.{utf8, Decides}
 use Rattle.wing_node.specs.Types.{typeOf, unitOf, hasItems}
-use Rattle.wing_node.specs.Cursor.{Field, size, right}
-use Rattle.wing_node.specs.Standing.{extent, Stand, empty, more}
+use Rattle.wing_node.specs.Cursor.{Field, size, right, heldFault}
+use Rattle.wing_node.specs.Standing.{Whole, NotUtf8, extent, beyond, Stand, empty, more, StopsAt}
 use Rattle.wing_node.specs.Definition.{FieldName, Flags, Min, Max, form, header, added, itemsOf}
 use Rattle.wing_node.specs.Laid.{FitsAll, numberOf}
 use Rattle.wing_node.specs.Answers.{none, valuesBy, detailsBy}
 use Rattle.wing_node.specs.InBody.{countIn, walkIn}
 use Rattle.wing_node.specs.Parsing.{numberSays, stepSays, walked, Walking}
 use Rattle.wing_node.specs.Written.{laidBy, numbersOf, kindOf, namesOf, frontOf, countOf}
-use Rattle.wing_node.specs.Writer.{Lent, typeGiven, flagsOf, limit, holds, bodyGiven, tooLong, exactItems, Exactly, texts, allTexts, lentFault, roomFault, faultOf, bodyEffect, bodyPut, bodyOfFields}
+use Rattle.wing_node.specs.Writer.{Lent, typeGiven, flagsOf, limit, holds, bodyGiven, tooLong, exactItems, Exactly, field, texts, textsFault, allTextsFault, lentFault, roomFault, faultOf, bodyPut, bodyOfFields}
 use Rattle.wing_node.specs.BothWays.{detailsGiven, valuesGiven, InWidth, itemGiven, Canonical, flagsIn, Ends, ReadsAsGiven, gives}
+use Rattle.wing_node.specs.declared.refusal.Refusal.the-variants.{DefinitionNotUtf8}
+use Rattle.wing_node.specs.declared.refusal.Fault.{Fault}
+use Rattle.wing_node.specs.declared.refusal.Fault.the-variants.{None, Refused as Because}
 use Rattle.wing_node.specs.declared.node_type.NodeType.{NodeType}
 use Rattle.wing_node.specs.declared.node_type.NodeType.the-variants.{Node, LinearFloat, LogarithmicFloat, FaderLevel, Integer, StringEnum, FloatEnum, String}
 use Rattle.wing_node.specs.declared.writer.Fields.{Fields}
-use Rattle.wing_node.specs.declared.writer.BodyWritten.the-variants.{Bytes, Refused}
 use Rattle.wing_node.proofs.Branches.{and-left, and-right}
 use Rattle.wing_node.proofs.Numerals.Numbers.{number-digits}
 use Rattle.wing_node.proofs.Numerals.Signs.{signed-unsigned}
@@ -37,13 +41,16 @@ use Rattle.wing_node.proofs.Bodies.Laid.{same-flags, same-count, same-e
 use Rattle.wing_node.proofs.Bodies.Walks.{definitions}
 use Rattle.wing_node.proofs.Bodies.Given.{holds-fits, all-fit}
 use Rattle.wing_node.proofs.Bodies.Checks.{exactly-takes}
+use Rattle.wing_node.proofs.Bodies.Faults.{text-passes, texts-cons, texts-parts, texts-none, all-pass}
+use Rattle.wing_node.proofs.Bodies.Standing.{faultGood, Found, find}
 use Rattle.wing_node.proofs.Bodies.Held.{stand-texts}
 
 -- fields that take exactly the bytes, and whose strings are UTF-8, stand
 pub exact-stand : (fs : List Field) (s : List ℕ) → extent fs s ≡ length s → texts fs s ≡ true → Stand fs s
-unfolding extent texts
+unfolding extent
 exact-stand [] s e t = empty
-exact-stand (f ∷ fs) s e t =
+exact-stand (f ∷ fs) s e p =
+    let t = sym (texts-cons f fs s) ∙ p in
     let whole : size f s ≤ length s = omega arith in
     let rest : extent fs (drop (size f s) s) ≡ length (drop (size f s) s) = omega (arith, length-drop (size f s) s) in
     more whole (and-left (right f s) (texts fs (drop (size f s) s)) t) (exact-stand fs (drop (size f s) s) rest (and-right (right f s) (texts fs (drop (size f s) s)) t))
@@ -51,6 +58,34 @@ exact-stand (f ∷ fs) s e t =
 -- and of fields that take exactly the bytes the test of their strings decides it
 pub texts-decide : (fs : List Field) (s : List ℕ) → Exactly fs s → Decides (texts fs s) (Stand fs s)
 texts-decide fs s h = record { right = λ t. exact-stand fs s (exactly-takes fs s h) t; whole = stand-texts fs s }
+
+held-wrong : (g : ℕ) (f : Field) (s : List ℕ) → NotUtf8 g f s → heldFault f s ≡ because (DefinitionNotUtf8 g)
+unfolding heldFault
+held-wrong g f s (w, r, e) = rw (r, e)
+
+-- the first string that fails is the row's fault
+first-fails : (fs : List Field) (s : List ℕ) (g : ℕ) → StopsAt (NotUtf8 g) fs s → textsFault fs s ≡ because (DefinitionNotUtf8 g)
+unfolding textsFault
+first-fails fs s g h =
+    let there = beyond (h .stood) s in
+    let before : textsFault (h .stood) s ≡ noFault = texts-none (h .stood) s (stand-texts (h .stood) s (h .stand)) in
+    let rest = textsFault (h .others) (drop (size (h .next) there) there) in
+    rw (h .row, texts-parts (h .stood) (h .next ∷ h .others) s, before) (ap (λ x. firstFault x rest) (held-wrong g (h .next) there (h .fails)))
+
+-- of fields that take exactly the bytes each is whole
+exactly-whole : (fs : List Field) (f : Field) (gs : List Field) (s : List ℕ) → Exactly (fs ++ (f ∷ gs)) s → Whole f (beyond fs s)
+unfolding extent
+exactly-whole [] f gs s (field w h) = w
+exactly-whole (e ∷ fs) f gs s (field w h) = rw drop-drop at (exactly-whole fs f gs (drop (size e s) s) h)
+
+-- and of such fields the fault is that of the first string that fails, exactly
+pub texts-first : (fs : List Field) (s : List ℕ) → Exactly fs s → (g : ℕ) → (textsFault fs s ≡ because (DefinitionNotUtf8 g)) ↔ StopsAt (NotUtf8 g) fs s
+texts-first fs s x g = (λ e. go e (find fs s), first-fails fs s g)
+  where
+    go : textsFault fs s ≡ because (DefinitionNotUtf8 g) → Found fs s → StopsAt (NotUtf8 g) fs s
+    go e (inl h) = absurd (true≢false (ap isRefused (sym e ∙ texts-none fs s (stand-texts fs s h))))
+    go e (inr (inl h)) = absurd (h .fails (exactly-whole (h .stood) (h .next) (h .others) s (subst (λ l. Exactly l s) (h .row) x)))
+    go e (inr (inr (k, h))) = subst (λ n. StopsAt (NotUtf8 n) fs s) (ap faultGood (sym (first-fails fs s k h) ∙ e)) h
 
 unsigned-below : (x : ℤ) → InBits 31 x → unsigned 31 x < 256 ^ 4
 unsigned-below (pos n) h = omega arith
@@ -211,25 +246,26 @@ front-read : (b out : List ℕ) → take (length b) (placed out 0 b) ≡ b
 unfolding placed
 front-read b out = take-append-seam b (drop (0 + length b) out)
 
-pub put-gives : (fault : ℕ) (b out : List ℕ) → gives (bodyPut fault b out) ≡ if (eqb fault 0) (ok b) (refused fault)
-put-gives fault b out = go (eqb fault 0)
-  where
-    go : (z : Bool) → gives (if z (bodyEffect (Bytes (length b)) (placed out 0 b)) (bodyEffect (Refused fault) out)) ≡ if z (ok b) (refused fault)
-    go true = ap ok (front-read b out)
-    go false = refl
+abbrev pub givenBy : Fault → List ℕ → Result (List ℕ)
+givenBy None b = ok b
+givenBy (Because why) b = refused why
 
-pub writer-gives : (d : Fields) (l : Lent) (out : List ℕ) → gives (bodyOfFields d l out) ≡ if (eqb (faultOf d l out) 0) (ok (bodyGiven d l)) (refused (faultOf d l out))
+pub put-gives : (fault : Fault) (b out : List ℕ) → gives (bodyPut fault b out) ≡ givenBy fault b
+put-gives None b out = ap ok (front-read b out)
+put-gives (Because why) b out = refl
+
+pub writer-gives : (d : Fields) (l : Lent) (out : List ℕ) → gives (bodyOfFields d l out) ≡ givenBy (faultOf d l out) (bodyGiven d l)
 unfolding bodyOfFields
 writer-gives d l out = put-gives (faultOf d l out) (bodyGiven d l) out
 
 abbrev bytesIn : Result (List ℕ) → List ℕ
 bytesIn (ok b) = b
-bytesIn (refused n) = []
+bytesIn (refused why) = []
 
 -- bytes that are given are the body, and nothing was at fault
-given : (z : Bool) (b body : List ℕ) (n : ℕ) → if z (ok b) (refused n) ≡ ok body → (z ≡ true) × (b ≡ body)
-given true b body n e = (refl, ap (λ (r : Result (List ℕ)). bytesIn r) e)
-given false b body n e = absurd (let z : _≡_ {A = ℕ} 0 1 = cc in omega arith)
+given : (fault : Fault) (b body : List ℕ) → givenBy fault b ≡ ok body → (fault ≡ noFault) × (b ≡ body)
+given None b body e = (refl, ap (λ (r : Result (List ℕ)). bytesIn r) e)
+given (Because why) b body e = absurd (let z : _≡_ {A = ℕ} 0 1 = cc in omega arith)
 
 -- what follows from no fault
 pub record Passed (d : Fields) (l : Lent) : Type 0 where
@@ -241,44 +277,45 @@ pub record Passed (d : Fields) (l : Lent) : Type 0 where
   pub longName : utf8 (l .longName) ≡ true
   pub items : texts (itemsOf (typeGiven d) (d .count)) (l .items) ≡ true
 
-pub lent-passed : (d : Fields) (l : Lent) → lentFault d l ≡ 0 → Passed d l
+pub lent-passed : (d : Fields) (l : Lent) → lentFault d l ≡ noFault → Passed d l
 unfolding lentFault
 lent-passed d l e =
     let exact = exactItems (typeGiven d) (d .count) (l .items) in
-    go (tooLong l) (ltb 7 (d .«node_type»)) (ltb 7 (d .unit)) exact (allTexts d l) refl refl refl refl refl e
+    go (tooLong l) (ltb 7 (d .«node_type»)) (ltb 7 (d .unit)) exact refl refl refl refl e
   where
-    go : (a b c x y : Bool) → tooLong l ≡ a → ltb 7 (d .«node_type») ≡ b → ltb 7 (d .unit) ≡ c → exactItems (typeGiven d) (d .count) (l .items) ≡ x → allTexts d l ≡ y →
-        _≡_ {A = ℕ} (if a 15 (if (or b (or c (not x))) 16 (if y 0 5))) 0 → Passed d l
-    go true b c x y p q r s t e = absurd (omega arith)
-    go false true c x y p q r s t e = absurd (omega arith)
-    go false false true x y p q r s t e = absurd (omega arith)
-    go false false false false y p q r s t e = absurd (omega arith)
-    go false false false true false p q r s t e = absurd (omega arith)
-    go false false false true true p q r s t e =
-        let others = and-right (utf8 (l .name)) _ t in
+    go : (a b c x : Bool) → tooLong l ≡ a → ltb 7 (d .«node_type») ≡ b → ltb 7 (d .unit) ≡ c → exactItems (typeGiven d) (d .count) (l .items) ≡ x →
+        if a (byNumber 15) (if (or b (or c (not x))) (byNumber 16) (allTextsFault d l)) ≡ noFault → Passed d l
+    go true b c x p q r s e = absurd (true≢false (ap isRefused e))
+    go false true c x p q r s e = absurd (true≢false (ap isRefused e))
+    go false false true x p q r s e = absurd (true≢false (ap isRefused e))
+    go false false false false p q r s e = absurd (true≢false (ap isRefused e))
+    go false false false true p q r s e =
+        let all = all-pass (textFault (l .name)) (textFault (l .longName)) (textsFault (itemsOf (typeGiven d) (d .count)) (l .items)) e in
+        let passes : Fault → Bool = λ x. not (isRefused x) in
         record {
           short = p;
           type = ltb-false _ _ q;
           unit = ltb-false _ _ r;
           exact = s;
-          name = and-left (utf8 (l .name)) _ t;
-          longName = and-left (utf8 (l .longName)) _ others;
-          items = and-right (utf8 (l .longName)) _ others;
+          name = sym (text-passes (l .name)) ∙ ap passes (all .0);
+          longName = sym (text-passes (l .longName)) ∙ ap passes (all .1);
+          items = ap passes (all .2);
         }
 
-pub passed-lent : (d : Fields) (l : Lent) → Passed d l → lentFault d l ≡ 0
-unfolding lentFault
-passed-lent d l p = rw (p .short, le-ltb 7 (d .«node_type») (p .type), le-ltb 7 (d .unit) (p .unit), p .exact, p .name, p .longName, p .items)
+pub passed-lent : (d : Fields) (l : Lent) → Passed d l → lentFault d l ≡ noFault
+unfolding lentFault textFault
+passed-lent d l p =
+    rw (p .short, le-ltb 7 (d .«node_type») (p .type), le-ltb 7 (d .unit) (p .unit), p .exact, p .name, p .longName) (texts-none (itemsOf (typeGiven d) (d .count)) (l .items) (p .items))
 
-pub lent-none : (d : Fields) (l : Lent) (out : List ℕ) → faultOf d l out ≡ 0 → lentFault d l ≡ 0
-lent-none d l out e = go (lentFault d l) refl e
+pub lent-none : (d : Fields) (l : Lent) (out : List ℕ) → faultOf d l out ≡ noFault → lentFault d l ≡ noFault
+lent-none d l out e = go (lentFault d l) e
   where
-    go : (n : ℕ) → lentFault d l ≡ n → if (eqb n 0) (roomFault (bodyGiven d l) out) n ≡ 0 → lentFault d l ≡ 0
-    go zero q h = q
-    go (suc n) q h = absurd (let z : suc n ≡ 0 = rw (ne-eqb (suc n) 0 (λ x. omega arith)) at h in omega arith)
+    go : (x : Fault) → firstFault x (roomFault (bodyGiven d l) out) ≡ noFault → x ≡ noFault
+    go None h = refl
+    go (Because why) h = absurd (true≢false (ap isRefused h))
 
 pub written-back : (d : Fields) (l : Lent) (out : List ℕ) → InWidth d → (body : List ℕ) → gives (bodyOfFields d l out) ≡ ok body → ReadsAsGiven d l body
 written-back d l out w body e =
-    let both = given (eqb (faultOf d l out) 0) (bodyGiven d l) body (faultOf d l out) (sym (writer-gives d l out) ∙ e) in
-    let p = lent-passed d l (lent-none d l out (eqb-true _ _ (both .0))) in
+    let both = given (faultOf d l out) (bodyGiven d l) body (sym (writer-gives d l out) ∙ e) in
+    let p = lent-passed d l (lent-none d l out (both .0)) in
     subst (ReadsAsGiven d l) (both .1) (reads-as-given d l w (p .type) (p .unit) (p .name) (p .longName) (p .exact) (p .items))

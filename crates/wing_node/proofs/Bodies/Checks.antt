@@ -1,8 +1,8 @@
--- The check of items in one pass: their lengths, and whether their strings are UTF-8.
+-- The check of items in one pass: their lengths, and the first of their strings that is not UTF-8.
 use mathlib.Core.Path.{_≡_, refl, _∙_, ap, sym}
 use mathlib.Core.Bool.{Bool, true, false, not}
 use mathlib.Core.Logic.{_⊎_, inl, inr}
-use mathlib.Core.List.{List, [], _∷_, _++_}
+use mathlib.Core.List.{List, [], _∷_}
 use Prim.Native.Nat.{ℕ, zero, suc, min, _+_, _-_, _≤_, _<_}
 use native.Mathlib.Omega.{arith}
 use native.Mathlib.Nat.{zero-min, min-zero, suc-min-suc}
@@ -11,25 +11,28 @@ use lib.ListN.{length, take, drop, getD, length-drop, drop-of-length-le}
 use lib.Seq.{drop-drop}
 use borrow.Author.Tests.{eq-eqb, eqb-true, ne-eqb, le-ltb}
 use Rattle.wing_node.specs.Bool.{if, and, or}
-use Rattle.wing_node.specs.Utf8.{utf8, charsFrom, Decides}
+use Rattle.wing_node.specs.Utf8.{utf8, goodFrom, good, Decides}
+use Rattle.wing_node.specs.Refusal.{definitionNotUtf8, noFault, because, byNumber, firstFault, textFault}
 use Rattle.wing_node.specs.Types.{typeOf, hasItems}
-use Rattle.wing_node.specs.Cursor.{Field, number, string, size, content, right}
-use Rattle.wing_node.specs.Standing.{extent, beyond}
+use Rattle.wing_node.specs.Cursor.{Field, number, string, size, content, right, heldFault}
+use Rattle.wing_node.specs.Standing.{extent}
 use Rattle.wing_node.specs.Definition.{times, itemOf, itemsOf}
-use Rattle.wing_node.specs.Writer.{Lent, typeGiven, exactItems, Exactly, end, field, ExactItems, unfit, texts, allTexts, lentFault}
+use Rattle.wing_node.specs.Writer.{Lent, typeGiven, exactItems, Exactly, end, field, ExactItems, unfit, textsFault, lentFault}
+use Rattle.wing_node.specs.declared.refusal.Fault.{Fault}
 use Rattle.wing_node.specs.declared.node_type.NodeType.{NodeType}
 use Rattle.wing_node.specs.declared.writer.Fields.{Fields}
 use Rattle.wing_node.proofs.Branches.{and-left, and-right}
 use Rattle.wing_node.proofs.Bodies.Cases.{first-byte}
 use Rattle.wing_node.proofs.Bodies.Standing.{extent-parts}
+use Rattle.wing_node.proofs.Bodies.Faults.{first-assoc, first-none, texts-parts}
 
 pub and-true : (b : Bool) → b ≡ and b true
 and-true true = refl
 and-true false = refl
 
 -- a string past the end: its length byte reads as 0
-pub string-none : (s : List ℕ) (at : ℕ) → length s ≤ at → (at + 1 ≡ at + size string (drop at s)) × (true ≡ right string (drop at s))
-unfolding size right content utf8 charsFrom
+pub string-none : (s : List ℕ) (at : ℕ) → length s ≤ at → (at + 1 ≡ at + size string (drop at s)) × (noFault ≡ heldFault string (drop at s))
+unfolding size heldFault right content utf8 goodFrom good
 string-none s at h = rw (drop-of-length-le s {i = at} h) (refl, refl)
 
 -- as many as there are
@@ -40,11 +43,11 @@ take-there (suc n) (a ∷ s) = rw suc-min-suc (ap (λ l. a ∷ l) (take-there n 
 
 -- a string whose length byte is there
 pub string-there : (s : List ℕ) (at e : ℕ) → e ≡ min (getD s at 0) (length s - at - 1) →
-    (at + 1 + getD s at 0 ≡ at + size string (drop at s)) × (utf8 (take e (drop (at + 1) s)) ≡ right string (drop at s))
-unfolding size right content
+    (at + 1 + getD s at 0 ≡ at + size string (drop at s)) × (textFault (take e (drop (at + 1) s)) ≡ heldFault string (drop at s))
+unfolding size heldFault right content textFault
 string-there s at e h =
     let k : length (drop (at + 1) s) ≡ length s - at - 1 = length-drop (at + 1) s ∙ omega arith in
-    rw (first-byte, drop-drop, h, ← k) (omega arith, ap utf8 (take-there (getD s at 0) (drop (at + 1) s)))
+    rw (first-byte, drop-drop, h, ← k) (omega arith, ap (λ (t : List ℕ). if (utf8 t) noFault (because (definitionNotUtf8 t))) (take-there (getD s at 0) (drop (at + 1) s)))
 
 -- a string is at most 256 bytes
 pub string-within : (s : List ℕ) (at : ℕ) → getD s at 0 < 256 → size string (drop at s) ≤ 256
@@ -52,41 +55,30 @@ unfolding size
 string-within s at h = rw first-byte (omega arith)
 
 -- an item of two strings, the second where the first ends
-pub two-strings : (s : List ℕ) (at n m : ℕ) (p q : Bool) → (n ≡ at + size string (drop at s)) × (p ≡ right string (drop at s)) →
-    (m ≡ n + size string (drop n s)) × (q ≡ right string (drop n s)) →
-    (m ≡ at + extent (string ∷ string ∷ []) (drop at s)) × (and p q ≡ texts (string ∷ string ∷ []) (drop at s))
-unfolding extent texts
+pub two-strings : (s : List ℕ) (at n m : ℕ) (p q : Fault) → (n ≡ at + size string (drop at s)) × (p ≡ heldFault string (drop at s)) →
+    (m ≡ n + size string (drop n s)) × (q ≡ heldFault string (drop n s)) →
+    (m ≡ at + extent (string ∷ string ∷ []) (drop at s)) × (firstFault p q ≡ textsFault (string ∷ string ∷ []) (drop at s))
+unfolding extent textsFault
 two-strings s at n m p q a b =
     let z : size string (drop n s) + 0 ≡ size string (drop n s) = omega arith in
-    let x : right string (drop n s) ≡ and (right string (drop n s)) true = and-true (right string (drop n s)) in
-    rw (drop-drop, ← a .0) (b .0 ∙ omega (arith, a .0), rw (a .1, b .1) (ap (and (right string (drop at s))) x))
+    rw (drop-drop, ← a .0) (b .0 ∙ omega (arith, a .0), rw (a .1, b .1, first-none (heldFault string (drop n s))))
 
 number-size : (w : ℕ) (s : List ℕ) → size (number w) s ≡ w
 unfolding size
 number-size w s = refl
 
-number-right : (w : ℕ) (s : List ℕ) → right (number w) s ≡ true
-unfolding right
-number-right w s = refl
+number-held : (w : ℕ) (s : List ℕ) → heldFault (number w) s ≡ noFault
+unfolding heldFault right
+number-held w s = refl
 
 -- an item of float bits and a string after them
-pub float-string : (s : List ℕ) (at m : ℕ) (q : Bool) → (m ≡ at + 4 + size string (drop (at + 4) s)) × (q ≡ right string (drop (at + 4) s)) →
-    (m ≡ at + extent (number 4 ∷ string ∷ []) (drop at s)) × (q ≡ texts (number 4 ∷ string ∷ []) (drop at s))
-unfolding extent texts
+pub float-string : (s : List ℕ) (at m : ℕ) (q : Fault) → (m ≡ at + 4 + size string (drop (at + 4) s)) × (q ≡ heldFault string (drop (at + 4) s)) →
+    (m ≡ at + extent (number 4 ∷ string ∷ []) (drop at s)) × (q ≡ textsFault (number 4 ∷ string ∷ []) (drop at s))
+unfolding extent textsFault
 float-string s at m q b =
     let four = number-size 4 (drop at s) in
-    let t = number-right 4 (drop at s) in
-    rw (four, t, drop-drop) (b .0 ∙ omega arith, b .1 ∙ and-true (right string (drop (at + 4) s)))
-
-pub and-assoc : (a b c : Bool) → and (and a b) c ≡ and a (and b c)
-and-assoc true b c = refl
-and-assoc false b c = refl
-
-texts-parts : (fs gs : List Field) (s : List ℕ) → texts (fs ++ gs) s ≡ and (texts fs s) (texts gs (beyond fs s))
-unfolding texts extent
-texts-parts [] gs s = refl
-texts-parts (f ∷ fs) gs s =
-    rw (texts-parts fs gs (drop (size f s) s), drop-drop) (sym (and-assoc (right f s) (texts fs (drop (size f s) s)) _))
+    let t = number-held 4 (drop at s) in
+    rw (four, t, drop-drop, first-none (heldFault string (drop (at + 4) s))) (b .0 ∙ omega arith, b .1)
 
 -- one item of those that are left
 pub items-extent : (t : NodeType) (n at : ℕ) (s : List ℕ) → 0 < n →
@@ -98,7 +90,7 @@ items-extent t (suc n) at s h =
     rw (e, ← drop-drop, extent-parts (itemOf t) (times n (itemOf t)) (drop at s)) (omega arith)
 
 pub items-texts : (t : NodeType) (n at : ℕ) (s : List ℕ) → 0 < n →
-    texts (itemsOf t n) (drop at s) ≡ and (texts (itemOf t) (drop at s)) (texts (itemsOf t (n - 1)) (drop (at + extent (itemOf t) (drop at s)) s))
+    textsFault (itemsOf t n) (drop at s) ≡ firstFault (textsFault (itemOf t) (drop at s)) (textsFault (itemsOf t (n - 1)) (drop (at + extent (itemOf t) (drop at s)) s))
 unfolding times
 items-texts t zero at s h = absurd (omega arith)
 items-texts t (suc n) at s h =
@@ -110,8 +102,8 @@ unfolding times extent
 no-extent t zero s h = refl
 no-extent t (suc n) s h = absurd (omega arith)
 
-pub no-texts : (t : NodeType) (n : ℕ) (s : List ℕ) → n ≤ 0 → texts (itemsOf t n) s ≡ true
-unfolding times texts
+pub no-texts : (t : NodeType) (n : ℕ) (s : List ℕ) → n ≤ 0 → textsFault (itemsOf t n) s ≡ noFault
+unfolding times textsFault
 no-texts t zero s h = refl
 no-texts t (suc n) s h = absurd (omega arith)
 
@@ -119,79 +111,53 @@ and-false : (a : Bool) → and a false ≡ false
 and-false true = refl
 and-false false = refl
 
-abbrev fault-by : Bool → Bool → ℕ
-fault-by exact text = if exact (if text 0 5) 16
-
-if-not : (b : Bool) (m n : ℕ) → if b m n ≡ if (not b) n m
+if-not : (b : Bool) (m n : Fault) → if b m n ≡ if (not b) n m
 if-not true m n = refl
 if-not false m n = refl
 
--- the fault of fields whose type and unit are at most 7, by whether the type has items
-module _ (type unit count : ℕ) (items : List ℕ) (fits : type ≤ 7) (suits : unit ≤ 7) where
+-- the fault of fields whose type and unit are at most 7, after that of the names, by whether the type has items
+module _ (type unit count : ℕ) (items : List ℕ) (names : Fault) (fits : type ≤ 7) (suits : unit ≤ 7) where
   abbrev t : NodeType
   t = typeOf type
 
-  abbrev fault : ℕ
-  fault = if (unfit type unit count items) 16 (if (texts (itemsOf t count) items) 0 5)
+  abbrev strings : Fault
+  strings = firstFault names (textsFault (itemsOf t count) items)
+
+  abbrev fault : Fault
+  fault = if (unfit type unit count items) (byNumber 16) strings
 
   abbrev bytes : Bool
   bytes = eqb (extent (itemsOf t count) items) (length items)
 
-  by-exact : (b : Bool) → exactItems t count items ≡ b → fault-by b (texts (itemsOf t count) items) ≡ fault
-  by-exact b e = sym (rw (le-ltb 7 type fits, le-ltb 7 unit suits, e) (sym (if-not b _ 16)))
+  by-exact : (b : Bool) → exactItems t count items ≡ b → if b strings (byNumber 16) ≡ fault
+  by-exact b e = sym (rw (le-ltb 7 type fits, le-ltb 7 unit suits, e) (sym (if-not b _ (byNumber 16))))
 
-  pub with-items : hasItems t ≡ true → fault-by bytes (texts (itemsOf t count) items) ≡ fault
+  pub with-items : hasItems t ≡ true → if bytes strings (byNumber 16) ≡ fault
   unfolding exactItems
   with-items h = by-exact bytes (rw h (sym (and-true bytes)))
 
-  pub with-count : hasItems t ≡ false → 0 < count → 16 ≡ fault
+  pub with-count : hasItems t ≡ false → 0 < count → byNumber 16 ≡ fault
   unfolding exactItems
   with-count h p = by-exact false (rw (h, ne-eqb count 0 (λ z. omega arith)) (and-false bytes))
 
-  pub with-bytes : count ≤ 0 → 0 < length items → 16 ≡ fault
+  pub with-bytes : count ≤ 0 → 0 < length items → byNumber 16 ≡ fault
   unfolding exactItems
   with-bytes z p = by-exact false (rw (ne-eqb (extent (itemsOf t count) items) (length items) (λ e. omega (arith, no-extent t count items z))))
 
-  pub without-items : hasItems t ≡ false → count ≤ 0 → length items ≤ 0 → 0 ≡ fault
+  pub without-items : hasItems t ≡ false → count ≤ 0 → length items ≤ 0 → names ≡ fault
   unfolding exactItems
   without-items h z p =
       let e : extent (itemsOf t count) items ≡ length items = omega (arith, no-extent t count items z) in
       let exact : exactItems t count items ≡ true = rw (h, eq-eqb count 0 (omega arith), eq-eqb (extent (itemsOf t count) items) (length items) e) in
-      ap (λ b. if {A = ℕ} b 0 5) (sym (no-texts t count items z)) ∙ by-exact true exact
+      sym (first-none names) ∙ ap (firstFault names) (sym (no-texts t count items z)) ∙ by-exact true exact
 
-is-sixteen : (u t : Bool) → _≡_ {A = ℕ} (if u 16 (if t 0 5)) 16 → u ≡ true
-is-sixteen true t h = refl
-is-sixteen false true h = absurd (omega arith)
-is-sixteen false false h = absurd (omega arith)
-
-not-sixteen : (u t : Bool) → (_≡_ {A = ℕ} (if u 16 (if t 0 5)) 16 → ⊥) → u ≡ false
-not-sixteen true t h = absurd (h refl)
-not-sixteen false t h = refl
-
--- what is lent, with names of at most 255 bytes, by the fault of the fields and their items
-module _ (d : Fields) (l : Lent) (why : ℕ) (said : why ≡ if (unfit (d .«node_type») (d .unit) (d .count) (l .items)) 16 (if (texts (itemsOf (typeGiven d) (d .count)) (l .items)) 0 5))
-    (fits : length (l .name) ≤ 255) (suits : length (l .longName) ≤ 255) where
-  abbrev isUnfit : Bool
-  isUnfit = unfit (d .«node_type») (d .unit) (d .count) (l .items)
-
-  abbrev itemTexts : Bool
-  itemTexts = texts (itemsOf (typeGiven d) (d .count)) (l .items)
-
-  past-names : lentFault d l ≡ if isUnfit 16 (if (allTexts d l) 0 5)
-  unfolding lentFault
-  past-names = rw (le-ltb 255 (length (l .name)) fits, le-ltb 255 (length (l .longName)) suits)
-
-  pub lent-unfit : why ≡ 16 → 16 ≡ lentFault d l
-  lent-unfit e = sym (past-names ∙ ap (λ b. if b 16 (if {A = ℕ} (allTexts d l) 0 5)) (is-sixteen isUnfit itemTexts (sym said ∙ e)))
-
-  fit : (why ≡ 16 → ⊥) → isUnfit ≡ false
-  fit n = not-sixteen isUnfit itemTexts (λ e. n (said ∙ e))
-
-  pub lent-fit : (why ≡ 16 → ⊥) → utf8 (l .name) ≡ true → utf8 (l .longName) ≡ true → why ≡ lentFault d l
-  lent-fit n a b = said ∙ rw (fit n) (sym (past-names ∙ rw (fit n, a, b)))
-
-  pub lent-wrong : (why ≡ 16 → ⊥) → and (utf8 (l .name)) (utf8 (l .longName)) ≡ false → 5 ≡ lentFault d l
-  lent-wrong n h = sym (past-names ∙ rw (fit n, ← and-assoc (utf8 (l .name)) (utf8 (l .longName)) itemTexts, h))
+-- what is lent, with names of at most 255 bytes, by the fault of the fields after that of the names
+pub lent-names : (d : Fields) (l : Lent) → length (l .name) ≤ 255 → length (l .longName) ≤ 255 →
+    if (unfit (d .«node_type») (d .unit) (d .count) (l .items)) (byNumber 16)
+    (firstFault (firstFault (textFault (l .name)) (textFault (l .longName))) (textsFault (itemsOf (typeGiven d) (d .count)) (l .items))) ≡ lentFault d l
+unfolding lentFault
+lent-names d l fits suits =
+    rw (le-ltb 255 (length (l .name)) fits, le-ltb 255 (length (l .longName)) suits, first-assoc (textFault (l .name)) (textFault (l .longName)))
 
 either-way : (b : Bool) → or b true ≡ true
 either-way true = refl

@@ -1,8 +1,10 @@
 -- Lists of fields: in a row, after a refusal, and item by item.
 use mathlib.Core.Path.{_≡_, refl, _∙_, ap}
+use mathlib.Core.Bool.{true}
 use mathlib.Core.List.{List, [], _∷_, _++_}
-use Prim.Native.Nat.{ℕ, zero, suc, _+_, _-_, _≤_, _<_}
+use Prim.Native.Nat.{ℕ, zero, suc, _-_, _≤_, _<_}
 use native.Mathlib.Omega.{arith}
+use Rattle.wing_node.specs.Refusal.{isRefused}
 use Rattle.wing_node.specs.Cursor.{Field, readAt, after}
 use Rattle.wing_node.specs.Definition.{times, itemOf, itemsOf, itemAt}
 use Rattle.wing_node.specs.declared.cursor.Cursor.{Cursor}
@@ -14,7 +16,7 @@ unfolding after
 after-append [] gs body c = refl
 after-append (f ∷ fs) gs body c = after-append fs gs body (readAt f body c .next)
 
-pub after-refused : (fs : List Field) (body : List ℕ) (c : Cursor) → (c .refused ≡ 0 → ⊥) → after fs body c ≡ c
+pub after-refused : (fs : List Field) (body : List ℕ) (c : Cursor) → isRefused (c .fault) ≡ true → after fs body c ≡ c
 unfolding after
 after-refused [] body c h = refl
 after-refused (f ∷ fs) body c h = ap (λ r. after fs body (r .next)) (read-refused f body c h) ∙ after-refused fs body c h

@@ -1,23 +1,26 @@
 -- The body of given fields: each field fits its form, how long it is, and how it is laid part by part.
 use mathlib.Core.Path.{_≡_, refl, _∙_, ap, sym}
-use mathlib.Core.Bool.{Bool, true, false}
+use mathlib.Core.Bool.{Bool, true, false, true≢false}
 use mathlib.Core.List.{List, [], _∷_, _++_, map, append-assoc}
 use Prim.Native.Nat.{ℕ, _+_, _≤_, _<_}
 use native.Mathlib.Omega.{arith}
 use lib.Dec.{ltb}
 use lib.ListN.{length, length-append}
 use lib.Seq.{sets}
-use borrow.Author.Tests.{ne-eqb, lt-ltb, le-ltb, ltb-false}
+use borrow.Author.Tests.{lt-ltb, le-ltb, ltb-false}
 use Rattle.wing_node.specs.Bool.{if, or}
 use Rattle.wing_node.specs.Bytes.{placed}
 use Rattle.wing_node.specs.Signed.{unsigned}
-use Rattle.wing_node.specs.Utf8.{utf8, charsFrom}
+use Rattle.wing_node.specs.Utf8.{utf8, goodFrom, good}
+use Rattle.wing_node.specs.Refusal.{noFault, because, byNumber, isRefused}
 use Rattle.wing_node.specs.Cursor.{size}
 use Rattle.wing_node.specs.Standing.{extent}
 use Rattle.wing_node.specs.Laid.{laid, laidAll, Fits, FitsAll, empty, more}
 use Rattle.wing_node.specs.Definition.{FieldName, ParentId, Id, Index, Name, LongName, Flags, Min, Max, Steps, Count, MaxLen, form, header, added}
 use Rattle.wing_node.specs.Written.{laidBy}
-use Rattle.wing_node.specs.Writer.{Lent, lent, typeGiven, flagsOf, limit, holds, bodyGiven, unfit, allTexts, lentFault, roomFault, bodyEffect, bodyOfFields}
+use Rattle.wing_node.specs.Writer.{Lent, lent, typeGiven, flagsOf, limit, holds, bodyGiven, unfit, allTextsFault, lentFault, roomFault, bodyEffect, bodyOfFields}
+use Rattle.wing_node.specs.declared.refusal.Refusal.{Refusal}
+use Rattle.wing_node.specs.declared.refusal.Refusal.the-variants.{Number}
 use Rattle.wing_node.specs.declared.node_type.NodeType.{NodeType}
 use Rattle.wing_node.specs.declared.node_type.NodeType.the-variants.{Node, LinearFloat, LogarithmicFloat, FaderLevel, Integer, StringEnum, FloatEnum, String}
 use Rattle.wing_node.specs.declared.writer.Fields.{Fields}
@@ -68,7 +71,7 @@ added-small FloatEnum = omega arith
 added-small String = omega arith
 
 no-text : utf8 [] ≡ true
-unfolding utf8 charsFrom
+unfolding utf8 goodFrom good
 no-text = refl
 
 pub added-length : (d : Fields) (t : NodeType) → length (laidBy (holds d (lent [] [] [])) (added t)) ≡ extent (map form (added t)) []
@@ -127,33 +130,30 @@ module _ (d : Fields) (l : Lent) where
 
 -- what the call leaves, case by case
 module _ (d : Fields) (l : Lent) (out : List ℕ) where
-  pub effect-refused : (n : ℕ) → n ≡ lentFault d l → (n ≡ 0 → ⊥) → bodyEffect (Refused n) out ≡ bodyOfFields d l out
+  pub effect-refused : (why : Refusal) → because why ≡ lentFault d l → bodyEffect (Refused why) out ≡ bodyOfFields d l out
   unfolding bodyOfFields
-  effect-refused n e h = simp (← e, ne-eqb n 0 h)
+  effect-refused why e = rw (← e)
 
-  module _ (why : ℕ) (said : why ≡ lentFault d l) (good : why ≡ 0) where
-    none : lentFault d l ≡ 0
-    none = sym said ∙ good
-
+  module _ (none : noFault ≡ lentFault d l) where
     pub names-short : (length (l .name) ≤ 255) × (length (l .longName) ≤ 255)
     unfolding lentFault
     names-short = go (ltb 255 (length (l .name))) (ltb 255 (length (l .longName))) refl refl none
       where
         go : (a b : Bool) → ltb 255 (length (l .name)) ≡ a → ltb 255 (length (l .longName)) ≡ b →
-            _≡_ {A = ℕ} (if (or a b) 15 (if (unfit (d .«node_type») (d .unit) (d .count) (l .items)) 16 (if (allTexts d l) 0 5))) 0 → (length (l .name) ≤ 255) × (length (l .longName) ≤ 255)
-        go true b p q h = absurd (omega arith)
-        go false true p q h = absurd (omega arith)
+            noFault ≡ if (or a b) (byNumber 15) (if (unfit (d .«node_type») (d .unit) (d .count) (l .items)) (byNumber 16) (allTextsFault d l)) → (length (l .name) ≤ 255) × (length (l .longName) ≤ 255)
+        go true b p q h = absurd (true≢false (sym (ap isRefused h)))
+        go false true p q h = absurd (true≢false (sym (ap isRefused h)))
         go false false p q h = (ltb-false _ _ p, ltb-false _ _ q)
 
-    pub effect-large : 4096 < length (bodyGiven d l) → bodyEffect (Refused 2) out ≡ bodyOfFields d l out
+    pub effect-large : 4096 < length (bodyGiven d l) → bodyEffect (Refused (Number 2)) out ≡ bodyOfFields d l out
     unfolding bodyOfFields roomFault
-    effect-large h = simp (none, lt-ltb 4096 (length (bodyGiven d l)) h)
+    effect-large h = simp (← none, lt-ltb 4096 (length (bodyGiven d l)) h)
 
-    pub effect-short : length (bodyGiven d l) ≤ 4096 → length out < length (bodyGiven d l) → bodyEffect (Refused 9) out ≡ bodyOfFields d l out
+    pub effect-short : length (bodyGiven d l) ≤ 4096 → length out < length (bodyGiven d l) → bodyEffect (Refused (Number 9)) out ≡ bodyOfFields d l out
     unfolding bodyOfFields roomFault
-    effect-short h k = simp (none, le-ltb 4096 (length (bodyGiven d l)) h, lt-ltb (length out) (length (bodyGiven d l)) k)
+    effect-short h k = simp (← none, le-ltb 4096 (length (bodyGiven d l)) h, lt-ltb (length out) (length (bodyGiven d l)) k)
 
     pub effect-written : length (bodyGiven d l) ≤ 4096 → length (bodyGiven d l) ≤ length out →
         bodyEffect (Bytes (length (bodyGiven d l))) (placed out 0 (bodyGiven d l)) ≡ bodyOfFields d l out
     unfolding bodyOfFields roomFault
-    effect-written h k = simp (none, le-ltb 4096 (length (bodyGiven d l)) h, le-ltb (length out) (length (bodyGiven d l)) k)
+    effect-written h k = simp (← none, le-ltb 4096 (length (bodyGiven d l)) h, le-ltb (length out) (length (bodyGiven d l)) k)

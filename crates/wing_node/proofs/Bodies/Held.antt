@@ -16,11 +16,12 @@ use Rattle.wing_node.specs.Definition.{FieldName, nameNumber, form, head
 use Rattle.wing_node.specs.Laid.{laid, laidAll, FitsAll, empty as emptyFit, more as moreFit}
 use Rattle.wing_node.specs.Standing.{Whole, extent, beyond, Stand, empty, more}
 use Rattle.wing_node.specs.InBody.{numberNamed, bytesNamed}
-use Rattle.wing_node.specs.Writer.{texts}
+use Rattle.wing_node.specs.Writer.{texts, textsFault}
 use Rattle.wing_node.specs.declared.node_type.NodeType.{NodeType}
 use Rattle.wing_node.specs.declared.node_type.NodeType.the-variants.{Node, LinearFloat, LogarithmicFloat, FaderLevel, Integer, StringEnum, FloatEnum, String}
 use Rattle.wing_node.proofs.Numerals.Numbers.{Digits, digits-take, digits-drop, digits-number, number-below}
 use Rattle.wing_node.proofs.Bodies.InBody.{has, one-name}
+use Rattle.wing_node.proofs.Bodies.Faults.{texts-cons}
 use Rattle.wing_node.proofs.Bodies.Laid.{laid-extent}
 
 -- what fields in a row hold
@@ -57,9 +58,9 @@ stand-fits [] s empty = emptyFit
 stand-fits (f ∷ fs) s (more w r h) = fits-one f s w r fs (contentsIn fs (drop (size f s) s)) (stand-fits fs (drop (size f s) s) h)
 
 pub stand-texts : (fs : List Field) (s : List ℕ) → Stand fs s → texts fs s ≡ true
-unfolding texts
+unfolding textsFault
 stand-texts [] s empty = refl
-stand-texts (f ∷ fs) s (more w r h) = rw (r, stand-texts fs (drop (size f s) s) h)
+stand-texts (f ∷ fs) s (more w r h) = texts-cons f fs s ∙ rw (r, stand-texts fs (drop (size f s) s) h)
 
 pub stand-within : (fs : List Field) (s : List ℕ) → Stand fs s → extent fs s ≤ length s
 unfolding extent

@@ -2,12 +2,13 @@
 use mathlib.Core.Path.{_≡_, refl, _∙_, ap, sym}
 use mathlib.Core.Bool.{Bool, true, false}
 use mathlib.Core.List.{List, [], _∷_, _++_, map}
-use Prim.Native.Nat.{ℕ, zero, suc, _+_, _/_, _%_}
+use Prim.Native.Nat.{ℕ, _+_, _/_, _%_}
 use native.Mathlib.Omega.{arith}
 use lib.Dec.{eqb}
 use lib.ListN.{drop, getD}
 use lib.Seq.{drop-drop}
 use borrow.Author.Tests.{eqb-true}
+use Rattle.wing_node.specs.Refusal.{noFault, isRefused}
 use Rattle.wing_node.specs.Bool.{if}
 use Rattle.wing_node.specs.Types.{typeOf}
 use Rattle.wing_node.specs.Cursor.{Field, string, size, content, valueOf, contentAt, cursor, start, fieldRead, reads, after}
@@ -15,6 +16,8 @@ use Rattle.wing_node.specs.Definition.{FieldName, ParentId, Id, Index, N
 use Rattle.wing_node.specs.Standing.{extent, beyond, Stand, more}
 use Rattle.wing_node.specs.Answers.{bytesAt}
 use Rattle.wing_node.specs.InBody.{numberNamed, bytesNamed, typeIn, countIn, allFields}
+use Rattle.wing_node.specs.declared.refusal.Fault.{Fault}
+use Rattle.wing_node.specs.declared.refusal.Fault.the-variants.{None, Refused}
 use Rattle.wing_node.specs.declared.cursor.Cursor.{Cursor}
 use Rattle.wing_node.specs.declared.cursor.FieldRead.{FieldRead}
 use Rattle.wing_node.specs.declared.node_type.NodeType.{NodeType}
@@ -53,12 +56,12 @@ pick true r r' n n' e e' = e
 pick false r r' n n' e e' = e'
 
 pub named-number : (ks : List FieldName) (k : FieldName) (body : List ℕ) (at : ℕ) → Stand (map form ks) (drop at body) →
-    named ks body (cursor at 0) k .value ≡ numberNamed ks k (drop at body)
+    named ks body (cursor at noFault) k .value ≡ numberNamed ks k (drop at body)
 unfolding reads numberNamed
 named-number [] k body at h = refl
 named-number (j ∷ js) k body at (more w r h) =
     let n = size (form j) (drop at body) in
-    let rest : named js body (cursor (at + n) 0) k .value ≡ numberNamed js k (drop (at + n) body) = named-number js k body (at + n) (onward (form j) (map form js) body at h) in
+    let rest : named js body (cursor (at + n) noFault) k .value ≡ numberNamed js k (drop (at + n) body) = named-number js k body (at + n) (onward (form j) (map form js) body at h) in
     rw (one-read (form j) body at w r, drop-drop) (pick (eqb (nameNumber j) (nameNumber k)) _ _ _ _ refl rest)
 
 pick-bytes : (body : List ℕ) (b : Bool) (r r' : FieldRead) (s s' : List ℕ) → (b ≡ true → bytesAt body (spanOf r) ≡ s) → bytesAt body (spanOf r') ≡ s' →
@@ -72,14 +75,14 @@ unfolding valueOf contentAt content
 string-bytes f body at c e = rw (e, drop-drop)
 
 pub named-bytes : (ks : List FieldName) (k : FieldName) (body : List ℕ) (at : ℕ) → form k ≡ string → Stand (map form ks) (drop at body) →
-    bytesAt body (spanOf (named ks body (cursor at 0) k)) ≡ bytesNamed ks k (drop at body)
+    bytesAt body (spanOf (named ks body (cursor at noFault) k)) ≡ bytesNamed ks k (drop at body)
 unfolding reads bytesNamed
 named-bytes [] k body at e h = refl
 named-bytes (j ∷ js) k body at e (more w r h) =
     let n = size (form j) (drop at body) in
-    let rest : bytesAt body (spanOf (named js body (cursor (at + n) 0) k)) ≡ bytesNamed js k (drop (at + n) body) = named-bytes js k body (at + n) e (onward (form j) (map form js) body at h) in
+    let rest : bytesAt body (spanOf (named js body (cursor (at + n) noFault) k)) ≡ bytesNamed js k (drop (at + n) body) = named-bytes js k body (at + n) e (onward (form j) (map form js) body at h) in
     rw (one-read (form j) body at w r, drop-drop)
-    (pick-bytes body (eqb (nameNumber j) (nameNumber k)) _ _ _ _ (λ t. string-bytes (form j) body at (cursor (at + n) 0) (ap form (one-name j k (eqb-true _ _ t)) ∙ e)) rest)
+    (pick-bytes body (eqb (nameNumber j) (nameNumber k)) _ _ _ _ (λ t. string-bytes (form j) body at (cursor (at + n) noFault) (ap form (one-name j k (eqb-true _ _ t)) ∙ e)) rest)
 
 -- a name that is not among the first is looked for after them
 pub number-later : (ks js : List FieldName) (k : FieldName) (s : List ℕ) → has ks k ≡ false → numberNamed (ks ++ js) k s ≡ numberNamed js k (beyond (map form ks) s)
@@ -94,16 +97,16 @@ number-later (i ∷ is) js k s h = go (eqb (nameNumber i) (nameNumber k)) h (num
 
 -- what follows fields that fail does not matter
 pub follow : (fs gs gs' : List Field) (body : List ℕ) (c : Cursor) →
-    (after fs body c .refused ≡ 0 → after gs body (after fs body c) ≡ after gs' body (after fs body c)) → after (fs ++ gs) body c ≡ after (fs ++ gs') body c
-follow fs gs gs' body c h = after-append fs gs body c ∙ go (after fs body c .refused) refl ∙ sym (after-append fs gs' body c)
+    (after fs body c .fault ≡ noFault → after gs body (after fs body c) ≡ after gs' body (after fs body c)) → after (fs ++ gs) body c ≡ after (fs ++ gs') body c
+follow fs gs gs' body c h = after-append fs gs body c ∙ go (after fs body c .fault) refl ∙ sym (after-append fs gs' body c)
   where
-    go : (n : ℕ) → after fs body c .refused ≡ n → after gs body (after fs body c) ≡ after gs' body (after fs body c)
-    go zero e = h e
-    go (suc n) e = after-refused gs body (after fs body c) (λ z. omega arith) ∙ sym (after-refused gs' body (after fs body c) (λ z. omega arith))
+    go : (x : Fault) → after fs body c .fault ≡ x → after gs body (after fs body c) ≡ after gs' body (after fs body c)
+    go None e = h e
+    go (Refused why) e = after-refused gs body (after fs body c) (ap isRefused e) ∙ sym (after-refused gs' body (after fs body c) (ap isRefused e))
 
 -- the cursor after the header, where it stands
-pub past-header : (body : List ℕ) → Stand (map form header) body → past header body start ≡ cursor (extent (map form header) body) 0
-past-header body h = let e : 0 + extent (map form header) body ≡ extent (map form header) body = omega arith in passes (map form header) body 0 h ∙ ap (λ n. cursor n 0) e
+pub past-header : (body : List ℕ) → Stand (map form header) body → past header body start ≡ cursor (extent (map form header) body) noFault
+past-header body h = let e : 0 + extent (map form header) body ≡ extent (map form header) body = omega arith in passes (map form header) body 0 h ∙ ap (λ n. cursor n noFault) e
 
 -- the type that the cursor finds
 pub same-type : (body : List ℕ) → Stand (map form header) body → kindFrom (named header body start) ≡ typeIn body
@@ -111,7 +114,7 @@ same-type body h = ap (λ n. typeOf (n / 16 % 16)) (named-number header Flags bo
 
 -- the count that it finds
 pub same-count : (body : List ℕ) (t : NodeType) → Stand (map form (added t)) (beyond (map form header) body) →
-    named (added t) body (cursor (extent (map form header) body) 0) Count .value ≡ numberNamed (header ++ added t) Count body
+    named (added t) body (cursor (extent (map form header) body) noFault) Count .value ≡ numberNamed (header ++ added t) Count body
 same-count body t a =
     named-number (added t) Count body (extent (map form header) body) a ∙ sym (number-later header (added t) Count body refl)
 
@@ -141,5 +144,5 @@ same-end body = follow (map form header) _ _ body start (λ z. second (stands (m
         after (map form (added t) ++ itemsOf t (countIn body)) body c
     second h =
         rw (same-type body h, past-header body h)
-        (follow (map form (added t)) _ _ body (cursor (extent (map form header) body) 0)
-        (λ z. ap (λ n. after (itemsOf t n) body (after (map form (added t)) body (cursor (extent (map form header) body) 0))) (same-count body t (stands (map form (added t)) body (extent (map form header) body) .0 z))))
+        (follow (map form (added t)) _ _ body (cursor (extent (map form header) body) noFault)
+        (λ z. ap (λ n. after (itemsOf t n) body (after (map form (added t)) body (cursor (extent (map form header) body) noFault))) (same-count body t (stands (map form (added t)) body (extent (map form header) body) .0 z))))

@@ -1,6 +1,6 @@
 -- Fields that stand at the front of bytes, and what a cursor that reads them comes to.
-use mathlib.Core.Path.{_≡_, refl, ap, sym}
-use mathlib.Core.Bool.{Bool, true, false}
+use mathlib.Core.Path.{_≡_, refl, ap, sym, subst, _∙_}
+use mathlib.Core.Bool.{Bool, true, false, true≢false}
 use mathlib.Core.Logic.{_↔_, _⊎_, inl, inr}
 use mathlib.Core.List.{List, [], _∷_, _++_}
 use Prim.Native.Nat.{ℕ, zero, suc, _+_, _-_, _≤_, _<_}
@@ -8,72 +8,89 @@ use native.Mathlib.Omega.{arith}
 use lib.Dec.{ltb}
 use lib.ListN.{length, drop, length-drop}
 use lib.Seq.{drop-drop}
-use borrow.Author.Tests.{eq-eqb, ne-eqb, le-ltb, ltb-true, ltb-false}
+use borrow.Author.Tests.{le-ltb, ltb-true, ltb-false}
+use Rattle.wing_node.specs.Utf8.{good}
+use Rattle.wing_node.specs.Refusal.{refusalNumber, goodBeside, noFault, because, byNumber, isRefused}
 use Rattle.wing_node.specs.Bool.{if}
-use Rattle.wing_node.specs.Cursor.{Field, number, size, right, fault, valueOf, contentAt, cursor, from, fieldRead, readAt, after}
+use Rattle.wing_node.specs.Cursor.{Field, size, content, heldFault, right, fault, valueOf, contentAt, cursor, from, fieldRead, readAt, after}
 use Rattle.wing_node.specs.Definition.{times}
 use Rattle.wing_node.specs.Standing.{Whole, PastEnd, NotUtf8, extent, beyond, Stand, empty, more, StopsAt}
+use Rattle.wing_node.specs.Parsing.{FourOrFive}
+use Rattle.wing_node.specs.declared.refusal.Refusal.{Refusal}
+use Rattle.wing_node.specs.declared.refusal.Refusal.the-variants.{Number, DefinitionNotUtf8}
+use Rattle.wing_node.specs.declared.refusal.Fault.{Fault}
+use Rattle.wing_node.specs.declared.refusal.Fault.the-variants.{None, Refused}
 use Rattle.wing_node.specs.declared.cursor.Cursor.{Cursor}
+use Rattle.wing_node.proofs.Refusals.{reasonOf}
 use Rattle.wing_node.proofs.Bodies.Cases.{read-there}
 use Rattle.wing_node.proofs.Bodies.Fields.{after-append, after-refused}
 
+-- a fault apart from the others: its number, its good
+abbrev faultNumber : Fault → ℕ
+faultNumber None = 0
+faultNumber (Refused why) = refusalNumber why
+
+abbrev pub faultGood : Fault → ℕ
+faultGood None = 0
+faultGood (Refused why) = goodBeside why
+
 -- a field that stands is read, and the cursor goes past it
 pub one-read : (f : Field) (body : List ℕ) (at : ℕ) → Whole f (drop at body) → right f (drop at body) ≡ true →
-    readAt f body (cursor at 0) ≡ fieldRead (valueOf f (drop at body)) (contentAt f at) (cursor (at + size f (drop at body)) 0)
+    readAt f body (cursor at noFault) ≡ fieldRead (valueOf f (drop at body)) (contentAt f at) (cursor (at + size f (drop at body)) noFault)
 one-read f body at w r =
     let e : length (drop at body) ≡ length body - at = length-drop at body in
     let h : size f (drop at body) ≤ length body - at = omega arith in
-    read-there f body (cursor at 0) refl h r
+    read-there f body (cursor at noFault) refl h r
 
 -- what stands after the first field stands from the place after it
 pub onward : (f : Field) (fs : List Field) (body : List ℕ) (at : ℕ) → Stand fs (drop (size f (drop at body)) (drop at body)) → Stand fs (drop (at + size f (drop at body)) body)
 onward f fs body at h = rw drop-drop at h
 
 -- fields that stand are passed
-pub passes : (fs : List Field) (body : List ℕ) (at : ℕ) → Stand fs (drop at body) → after fs body (cursor at 0) ≡ cursor (at + extent fs (drop at body)) 0
+pub passes : (fs : List Field) (body : List ℕ) (at : ℕ) → Stand fs (drop at body) → after fs body (cursor at noFault) ≡ cursor (at + extent fs (drop at body)) noFault
 unfolding after extent
 passes [] body at empty = let e : at + 0 ≡ at = omega arith in rw e
 passes (f ∷ fs) body at (more w r h) =
     let n = size f (drop at body) in
-    let rest : after fs body (cursor (at + n) 0) ≡ cursor (at + n + extent fs (drop (at + n) body)) 0 = passes fs body (at + n) (onward f fs body at h) in
+    let rest : after fs body (cursor (at + n) noFault) ≡ cursor (at + n + extent fs (drop (at + n) body)) noFault = passes fs body (at + n) (onward f fs body at h) in
     let e : at + (n + extent fs (drop (at + n) body)) ≡ at + n + extent fs (drop (at + n) body) = omega arith in
     rw (one-read f body at w r, drop-drop, e) rest
 
 -- a fault stops the cursor
-stopped-at : (f : Field) (body : List ℕ) (c : Cursor) (n : ℕ) → c .refused ≡ 0 → fault f (from body c) ≡ suc n → readAt f body c .next .refused ≡ suc n
+stopped-at : (f : Field) (body : List ℕ) (c : Cursor) (why : Refusal) → isRefused (c .fault) ≡ false → fault f (from body c) ≡ because why → readAt f body c .next .fault ≡ because why
 unfolding readAt
-stopped-at f body c n z e = simp (eq-eqb _ _ z, e, ne-eqb (suc n) 0 (λ x. omega arith))
+stopped-at f body c why z e = rw (z, e)
 
--- what fails with a number refuses the row with it
-module _ (Fails : Field → List ℕ → Type 0) (n : ℕ) (number : (f : Field) (s : List ℕ) → Fails f s → fault f s ≡ suc n) where
-  pub stops : (fs : List Field) (body : List ℕ) (at : ℕ) → StopsAt Fails fs (drop at body) → after fs body (cursor at 0) .refused ≡ suc n
+-- what fails for a reason refuses the row for it
+module _ (Fails : Field → List ℕ → Type 0) (why : Refusal) (reason : (f : Field) (s : List ℕ) → Fails f s → fault f s ≡ because why) where
+  pub stops : (fs : List Field) (body : List ℕ) (at : ℕ) → StopsAt Fails fs (drop at body) → after fs body (cursor at noFault) .fault ≡ because why
   unfolding after
   stops fs body at h =
       let here = at + extent (h .stood) (drop at body) in
-      let c = after (h .stood) body (cursor at 0) in
-      let past : c ≡ cursor here 0 = passes (h .stood) body at (h .stand) in
+      let c = after (h .stood) body (cursor at noFault) in
+      let past : c ≡ cursor here noFault = passes (h .stood) body at (h .stand) in
       let there : beyond (h .stood) (drop at body) ≡ drop here body = drop-drop (extent (h .stood) (drop at body)) at body in
-      let e : fault (h .next) (drop here body) ≡ suc n = rw there at (number (h .next) (beyond (h .stood) (drop at body)) (h .fails)) in
-      let r : readAt (h .next) body (cursor here 0) .next .refused ≡ suc n = stopped-at (h .next) body (cursor here 0) n refl e in
-      let end : after (h .next ∷ h .others) body (cursor here 0) ≡ readAt (h .next) body (cursor here 0) .next =
-      after-refused (h .others) body (readAt (h .next) body (cursor here 0) .next) (λ z. omega arith) in
+      let e : fault (h .next) (drop here body) ≡ because why = rw there at (reason (h .next) (beyond (h .stood) (drop at body)) (h .fails)) in
+      let r : readAt (h .next) body (cursor here noFault) .next .fault ≡ because why = stopped-at (h .next) body (cursor here noFault) why refl e in
+      let end : after (h .next ∷ h .others) body (cursor here noFault) ≡ readAt (h .next) body (cursor here noFault) .next =
+      after-refused (h .others) body (readAt (h .next) body (cursor here noFault) .next) (ap isRefused r) in
       rw (h .row, after-append, past, end) r
 
-pub past-end : (f : Field) (s : List ℕ) → PastEnd f s → fault f s ≡ 4
+pub past-end : (f : Field) (s : List ℕ) → PastEnd f s → fault f s ≡ byNumber 4
 unfolding fault
 past-end f s h = go (ltb (length s) (size f s)) refl
   where
-    go : (b : Bool) → ltb (length s) (size f s) ≡ b → _≡_ {A = ℕ} (if b 4 (if (right f s) 0 5)) 4
+    go : (b : Bool) → ltb (length s) (size f s) ≡ b → if b (byNumber 4) (heldFault f s) ≡ byNumber 4
     go true e = refl
     go false e = absurd (h (ltb-false _ _ e))
 
-pub not-utf8 : (f : Field) (s : List ℕ) → NotUtf8 f s → fault f s ≡ 5
-unfolding fault
-not-utf8 f s h = simp (le-ltb _ _ (h .0), h .1)
+pub not-utf8 : (g : ℕ) (f : Field) (s : List ℕ) → NotUtf8 g f s → fault f s ≡ because (DefinitionNotUtf8 g)
+unfolding fault heldFault
+not-utf8 g f s (w, r, e) = rw (le-ltb _ _ w, r, e)
 
--- one of three: all stand, or the first that fails is past the end, or not UTF-8
+-- one of three: all stand, or the first that fails is past the end, or not UTF-8 with some good
 abbrev pub Found : List Field → List ℕ → Type 0
-Found fs s = Stand fs s ⊎ (StopsAt PastEnd fs s ⊎ StopsAt NotUtf8 fs s)
+Found fs s = Stand fs s ⊎ (StopsAt PastEnd fs s ⊎ ((g : ℕ) × StopsAt (NotUtf8 g) fs s))
 
 -- the first field fails
 at-once : {Fails : Field → List ℕ → Type 0} (f : Field) (fs : List Field) (s : List ℕ) → Fails f s → StopsAt Fails (f ∷ fs) s
@@ -101,52 +118,61 @@ find (f ∷ fs) s = go (ltb (length s) (size f s)) (right f s) refl refl (find f
     rest : Whole f s → right f s ≡ true → Found fs (drop (size f s) s) → Found (f ∷ fs) s
     rest w r (inl h) = inl (more w r h)
     rest w r (inr (inl h)) = inr (inl (later f fs s w r h))
-    rest w r (inr (inr h)) = inr (inr (later f fs s w r h))
+    rest w r (inr (inr (g, h))) = inr (inr (g, later f fs s w r h))
 
-    go : (short good : Bool) → ltb (length s) (size f s) ≡ short → right f s ≡ good → Found fs (drop (size f s) s) → Found (f ∷ fs) s
-    go true good e r others = inr (inl (at-once f fs s (λ w. let l : length s < size f s = ltb-true _ _ e in omega arith)))
+    go : (short right-there : Bool) → ltb (length s) (size f s) ≡ short → right f s ≡ right-there → Found fs (drop (size f s) s) → Found (f ∷ fs) s
+    go true r e q others = inr (inl (at-once f fs s (λ w. let l : length s < size f s = ltb-true _ _ e in omega arith)))
     go false true e r others = rest (ltb-false _ _ e) r others
-    go false false e r others = inr (inr (at-once f fs s (ltb-false _ _ e, r)))
+    go false false e r others = inr (inr (good (content f s), at-once f fs s (ltb-false _ _ e, r, refl)))
 
 -- what a cursor comes to, exactly
 module _ (fs : List Field) (body : List ℕ) (at : ℕ) where
-  abbrev came : ℕ
-  came = after fs body (cursor at 0) .refused
+  abbrev came : Fault
+  came = after fs body (cursor at noFault) .fault
 
-  all : Stand fs (drop at body) → came ≡ 0
-  all h = ap (λ (c : Cursor). c .refused) (passes fs body at h)
+  all : Stand fs (drop at body) → came ≡ noFault
+  all h = ap (λ (c : Cursor). c .fault) (passes fs body at h)
 
-  pub stands : (came ≡ 0) ↔ Stand fs (drop at body)
+  short-stops : StopsAt PastEnd fs (drop at body) → came ≡ byNumber 4
+  short-stops = stops PastEnd (Number 4) past-end fs body at
+
+  wrong-stops : (g : ℕ) → StopsAt (NotUtf8 g) fs (drop at body) → came ≡ because (DefinitionNotUtf8 g)
+  wrong-stops g = stops (NotUtf8 g) (DefinitionNotUtf8 g) (not-utf8 g) fs body at
+
+  pub stands : (came ≡ noFault) ↔ Stand fs (drop at body)
   stands = (λ e. go e (find fs (drop at body)), all)
     where
-      go : came ≡ 0 → Found fs (drop at body) → Stand fs (drop at body)
+      go : came ≡ noFault → Found fs (drop at body) → Stand fs (drop at body)
       go e (inl h) = h
-      go e (inr (inl h)) = absurd (let z = stops PastEnd 3 past-end fs body at h in omega arith)
-      go e (inr (inr h)) = absurd (let z = stops NotUtf8 4 not-utf8 fs body at h in omega arith)
+      go e (inr (inl h)) = absurd (true≢false (ap isRefused (sym (short-stops h) ∙ e)))
+      go e (inr (inr (g, h))) = absurd (true≢false (ap isRefused (sym (wrong-stops g h) ∙ e)))
 
-  pub ends-past : (came ≡ 4) ↔ StopsAt PastEnd fs (drop at body)
-  ends-past = (λ e. go e (find fs (drop at body)), stops PastEnd 3 past-end fs body at)
+  pub ends-past : (came ≡ byNumber 4) ↔ StopsAt PastEnd fs (drop at body)
+  ends-past = (λ e. go e (find fs (drop at body)), short-stops)
     where
-      go : came ≡ 4 → Found fs (drop at body) → StopsAt PastEnd fs (drop at body)
-      go e (inl h) = absurd (let z = all h in omega arith)
+      go : came ≡ byNumber 4 → Found fs (drop at body) → StopsAt PastEnd fs (drop at body)
+      go e (inl h) = absurd (true≢false (ap isRefused (sym e ∙ all h)))
       go e (inr (inl h)) = h
-      go e (inr (inr h)) = absurd (let z = stops NotUtf8 4 not-utf8 fs body at h in omega arith)
+      go e (inr (inr (g, h))) = absurd (let z : _≡_ {A = ℕ} 5 4 = ap faultNumber (sym (wrong-stops g h) ∙ e) in omega arith)
 
-  pub ends-wrong : (came ≡ 5) ↔ StopsAt NotUtf8 fs (drop at body)
-  ends-wrong = (λ e. go e (find fs (drop at body)), stops NotUtf8 4 not-utf8 fs body at)
+  pub ends-wrong : (g : ℕ) → (came ≡ because (DefinitionNotUtf8 g)) ↔ StopsAt (NotUtf8 g) fs (drop at body)
+  ends-wrong g = (λ e. go e (find fs (drop at body)), wrong-stops g)
     where
-      go : came ≡ 5 → Found fs (drop at body) → StopsAt NotUtf8 fs (drop at body)
-      go e (inl h) = absurd (let z = all h in omega arith)
-      go e (inr (inl h)) = absurd (let z = stops PastEnd 3 past-end fs body at h in omega arith)
-      go e (inr (inr h)) = h
+      go : came ≡ because (DefinitionNotUtf8 g) → Found fs (drop at body) → StopsAt (NotUtf8 g) fs (drop at body)
+      go e (inl h) = absurd (true≢false (ap isRefused (sym e ∙ all h)))
+      go e (inr (inl h)) = absurd (let z : _≡_ {A = ℕ} 4 5 = ap faultNumber (sym (short-stops h) ∙ e) in omega arith)
+      go e (inr (inr (k, h))) = subst (λ n. StopsAt (NotUtf8 n) fs (drop at body)) (ap faultGood (sym (wrong-stops k h) ∙ e)) h
 
-  pub ends-so : (came ≡ 0) ⊎ ((came ≡ 4) ⊎ (came ≡ 5))
-  ends-so = go (find fs (drop at body))
+  pub ends-so : (why : Refusal) → came ≡ because why → FourOrFive why
+  ends-so why e = go (find fs (drop at body))
     where
-      go : Found fs (drop at body) → (came ≡ 0) ⊎ ((came ≡ 4) ⊎ (came ≡ 5))
-      go (inl h) = inl (all h)
-      go (inr (inl h)) = inr (inl (stops PastEnd 3 past-end fs body at h))
-      go (inr (inr h)) = inr (inr (stops NotUtf8 4 not-utf8 fs body at h))
+      same : (x : Refusal) → came ≡ because x → why ≡ x
+      same x c = ap (reasonOf why) (sym e ∙ c)
+
+      go : Found fs (drop at body) → FourOrFive why
+      go (inl h) = absurd (true≢false (ap isRefused (sym e ∙ all h)))
+      go (inr (inl h)) = inl (same (Number 4) (short-stops h))
+      go (inr (inr (g, h))) = let s = same (DefinitionNotUtf8 g) (wrong-stops g h) in inr (rw s)
 
 -- a row in two parts
 pub stand-parts : (fs gs : List Field) (s : List ℕ) → Stand (fs ++ gs) s → Stand fs s × Stand gs (beyond fs s)

@@ -1,5 +1,5 @@
 -- A step of a walk, from any place, by the fields of the item that stand there.
-use mathlib.Core.Path.{_≡_, refl, _∙_, ap}
+use mathlib.Core.Path.{_≡_, refl, _∙_, ap, sym}
 use mathlib.Core.Bool.{Bool, true, false}
 use mathlib.Core.Logic.{_⊎_, inl, inr}
 use mathlib.Core.List.{List, [], _∷_}
@@ -9,6 +9,7 @@ use lib.Dec.{eqb}
 use lib.ListN.{drop}
 use lib.Seq.{drop-drop}
 use borrow.Author.Tests.{eq-eqb, ne-eqb}
+use Rattle.wing_node.specs.Refusal.{noFault, because}
 use Rattle.wing_node.specs.Bool.{if}
 use Rattle.wing_node.specs.Result.{Result, ok, refused}
 use Rattle.wing_node.specs.Types.{hasItems}
@@ -19,6 +20,10 @@ use Rattle.wing_node.specs.Standing.{Whole, extent, beyond, Stand, more}
 use Rattle.wing_node.specs.Answers.{bytesAt, ItemValues, none as noItem, strings, float, itemResult}
 use Rattle.wing_node.specs.InBody.{itemIn}
 use Rattle.wing_node.specs.Parsing.{stepOf, stepSays, Left, IsItem, Stepping}
+use Rattle.wing_node.specs.declared.refusal.Refusal.{Refusal}
+use Rattle.wing_node.specs.declared.refusal.Refusal.the-variants.{Number, DefinitionNotUtf8}
+use Rattle.wing_node.specs.declared.refusal.Fault.{Fault}
+use Rattle.wing_node.specs.declared.refusal.Fault.the-variants.{None as noFaultMet, Refused as Because}
 use Rattle.wing_node.specs.declared.node_type.NodeType.{NodeType}
 use Rattle.wing_node.specs.declared.node_type.NodeType.the-variants.{Node, LinearFloat, LogarithmicFloat, FaderLevel, Integer, StringEnum, FloatEnum, String}
 use Rattle.wing_node.specs.declared.definition.Item.{Item}
@@ -27,23 +32,24 @@ use Rattle.wing_node.specs.declared.items.Walk.{Walk}
 use Rattle.wing_node.specs.declared.items.Step.{Step}
 use Rattle.wing_node.proofs.Bodies.Standing.{one-read, onward, passes, stands, ends-past, ends-wrong, ends-so}
 use Rattle.wing_node.proofs.Bodies.InBody.{string-bytes}
+use Rattle.wing_node.proofs.Refusals.{reason}
 
 -- the two fields of an item: what the second holds stands after the first
 alone : (f : Field) (s : List ℕ) → Stand (f ∷ []) s → Whole f s × (right f s ≡ true)
 alone f s (more w r h) = (w, r)
 
 second-bytes : (f : Field) (body : List ℕ) (at : ℕ) → Stand (f ∷ string ∷ []) (drop at body) →
-    bytesAt body (spanOf (nth (reads (f ∷ string ∷ []) body (cursor at 0)) 1)) ≡ content string (beyond (f ∷ []) (drop at body))
+    bytesAt body (spanOf (nth (reads (f ∷ string ∷ []) body (cursor at noFault)) 1)) ≡ content string (beyond (f ∷ []) (drop at body))
 unfolding reads extent
 second-bytes f body at (more w r h) =
     let n = size f (drop at body) in
     let e : at + (n + 0) ≡ at + n = omega arith in
     let a = alone string (drop (at + n) body) (onward f (string ∷ []) body at h) in
-    rw (one-read f body at w r, one-read string body (at + n) (a .0) (a .1), string-bytes string body (at + n) (cursor (at + n + size string (drop (at + n) body)) 0) refl, drop-drop, e)
+    rw (one-read f body at w r, one-read string body (at + n) (a .0) (a .1), string-bytes string body (at + n) (cursor (at + n + size string (drop (at + n) body)) noFault) refl, drop-drop, e)
 
 -- an item that stands says what its fields hold
 pub item-said : (t : NodeType) (body : List ℕ) (at : ℕ) → Stand (itemOf t) (drop at body) →
-    itemResult body (itemFrom t (reads (itemOf t) body (cursor at 0))) ≡ ok (itemIn t (drop at body))
+    itemResult body (itemFrom t (reads (itemOf t) body (cursor at noFault))) ≡ ok (itemIn t (drop at body))
 unfolding reads
 item-said Node body at h = refl
 item-said LinearFloat body at h = refl
@@ -52,14 +58,14 @@ item-said FaderLevel body at h = refl
 item-said Integer body at h = refl
 item-said StringEnum body at (more w r h) =
     let both = second-bytes string body at (more w r h) in
-    rw (both, one-read string body at w r, string-bytes string body at (cursor (at + size string (drop at body)) 0) refl)
+    rw (both, one-read string body at w r, string-bytes string body at (cursor (at + size string (drop at body)) noFault) refl)
 item-said FloatEnum body at (more w r h) =
     let both = second-bytes (number 4) body at (more w r h) in
     rw (both, one-read (number 4) body at w r)
 item-said String body at h = refl
 
 -- a type with items gives one
-is-item : (t : NodeType) (body : List ℕ) (at : ℕ) → hasItems t ≡ true → IsItem (itemResult body (itemFrom t (reads (itemOf t) body (cursor at 0))))
+is-item : (t : NodeType) (body : List ℕ) (at : ℕ) → hasItems t ≡ true → IsItem (itemResult body (itemFrom t (reads (itemOf t) body (cursor at noFault))))
 is-item Node body at h = absurd (let z : _≡_ {A = ℕ} 0 1 = cc in omega arith)
 is-item LinearFloat body at h = absurd (let z : _≡_ {A = ℕ} 0 1 = cc in omega arith)
 is-item LogarithmicFloat body at h = absurd (let z : _≡_ {A = ℕ} 0 1 = cc in omega arith)
@@ -74,23 +80,23 @@ abbrev pub mark : Result ItemValues → ℕ
 mark (ok noItem) = 0
 mark (ok (strings a b)) = 1
 mark (ok (float bits b)) = 1
-mark (refused n) = 2 + n
+mark (refused why) = 2
 
 pub item-mark : (x : Result ItemValues) → IsItem x → mark x ≡ 1
 item-mark (ok noItem) h = absurd h
 item-mark (ok (strings a b)) h = refl
 item-mark (ok (float bits b)) h = refl
-item-mark (refused n) h = absurd h
+item-mark (refused why) h = absurd h
 
 module _ (body : List ℕ) (w : Walk) where
   abbrev there : List ℕ
   there = drop (w .at) body
 
-  abbrev came : ℕ
-  came = after (itemOf (w .kind)) body (cursor (w .at) 0) .refused
+  abbrev came : Fault
+  came = after (itemOf (w .kind)) body (cursor (w .at) noFault) .fault
 
   abbrev read : Item
-  read = itemFrom (w .kind) (reads (itemOf (w .kind)) body (cursor (w .at) 0))
+  read = itemFrom (w .kind) (reads (itemOf (w .kind)) body (cursor (w .at) noFault))
 
   abbrev Ended : Type 0
   Ended = (w .left ≡ 0) ⊎ (hasItems (w .kind) ≡ false)
@@ -110,9 +116,9 @@ module _ (body : List ℕ) (w : Walk) where
       same true x = refl
       same false x = refl
 
-  stopped : (n : ℕ) → Left w → came ≡ suc n → stepOf body w ≡ stayed (Refused (suc n)) (w .at) (w .left) (w .kind)
+  stopped : (why : Refusal) → Left w → came ≡ because why → stepOf body w ≡ stayed (Refused why) (w .at) (w .left) (w .kind)
   unfolding stepAt itemAt
-  stopped n l e = simp (ne-eqb _ _ (l .0), l .1, e, ne-eqb (suc n) 0 (λ z. omega arith))
+  stopped why l e = simp (ne-eqb _ _ (l .0), l .1, e)
 
   pub moves : Left w → Stand (itemOf (w .kind)) there → stepOf body w ≡ stayed read (w .at + extent (itemOf (w .kind)) there) (w .left - 1) (w .kind)
   unfolding stepAt itemAt
@@ -125,15 +131,15 @@ module _ (body : List ℕ) (w : Walk) where
   data Outcome : Type 0 where
     nothing : Ended → stepOf body w ≡ stayed None (w .at) (w .left) (w .kind) → Outcome
     item : Left w → Stand (itemOf (w .kind)) there → IsItem (stepSays body w) → Outcome
-    stop : (n : ℕ) → Left w → came ≡ suc n → stepOf body w ≡ stayed (Refused (suc n)) (w .at) (w .left) (w .kind) → Outcome
+    stop : (why : Refusal) → Left w → came ≡ because why → stepOf body w ≡ stayed (Refused why) (w .at) (w .left) (w .kind) → Outcome
 
   outcome : Outcome
   outcome = go (none-left (w .left) (hasItems (w .kind)) refl refl) came refl
     where
-      go : Ended ⊎ Left w → (n : ℕ) → came ≡ n → Outcome
-      go (inl e) n c = nothing e (ended e)
-      go (inr l) zero c = let h = stands (itemOf (w .kind)) body (w .at) .0 c in item l h (gives-item l h)
-      go (inr l) (suc n) c = stop n l c (stopped n l c)
+      go : Ended ⊎ Left w → (x : Fault) → came ≡ x → Outcome
+      go (inl e) x c = nothing e (ended e)
+      go (inr l) noFaultMet c = let h = stands (itemOf (w .kind)) body (w .at) .0 c in item l h (gives-item l h)
+      go (inr l) (Because why) c = stop why l c (stopped why l c)
 
   abbrev marked : ℕ
   marked = mark (stepSays body w)
@@ -144,39 +150,35 @@ module _ (body : List ℕ) (w : Walk) where
   only-none : marked ≡ 0 → Outcome → Ended
   only-none e (nothing h q) = h
   only-none e (item l h i) = absurd (omega (arith, item-mark (stepSays body w) i))
-  only-none e (stop n l c q) = absurd (omega (arith, mark-by _ _ _ _ q))
+  only-none e (stop why l c q) = absurd (omega (arith, mark-by _ _ _ _ q))
 
   only-item : IsItem (stepSays body w) → Outcome → Left w × Stand (itemOf (w .kind)) there
   only-item i (nothing h q) = absurd (omega (arith, item-mark (stepSays body w) i, mark-by _ _ _ _ q))
   only-item i (item l h j) = (l, h)
-  only-item i (stop n l c q) = absurd (omega (arith, item-mark (stepSays body w) i, mark-by _ _ _ _ q))
+  only-item i (stop why l c q) = absurd (omega (arith, item-mark (stepSays body w) i, mark-by _ _ _ _ q))
 
-  only-stop : (n : ℕ) → marked ≡ 2 + n → Outcome → Left w × (came ≡ n)
-  only-stop n e (nothing h q) = absurd (omega (arith, mark-by _ _ _ _ q))
-  only-stop n e (item l h i) = absurd (omega (arith, item-mark (stepSays body w) i))
-  only-stop n e (stop m l c q) = (l, omega (arith, mark-by _ _ _ _ q))
+  only-stop : (why : Refusal) → stepSays body w ≡ refused why → Outcome → Left w × (came ≡ because why)
+  only-stop why e (nothing h q) = absurd (omega (arith, ap mark e, mark-by _ _ _ _ q))
+  only-stop why e (item l h i) = absurd (omega (arith, ap mark e, item-mark (stepSays body w) i))
+  only-stop why e (stop other l c q) = (l, c ∙ ap because (ap (reason other) (sym (ap (λ (s : Step). itemResult body (s .item)) q) ∙ e)))
 
   stays : (IsItem (stepSays body w) → ⊥) → Outcome → stepOf body w .next ≡ w
   stays not (nothing h q) = ap (λ (s : Step). s .next) q
   stays not (item l h i) = absurd (not i)
-  stays not (stop n l c q) = ap (λ (s : Step). s .next) q
-
-  four-or-five : (n : ℕ) → marked ≡ 2 + n → (came ≡ 0) ⊎ ((came ≡ 4) ⊎ (came ≡ 5)) → (n ≡ 4) ⊎ (n ≡ 5)
-  four-or-five n e (inl z) = absurd (omega (arith, item-mark (stepSays body w) (gives-item (only-stop n e outcome .0) (stands (itemOf (w .kind)) body (w .at) .0 z))))
-  four-or-five n e (inr (inl z)) = inl (omega (arith, only-stop n e outcome .1))
-  four-or-five n e (inr (inr z)) = inr (omega (arith, only-stop n e outcome .1))
+  stays not (stop why l c q) = ap (λ (s : Step). s .next) q
 
   pub stepping : Stepping body w
   stepping =
       let K = itemOf (w .kind) in
       let says : Step → Result ItemValues = λ s. itemResult body (s .item) in
-      let part : (n : ℕ) → stepSays body w ≡ refused n → Left w × (came ≡ n) = λ n e. only-stop n (ap mark e) outcome in
+      let part : (why : Refusal) → stepSays body w ≡ refused why → Left w × (came ≡ because why) = λ why e. only-stop why e outcome in
       let both : IsItem (stepSays body w) → Left w × Stand K there = λ i. only-item i outcome in
       record {
         nothing = (λ e. only-none (ap mark e) outcome, λ h. ap says (ended h));
-        pastEnd = (λ e. (part 4 e .0, ends-past K body (w .at) .0 (part 4 e .1)), λ h. ap says (stopped 3 (h .0) (ends-past K body (w .at) .1 (h .1))));
-        notUtf8 = (λ e. (part 5 e .0, ends-wrong K body (w .at) .0 (part 5 e .1)), λ h. ap says (stopped 4 (h .0) (ends-wrong K body (w .at) .1 (h .1))));
-        numbers = λ n e. four-or-five n (ap mark e) (ends-so K body (w .at));
+        pastEnd = (λ e. (part (Number 4) e .0, ends-past K body (w .at) .0 (part (Number 4) e .1)), λ h. ap says (stopped (Number 4) (h .0) (ends-past K body (w .at) .1 (h .1))));
+        notUtf8 = λ g.
+            (λ e. (part (DefinitionNotUtf8 g) e .0, ends-wrong K body (w .at) g .0 (part (DefinitionNotUtf8 g) e .1)), λ h. ap says (stopped (DefinitionNotUtf8 g) (h .0) (ends-wrong K body (w .at) g .1 (h .1))));
+        others = λ why e. ends-so K body (w .at) why (part why e .1);
         given = (both, λ h. gives-item (h .0) (h .1));
         said = λ i. ap says (moves (both i .0) (both i .1)) ∙ item-said (w .kind) body (w .at) (both i .1);
         moved = λ i. ap (λ (s : Step). s .next) (moves (both i .0) (both i .1));

@@ -18,6 +18,8 @@ use Rattle.wing_node.specs.Standing.{extent, beyond, Stand}
 use Rattle.wing_node.specs.Answers.{DefinitionValues, none, detailsBy, parsedResult, begunResult, itemResult}
 use Rattle.wing_node.specs.InBody.{numberNamed, typeIn, namesIn, countIn, allFields, firstIn, walkIn, itemIn, itemInBody}
 use Rattle.wing_node.specs.Parsing.{parserSays, Takes, Beginning, stepOf, stepSays, numberSays, Left, IsItem, ByNumber, walked, Walking, Definitions}
+use Rattle.wing_node.specs.declared.refusal.Refusal.{Refusal}
+use Rattle.wing_node.specs.declared.refusal.Refusal.the-variants.{Number}
 use Rattle.wing_node.specs.declared.node_type.NodeType.{NodeType}
 use Rattle.wing_node.specs.declared.node_type.NodeType.the-variants.{Node, LinearFloat, LogarithmicFloat, FaderLevel, Integer, StringEnum, FloatEnum, String}
 use Rattle.wing_node.specs.declared.definition.Item.the-variants.{Refused}
@@ -26,14 +28,15 @@ use Rattle.wing_node.specs.declared.definition.Parsed.the-variants.{Good
 use Rattle.wing_node.specs.declared.items.Walk.{Walk}
 use Rattle.wing_node.specs.declared.items.Step.{Step}
 use Rattle.wing_node.specs.declared.items.Begun.the-variants.{Good as Begun·Good}
+use Rattle.wing_node.proofs.Refusals.{reason}
 use Rattle.wing_node.proofs.Bodies.Standing.{passes, stand-parts, extent-parts, times-stand}
 use Rattle.wing_node.proofs.Bodies.InBody.{number-later, same-type}
 use Rattle.wing_node.proofs.Bodies.Parsing.{taken, parsing, header-stands, details-said, parsed-good}
 use Rattle.wing_node.proofs.Bodies.Steps.{moves, stepping, mark, item-mark}
 
-begun-refused : (body : List ℕ) (p : Parsed) (n : ℕ) → (begunResult (beginFrom p) ≡ refused n) ↔ (parsedResult body p ≡ refused n)
-begun-refused body (Parsed·Good d) n = (λ e. absurd (let z : _≡_ {A = ℕ} 0 1 = cc in omega arith), λ e. absurd (let z : _≡_ {A = ℕ} 0 1 = cc in omega arith))
-begun-refused body (Parsed·Refused k) n = (λ e. cc, λ e. cc)
+begun-refused : (body : List ℕ) (p : Parsed) (why : Refusal) → (begunResult (beginFrom p) ≡ refused why) ↔ (parsedResult body p ≡ refused why)
+begun-refused body (Parsed·Good d) why = (λ e. absurd (let z : _≡_ {A = ℕ} 0 1 = cc in omega arith), λ e. absurd (let z : _≡_ {A = ℕ} 0 1 = cc in omega arith))
+begun-refused body (Parsed·Refused other) why = (λ e. ap refused (ap (reason other) e), λ e. ap refused (ap (reason other) e))
 
 -- a walk by what the type adds
 walk-by : (t : NodeType) (v : FieldName → ℕ) (first : ℕ) → walkFrom t (detailsBy t v first) ≡ if (hasItems t) (walk first (v Count) t) (walk 0 0 t)
@@ -70,7 +73,7 @@ module _ (body : List ℕ) where
 
   pub beginning : Beginning body
   unfolding beginOf
-  beginning = record { refusals = λ n. begun-refused body (definitionOf body) n; begun = λ k. ap begunResult (begun-at k) }
+  beginning = record { refusals = λ why. begun-refused body (definitionOf body) why; begun = λ k. ap begunResult (begun-at k) }
 
   -- a body without a count has nothing to walk
   with-items : (n : ℕ) → n < countIn body → hasItems (typeIn body) ≡ true
@@ -152,43 +155,43 @@ module _ (body : List ℕ) (h : Stand (allFields body) body) (n : ℕ) (l : n < 
   numbered-said = ap (itemResult body) numbered-at ∙ stepping body there .said gives-item ∙ ap (λ s. ok (itemIn (typeIn body) s)) (sym same-place)
 
 module _ (body : List ℕ) where
-  numbered-past : (n : ℕ) → Takes body → countIn body ≤ n → itemNumbered body n ≡ Refused 14
+  numbered-past : (n : ℕ) → Takes body → countIn body ≤ n → itemNumbered body n ≡ Refused (Number 14)
   unfolding itemNumbered numberedFrom
   numbered-past n k l = rw (begun-at body k, le-leb (walkIn body .left) n (omega (arith, begins-with body)))
 
-  refused-first : (n k : ℕ) (p : Parsed) → parsedResult body p ≡ refused k → itemResult body (numberedIn body n (beginFrom p)) ≡ refused k
-  refused-first n k (Parsed·Good d) e = absurd (let z : _≡_ {A = ℕ} 0 1 = cc in omega arith)
-  refused-first n k (Parsed·Refused j) e = cc
+  refused-first : (n : ℕ) (why : Refusal) (p : Parsed) → parsedResult body p ≡ refused why → itemResult body (numberedIn body n (beginFrom p)) ≡ refused why
+  refused-first n why (Parsed·Good d) e = absurd (let z : _≡_ {A = ℕ} 0 1 = cc in omega arith)
+  refused-first n why (Parsed·Refused other) e = ap refused (ap (reason other) e)
 
-  numbered-refused : (n k : ℕ) → parserSays body ≡ refused k → numberSays body n ≡ refused k
+  numbered-refused : (n : ℕ) (why : Refusal) → parserSays body ≡ refused why → numberSays body n ≡ refused why
   unfolding itemNumbered beginOf
-  numbered-refused n k e = refused-first n k (definitionOf body) e
+  numbered-refused n why e = refused-first n why (definitionOf body) e
 
   -- why a number is refused
-  abbrev Why : ℕ → ℕ → Type 0
-  Why n k = (parserSays body ≡ refused k) ⊎ (Takes body × (countIn body ≤ n) × (k ≡ 14))
+  abbrev Why : ℕ → Refusal → Type 0
+  Why n why = (parserSays body ≡ refused why) ⊎ (Takes body × (countIn body ≤ n) × (why ≡ Number 14))
 
-  numbered-refusals : (n k : ℕ) → numberSays body n ≡ refused k → Why n k
-  numbered-refusals n k e = go (parserSays body) refl
+  numbered-refusals : (n : ℕ) (why : Refusal) → numberSays body n ≡ refused why → Why n why
+  numbered-refusals n why e = go (parserSays body) refl
     where
-      over : Takes body → (b : Bool) → leb (countIn body) n ≡ b → Why n k
+      over : Takes body → (b : Bool) → leb (countIn body) n ≡ b → Why n why
       over g true q =
           let l : countIn body ≤ n = leb-true _ _ q in
-          inr (g, l, omega (arith, ap mark (sym e ∙ ap (itemResult body) (numbered-past n g l))))
+          inr (g, l, ap (reason why) (sym e ∙ ap (itemResult body) (numbered-past n g l)))
       over g false q = absurd (omega (arith, ap mark e, item-mark (numberSays body n) (numbered-item body (taken body .0 g) n (leb-false _ _ q))))
 
-      go : (r : Result DefinitionValues) → parserSays body ≡ r → Why n k
+      go : (r : Result DefinitionValues) → parserSays body ≡ r → Why n why
       go (ok d) q = over (record { definition = d; says = q }) (leb (countIn body) n) refl
-      go (refused j) q = let z : j ≡ k = omega (arith, ap mark (sym (numbered-refused n j q) ∙ e)) in inl (q ∙ ap refused z)
+      go (refused other) q = inl (q ∙ ap refused (ap (reason other) (sym (numbered-refused n other q) ∙ e)))
 
-  why-refused : (n k : ℕ) → Why n k → numberSays body n ≡ refused k
-  why-refused n k (inl e) = numbered-refused n k e
-  why-refused n k (inr (g, l, z)) = ap (itemResult body) (numbered-past n g l) ∙ ap refused (sym z)
+  why-refused : (n : ℕ) (why : Refusal) → Why n why → numberSays body n ≡ refused why
+  why-refused n why (inl e) = numbered-refused n why e
+  why-refused n why (inr (g, l, z)) = ap (itemResult body) (numbered-past n g l) ∙ ap refused (sym z)
 
   pub by-number : (n : ℕ) → ByNumber body n
   by-number n =
       record {
-        refusals = λ k. (numbered-refusals n k, why-refused n k);
+        refusals = λ why. (numbered-refusals n why, why-refused n why);
         given = λ g l. numbered-item body (taken body .0 g) n l;
         said = λ g l. numbered-said body (taken body .0 g) n l;
       }

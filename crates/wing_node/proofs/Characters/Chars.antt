@@ -6,12 +6,12 @@ use mathlib.Core.List.{List, [], _∷_}
 use native.Mathlib.Omega.{arith}
 use native.Mathlib.Nat.{le-of-suc-le-suc}
 use borrow.Author.Tests.{le-leb, eq-eqb, ne-eqb}
-use lib.Dec.{ltb, eqb, leb·zero}
+use lib.Dec.{ltb, eqb, leb·zero, eqb·suc-zero}
 use lib.ListN.{length, drop, getD, replicate, length-drop, drop-of-length-le}
 use lib.Seq.{drop-cons, drop-drop}
 use Rattle.wing_node.proofs.Branches.{if-both}
 use Rattle.wing_node.specs.Bool.{if}
-use Rattle.wing_node.specs.Utf8.{Range, _to_, chars, holds, begins, firstThat, rowOf, leadLength, second, utf8Tail, charLength, charsFrom, utf8}
+use Rattle.wing_node.specs.Utf8.{Range, _to_, chars, holds, begins, firstThat, rowOf, leadLength, second, utf8Tail, charLength, goodFrom, good}
 use Rattle.wing_node.proofs.Characters.Rows.{first-passes, first-narrow}
 use Rattle.wing_node.proofs.Characters.Fronts.{if-if, holds-limits, begins-cons, begins-lead, begins-length, begins-inside, begins-at, begins-again}
 use Rattle.wing_node.proofs.Characters.LeadBytes.{leads, rest, lead}
@@ -61,39 +61,45 @@ ascii b s h = let l : b ≤ 0x7f = omega arith in simp (leb·zero, le-leb _ _ l)
 pub ascii-at : (s : List ℕ) (i : ℕ) → i < length s → getD s i 0 < 0x80 → 1 ≡ charLength (drop i s)
 ascii-at s i h l = rw (drop-cons s i 0 h) (sym (ascii _ _ l))
 
-skip : (k : ℕ) (s : List ℕ) → k ≤ length s → charsFrom k s ≡ charsFrom 0 (drop k s)
-unfolding charsFrom
-skip zero s h = refl
+skip : (k : ℕ) (s : List ℕ) → k ≤ length s → goodFrom k s ≡ k + goodFrom 0 (drop k s)
+unfolding goodFrom
+skip zero s h = omega arith
 skip (suc k) [] h = absurd (omega arith)
-skip (suc k) (b ∷ s) h = skip k s (le-of-suc-le-suc h)
+skip (suc k) (b ∷ s) h = omega (arith, skip k s (le-of-suc-le-suc h))
 
-pub utf8-cons : (b : ℕ) (s : List ℕ) → utf8 (b ∷ s) ≡ if (eqb (charLength (b ∷ s)) 0) false (utf8 (drop (charLength (b ∷ s)) (b ∷ s)))
-unfolding utf8 charsFrom
-utf8-cons b s = go (charLength (b ∷ s)) (char-length-le (b ∷ s))
+pub good-nil : good [] ≡ 0
+unfolding good goodFrom
+good-nil = refl
+
+pub good-cons : (b : ℕ) (s : List ℕ) → good (b ∷ s) ≡ if (eqb (charLength (b ∷ s)) 0) 0 (charLength (b ∷ s) + good (drop (charLength (b ∷ s)) (b ∷ s)))
+unfolding good goodFrom
+good-cons b s = go (charLength (b ∷ s)) (char-length-le (b ∷ s))
   where
-    go : (n : ℕ) → n ≤ suc (length s) → if (eqb n 0) false (charsFrom (n - 1) s) ≡ if (eqb n 0) false (charsFrom 0 (drop n (b ∷ s)))
+    go : (n : ℕ) → n ≤ suc (length s) → if (eqb n 0) 0 (1 + goodFrom (n - 1) s) ≡ if (eqb n 0) 0 (n + goodFrom 0 (drop n (b ∷ s)))
     go zero h = refl
-    go (suc n) h = let p : suc n - 1 ≡ n = omega arith in rw (p, skip n s (le-of-suc-le-suc h))
+    go (suc n) h =
+        let p : suc n - 1 ≡ n = omega arith in
+        let e : 1 + goodFrom n s ≡ suc n + goodFrom 0 (drop n s) = omega (arith, skip n s (le-of-suc-le-suc h)) in
+        rw (p, eqb·suc-zero n) e
 
 module _ (s : List ℕ) (i n : ℕ) (h : i < length s) (e : n ≡ charLength (drop i s)) where
-  turn : utf8 (drop i s) ≡ if (eqb n 0) false (utf8 (drop (i + n) s))
-  turn = rw (← drop-drop n i s, e) (rw (drop-cons s i 0 h) (utf8-cons _ _))
+  turn : good (drop i s) ≡ if (eqb n 0) 0 (n + good (drop (i + n) s))
+  turn = rw (← drop-drop n i s, e) (rw (drop-cons s i 0 h) (good-cons _ _))
 
   pub inside : i + n ≤ length s
   inside = omega (arith, rw (length-drop i s) at (char-length-le (drop i s)))
 
-  pub passed : (n ≡ 0 → ⊥) → utf8 (drop i s) ≡ utf8 (drop (i + n) s)
-  passed z = turn ∙ rw (ne-eqb n 0 z)
+  pub passed : (n ≡ 0 → ⊥) → i + good (drop i s) ≡ i + n + good (drop (i + n) s)
+  passed z = omega (arith, rw (ne-eqb n 0 z) at turn)
 
-  pub stopped : n ≡ 0 → utf8 (drop i s) ≡ false
+  pub stopped : n ≡ 0 → good (drop i s) ≡ 0
   stopped z = turn ∙ rw (eq-eqb n 0 z)
 
-pub ended : (s : List ℕ) (i : ℕ) → length s ≤ i → utf8 (drop i s) ≡ true
-unfolding utf8 charsFrom
-ended s i h = rw (drop-of-length-le s h)
+pub ended : (s : List ℕ) (i : ℕ) → length s ≤ i → good (drop i s) ≡ 0
+ended s i h = rw (drop-of-length-le s h) good-nil
 
 -- a run of ASCII
-pub ascii-passed : (n : ℕ) (s : List ℕ) (i : ℕ) → begins (replicate n (0x00 to 0x7f)) (drop i s) ≡ true → utf8 (drop i s) ≡ utf8 (drop (i + n) s)
+pub ascii-passed : (n : ℕ) (s : List ℕ) (i : ℕ) → begins (replicate n (0x00 to 0x7f)) (drop i s) ≡ true → i + good (drop i s) ≡ i + n + good (drop (i + n) s)
 ascii-passed zero s i e = let z : i + 0 ≡ i = omega arith in rw z
 ascii-passed (suc n) s i e =
     let less : suc n - 1 ≡ n = omega arith in

@@ -7,9 +7,11 @@ use native.Mathlib.Omega.{arith}
 use borrow.Author.Tests.{lt-ltb, ltb-true}
 use lib.Dec.{eqb, ltb}
 use lib.ListN.{length, drop}
-use Rattle.wing_node.specs.Bool.{and}
+use Rattle.wing_node.specs.declared.refusal.Refusal.{Refusal}
+use Rattle.wing_node.specs.Refusal.{alone}
 use Rattle.wing_node.specs.Result.{Result, ok, refused}
 use Rattle.wing_node.proofs.Branches.{branch, and-left, and-right}
+use Rattle.wing_node.proofs.Refusals.{reason}
 use Rattle.wing_wire.specs.State.{control, soundState}
 use Rattle.wing_wire.specs.Range.{AreBytes, InRange}
 use Rattle.wing_wire.specs.Earlier.{earlierControl, earlierState, carriedToken, carried, carryOf}
@@ -77,8 +79,8 @@ module _ (bytes : List ℕ) (h : HeadRead) (e : h ≡ headAs (headFromUnder earl
   pub before-size : h .answer ≡ Good → length bytes ≡ savedSize
   before-size a = begun earlierVersion bytes (h .control) (before-good a) .size
 
-  pub before-refused : (n : ℕ) → h .answer ≡ NotLoaded n → headFromUnder earlierVersion bytes ≡ refused n
-  before-refused n a = said-refused (headFromUnder earlierVersion bytes) h n e a
+  pub before-refused : (why : Refusal) → h .answer ≡ NotLoaded why → headFromUnder earlierVersion bytes ≡ refused why
+  before-refused why a = said-refused (headFromUnder earlierVersion bytes) h why e a
 
 -- ---- both ways
 
@@ -124,12 +126,12 @@ module _ (bytes : List ℕ) (t : State) (are : AreBytes bytes) where
       P : Result EarlierState → Type 0
       P r = carriedFrom r ≡ ok t → CarriedSaves bytes t
 
-      none : (n : ℕ) → P (refused n)
-      none n e = absurd (let z : _≡_ {A = ℕ} 0 1 = cc in omega arith)
+      none : (why : Refusal) → P (refused why)
+      none why e = absurd (let z : _≡_ {A = ℕ} 0 1 = cc in omega arith)
 
       go : (r : Result Control) → headFromUnder earlierVersion bytes ≡ r → P (earlierWith r bytes)
-      go (ok c) q = branch P (isNarrow (c .token)) _ _ (λ n e. saved c q n e) (λ _. none 8)
-      go (refused n) q = none n
+      go (ok c) q = branch P (isNarrow (c .token)) _ _ (λ n e. saved c q n e) (λ _. none (alone 8))
+      go (refused why) q = none why
 
 -- what an old state was carried over as is in the range of its types, and sound
 module _ (bytes : List ℕ) (t : State) (k : CarriedSaves bytes t) where
@@ -144,22 +146,22 @@ module _ (bytes : List ℕ) (t : State) (k : CarriedSaves bytes t) where
       let o = carry-taken s t (k .over) in
       subst (λ (x : State). soundState x ≡ true) (o .same) (sound-carried s ∙ o .sound)
 
-refusal : (bytes : List ℕ) (n : ℕ) → carriedFrom (earlierFrom bytes) ≡ refused n → n ≡ 8
+refusal : (bytes : List ℕ) (why : Refusal) → carriedFrom (earlierFrom bytes) ≡ refused why → why ≡ alone 8
 unfolding earlierFrom earlierWith carriedFrom headFromUnder
-refusal bytes n =
+refusal bytes why =
     branch Head (eqb (length bytes) savedSize) _ _
     (λ _. branch Head (begins (headUnder earlierVersion (controlIn bytes)) bytes) _ _
-    (λ _. branch P (isNarrow (controlIn bytes .token)) _ _ (λ _ e. carry-refused _ n e) (λ _. eight)) (λ _. eight))
+    (λ _. branch P (isNarrow (controlIn bytes .token)) _ _ (λ _ e. carry-refused _ why e) (λ _. eight)) (λ _. eight))
     (λ _. eight)
   where
     P : Result EarlierState → Type 0
-    P r = carriedFrom r ≡ refused n → n ≡ 8
+    P r = carriedFrom r ≡ refused why → why ≡ alone 8
 
     Head : Result Control → Type 0
     Head r = P (earlierWith r bytes)
 
-    eight : P (refused 8)
-    eight e = let z : 8 ≡ n = cc in sym z
+    eight : P (refused (alone 8))
+    eight e = sym (ap (reason why) e)
 
 -- what a user of the call may rely on
 pub earlier-laws : EarlierLaws

@@ -8,12 +8,15 @@ use borrow.Author.Tests.{eq-eqb, eqb-true, ltb-false, le-ltb}
 use lib.Dec.{eqb, ltb}
 use lib.ListN.{length, take, drop, getD, replicate, length-append, length-drop, drop-of-length-le}
 use lib.Seq.{length-take-le}
+use Rattle.wing_node.specs.declared.refusal.Refusal.{Refusal}
+use Rattle.wing_node.specs.Refusal.{alone}
 use Rattle.wing_node.specs.Result.{Result, ok, refused}
 use Rattle.wing_node.specs.Digits.{digitsIn}
 use Rattle.wing_node.specs.Field.{fieldAt}
 use Rattle.wing_node.proofs.Branches.{branch}
 use Rattle.wing_node.proofs.Numerals.Numbers.{Digits, digits-take, digits-drop, number-below}
 use Rattle.wing_node.proofs.Numerals.Signs.{signed-in}
+use Rattle.wing_node.proofs.Refusals.{reason}
 use Rattle.wing_wire.specs.Token.{widthOf}
 use Rattle.wing_wire.specs.State.{bodyLimit, stateOf, soundState, freshControl}
 use Rattle.wing_wire.specs.Range.{AreBytes, noBytes, byteThen, PendingByte, noPending, pendingByte, TokenWithin, NumberIn, InRange}
@@ -31,6 +34,7 @@ use Rattle.wing_saved.specs.Saved.{version, savedSize, pendingFlag, pend
 use Rattle.wing_saved.specs.Saved.{saveOf, headAs, loadedAs, loadedResult, CountIn, Saves, LoadedSound, HeadOf, SavedLaws}
 use Rattle.wing_saved.specs.declared.TokenFields.{TokenFields}
 use Rattle.wing_saved.specs.declared.HeadRead.{HeadRead}
+use Rattle.wing_saved.specs.declared.LoadAnswer.{LoadAnswer}
 use Rattle.wing_saved.specs.declared.LoadAnswer.the-variants.{Good, Refused as NotLoaded}
 use Rattle.wing_saved.proofs.Saving.Fronts.{begins-joined, begins-parts}
 use Rattle.wing_saved.proofs.Saving.Heads.{Fits, head-size, after-head, channel-fits, control-back}
@@ -112,7 +116,7 @@ begun v bytes c =
     P : Result Control → Type 0
     P r = r ≡ ok c → Begun v bytes c
 
-    none : P (refused 8)
+    none : P (refused (alone 8))
     none e = absurd (let z : _≡_ {A = ℕ} 0 1 = cc in omega arith)
 
 pub laid-under : (v : ℕ) (bytes : List ℕ) → begins (headUnder v (controlIn bytes)) bytes ≡ true → headUnder v (controlIn bytes) ++ drop 27 bytes ≡ bytes
@@ -134,27 +138,32 @@ head-of bytes c e =
       state = ap (λ (r : Result Control). stateWith r bytes) e;
     }
 
-headless : (bytes : List ℕ) (n : ℕ) → headFrom bytes ≡ refused n → stateFrom bytes ≡ refused n
+headless : (bytes : List ℕ) (why : Refusal) → headFrom bytes ≡ refused why → stateFrom bytes ≡ refused why
 unfolding stateFrom stateWith
-headless bytes n e = ap (λ (r : Result Control). stateWith r bytes) e
+headless bytes why e = ap (λ (r : Result Control). stateWith r bytes) e
 
 -- what the answer of head says of the bytes
 pub said-good : (r : Result Control) (h : HeadRead) → h ≡ headAs r → h .answer ≡ Good → r ≡ ok (h .control)
 unfolding headAs
 said-good (ok c) h e a = ap (λ (x : HeadRead). ok (x .control)) (sym e)
-said-good (refused n) h e a = absurd (let b = ap (λ (x : HeadRead). x .answer) e in let z : _≡_ {A = ℕ} 0 1 = cc in omega arith)
+said-good (refused why) h e a = absurd (let b = ap (λ (x : HeadRead). x .answer) e in let z : _≡_ {A = ℕ} 0 1 = cc in omega arith)
 
-pub said-refused : (r : Result Control) (h : HeadRead) (n : ℕ) → h ≡ headAs r → h .answer ≡ NotLoaded n → r ≡ refused n
+-- the reason in an answer, or another
+abbrev answered : Refusal → LoadAnswer → Refusal
+answered other Good = other
+answered other (NotLoaded why) = why
+
+pub said-refused : (r : Result Control) (h : HeadRead) (why : Refusal) → h ≡ headAs r → h .answer ≡ NotLoaded why → r ≡ refused why
 unfolding headAs
-said-refused (ok c) h n e a = absurd (let b = ap (λ (x : HeadRead). x .answer) e in let z : _≡_ {A = ℕ} 0 1 = cc in omega arith)
-said-refused (refused m) h n e a = let b = ap (λ (x : HeadRead). x .answer) e in let z : m ≡ n = cc in ap refused z
+said-refused (ok c) h why e a = absurd (let b = ap (λ (x : HeadRead). x .answer) e in let z : _≡_ {A = ℕ} 0 1 = cc in omega arith)
+said-refused (refused other) h why e a = let b = ap (λ (x : HeadRead). x .answer) e in ap refused (ap (answered other) (sym b ∙ a))
 
 module _ (bytes : List ℕ) (h : HeadRead) (e : h ≡ headAs (headFrom bytes)) where
   pub head-good : h .answer ≡ Good → HeadOf bytes (h .control)
   head-good a = head-of bytes (h .control) (said-good (headFrom bytes) h e a)
 
-  pub head-refused : (n : ℕ) → h .answer ≡ NotLoaded n → stateFrom bytes ≡ refused n
-  head-refused n a = headless bytes n (said-refused (headFrom bytes) h n e a)
+  pub head-refused : (why : Refusal) → h .answer ≡ NotLoaded why → stateFrom bytes ≡ refused why
+  head-refused why a = headless bytes why (said-refused (headFrom bytes) h why e a)
 
 -- the tests that bytes passed which read as s
 record Passed (bytes : List ℕ) (s : State) : Type 0 where
@@ -175,7 +184,7 @@ passed bytes s =
     P : Result State → Type 0
     P r = r ≡ ok s → Passed bytes s
 
-    none : P (refused 8)
+    none : P (refused (alone 8))
     none e = absurd (let z : _≡_ {A = ℕ} 0 1 = cc in omega arith)
 
 -- bytes as digits of base 256
@@ -233,7 +242,7 @@ module _ (bytes : List ℕ) (are : AreBytes bytes) where
       subst (Saves bytes) (p .same) (record { typed = record { range = range-in (p .size); count = counts-in }; sound = p .sound; laid = laid-again bytes (p .front) })
 
 -- no other number than 8
-refusal : (bytes : List ℕ) (n : ℕ) → stateFrom bytes ≡ refused n → n ≡ 8
+refusal : (bytes : List ℕ) (why : Refusal) → stateFrom bytes ≡ refused why → why ≡ alone 8
 unfolding stateFrom stateWith headFromUnder soundOnly
 refusal bytes =
     branch Head (eqb (length bytes) savedSize) _ _
@@ -241,16 +250,16 @@ refusal bytes =
     (λ _. eight)
   where
     Eight : Result State → Type 0
-    Eight r = (n : ℕ) → r ≡ refused n → n ≡ 8
+    Eight r = (why : Refusal) → r ≡ refused why → why ≡ alone 8
 
     Head : Result Control → Type 0
     Head r = Eight (stateWith r bytes)
 
-    eight : Eight (refused 8)
-    eight n e = let z : 8 ≡ n = cc in sym z
+    eight : Eight (refused (alone 8))
+    eight why e = sym (ap (reason why) e)
 
     taken : Eight (ok (said-by bytes))
-    taken n e = absurd (let z : _≡_ {A = ℕ} 0 1 = cc in omega arith)
+    taken why e = absurd (let z : _≡_ {A = ℕ} 0 1 = cc in omega arith)
 
 -- what reads as a state reads as a sound one
 loaded-sound : (bytes : List ℕ) (s : State) → stateFrom bytes ≡ ok s → LoadedSound bytes s
@@ -270,7 +279,7 @@ kept s out e l n =
 pub loaded-result : (r : Result State) → loadedResult (loadedAs r .answer) (loadedAs r .state) ≡ r
 unfolding loadedAs loadedResult
 loaded-result (ok s) = refl
-loaded-result (refused n) = refl
+loaded-result (refused why) = refl
 
 -- the form at work: a fresh state is 02 00 ff and then zeros
 fresh-head : headBytes freshControl ≡ 0x02 ∷ 0x00 ∷ 0xff ∷ replicate 24 0

@@ -10,6 +10,7 @@ use lib.ListN.{length, take, replicate, length-replicate}
 use lib.Seq.{length-take-le}
 use Rattle.wing_node.specs.Value.{string}
 use Rattle.wing_node.specs.Bool.{if}
+use Rattle.wing_node.specs.Refusal.{alone}
 use Rattle.wing_wire.specs.State.{bodyLimit, soundState}
 use Rattle.wing_wire.specs.Stream.{Run, advanceOf}
 use Rattle.wing_wire.specs.Reader.{value, body, refused, eventOf, over, filled, stringBeside, bodyBeside, refusedNext, nextFrom, nextOf, eventIn, nextEvent}
@@ -53,7 +54,7 @@ next-event s bytes l = go (soundState s) (leb (length bytes) 65536) refl
 
     go : (q k : Bool) → soundState s ≡ q →
         eventIn (if q (if k (nextFrom r) (refusedNext 14 s)) (refusedNext 8 s)) ≡
-        if q (if k (eventOf (r .effect .answered .answer) (r .effect .store) (r .effect .store)) (refused 14)) (refused 8)
+        if q (if k (eventOf (r .effect .answered .answer) (r .effect .store) (r .effect .store)) (refused (alone 14))) (refused (alone 8))
     go true true e =
         let b = advance-bounded (s .control) (s .store) bytes (sound-within s e) in
         event-beside (r .effect .answered .answer) (r .effect .store) (b .size ∙ l) (b .within)

@@ -11,7 +11,7 @@ use lib.IntN.{ℤ}
 use lib.ListN.{length, take, drop, set, replicate, length-set, length-append, length-replicate, take-append-drop}
 use Rattle.wing_node.proofs.Branches.{branch}
 use Rattle.wing_node.specs.Bool.{if}
-use Rattle.wing_node.specs.Utf8.{utf8, charsFrom}
+use Rattle.wing_node.specs.Utf8.{utf8, goodFrom, good}
 use Rattle.wing_wire.specs.State.{bodyLimit}
 use Rattle.wing_wire.specs.Token.{Row, table, ruleIn, ruleOf, widthOf}
 use Rattle.wing_wire.specs.Escape.{decodeOf}
@@ -72,7 +72,7 @@ pub record BoundedUnitEffect (n : ℕ) (o : UnitEffect) : Type 0 where
   pub size : length (o .store) ≡ n
 
 single-in : (node : ℤ) (class : Class) (t : ℕ) (s : List ℕ) → Bounded s (completes node (singleOf class t))
-unfolding singleOf utf8 charsFrom
+unfolding singleOf utf8 goodFrom good
 single-in node NoEvent t s = record { token = tt; within = tt }
 single-in node Integer t s = record { token = tt; within = tt }
 single-in node String t s = record { token = tt; within = (omega arith, refl) }

@@ -16,6 +16,7 @@ use Rattle.wing_node.specs.Digits.{numberFrom, numberIn}
 use Rattle.wing_node.specs.Field.{big}
 use Rattle.wing_node.specs.Signed.{signed}
 use Rattle.wing_node.specs.Value.{integer, float, string}
+use Rattle.wing_node.specs.Refusal.{alone}
 use Rattle.wing_wire.specs.State.{bodyLimit}
 use Rattle.wing_wire.specs.Escape.{decodeOf, escapedOf, plainOf, otherOf}
 use Rattle.wing_wire.specs.Stream.{Fed}
@@ -156,15 +157,15 @@ wants-df a c n force =
     upto n 0
     (λ l.
     let z : n ≡ 0 = omega arith in
-    let r : InTable (streamUnit 0xdf a ∷ c) (event (refused 3)) = counts-zero a c (subst (InForce c) z force) in
+    let r : InTable (streamUnit 0xdf a ∷ c) (event (refused (alone 3))) = counts-zero a c (subst (InForce c) z force) in
     record {
       number = 0;
-      result = λ us. event (refused 3);
-      token = λ us k. subst (λ (l : List StreamUnit). InTable (streamUnit 0xdf a ∷ (c ++ l)) (event (refused 3))) (sym (nil us k)) (rw (append-nil c) r);
+      result = λ us. event (refused (alone 3));
+      token = λ us k. subst (λ (l : List StreamUnit). InTable (streamUnit 0xdf a ∷ (c ++ l)) (event (refused (alone 3)))) (sym (nil us k)) (rw (append-nil c) r);
     })
     (λ l.
     upto n bodyLimit (λ most. record { number = n; result = λ us. event (body (appended us)); token = λ us k. bodies a c us n force (omega arith) most k })
-    (λ over. record { number = n; result = λ us. event (refused 2); token = λ us k. count-over a c us n force over k }))
+    (λ over. record { number = n; result = λ us. event (refused (alone 2)); token = λ us k. count-over a c us n force over k }))
 
 -- df and a 16-bit count that is not 0
 wants-count : (a : Bool) (c d : StreamUnit) → c .unit < 256 → d .unit < 256 → 1 ≤ d .unit → Wants (streamUnit 0xdf a ∷ c ∷ d ∷ [])

@@ -13,6 +13,7 @@ use Rattle.wing_node.proofs.Branches.{branch}
 use Rattle.wing_node.specs.Signed.{signed, InBits}
 use Rattle.wing_node.specs.Utf8.{utf8}
 use Rattle.wing_node.proofs.Numerals.Signs.{signed-in}
+use Rattle.wing_node.specs.Refusal.{alone, stringNotUtf8}
 use Rattle.wing_wire.specs.Token.{ruleOf}
 use Rattle.wing_wire.specs.State.{bodyLimit, escape, freshState}
 use Rattle.wing_wire.specs.Escape.{decodeOf, escapedOf, plainOf, otherOf}
@@ -117,7 +118,7 @@ module _ (node : ℤ) (nodeIn : InBits 31 node) where
 
   long-count-in : (c : ℕ) → TakenIn (longCountOf node c)
   unfolding longCountOf
-  long-count-in c = branch TakenIn (eqb c 0) _ _ (λ _. plainly Between (Refused 3) tt tt) (λ _. plainly (InBody 0 c c) More tt tt)
+  long-count-in c = branch TakenIn (eqb c 0) _ _ (λ _. plainly Between (Refused (alone 3)) tt tt) (λ _. plainly (InBody 0 c c) More tt tt)
 
   number-in : (class : Class) (v : ℕ) → v < 2 ^ 32 → TakenIn (numberOf node class v)
   unfolding numberOf
@@ -142,7 +143,7 @@ module _ (node : ℤ) (nodeIn : InBits 31 node) where
   done-in : (want : ℕ) (s : List ℕ) → StoreIn s → UnitEffectIn (stringDone node want s)
   unfolding stringDone
   done-in want s g =
-      branch UnitEffectIn (utf8 (take want s)) _ _ (λ _. (plainly Between (aString want) tt tt, g)) (λ _. (plainly Between (Refused 1) tt tt, stored-cleared want s g))
+      branch UnitEffectIn (utf8 (take want s)) _ _ (λ _. (plainly Between (aString want) tt tt, g)) (λ _. (plainly Between (Refused (stringNotUtf8 (take want s))) tt tt, stored-cleared want s g))
 
   string-in : (want left u : ℕ) (s : List ℕ) → u < 256 → StoreIn s → UnitEffectIn (stringUnit node want left s u)
   unfolding stringUnit
@@ -154,7 +155,7 @@ module _ (node : ℤ) (nodeIn : InBits 31 node) where
   unfolding bodyNext bodyDone
   body-next-in want left stored =
       branch TakenIn (leb left 1) _ _
-      (λ _. branch TakenIn (leb want bodyLimit) _ _ (λ _. plainly Between (aBody stored) tt tt) (λ _. plainly Between (Refused 2) tt tt))
+      (λ _. branch TakenIn (leb want bodyLimit) _ _ (λ _. plainly Between (aBody stored) tt tt) (λ _. plainly Between (Refused (alone 2)) tt tt))
       (λ _. plainly (InBody stored want (left - 1)) More tt tt)
 
   body-in : (want left stored u : ℕ) (s : List ℕ) (a : Bool) → u < 256 → StoreIn s → UnitEffectIn (bodyUnit node want left stored s u a)

@@ -18,6 +18,7 @@ use Rattle.wing_node.specs.Field.{big}
 use Rattle.wing_node.specs.Signed.{signed}
 use Rattle.wing_node.specs.Utf8.{utf8}
 use Rattle.wing_node.specs.Value.{integer, float, string}
+use Rattle.wing_node.specs.Refusal.{alone, stringNotUtf8}
 use Rattle.wing_wire.specs.Token.{Row, rule, table, ruleIn, ruleOf}
 use Rattle.wing_wire.specs.State.{bodyLimit, control, zeros}
 use Rattle.wing_wire.specs.Unit.{completes, awaits, singleOf, isString, tokenOf, beginOf, countOf, longCountOf, numberOf, shiftIn, numberUnit, UnitEffect, unitEffect, cleared, stringDone, stringUnit, keeps, bodyDone, bodyNext, bodyUnit, unitOf}
@@ -202,15 +203,15 @@ module _ {M : Type 0} (h : ℤ → Event → M → M) where
 
     string-done : (t : List ℕ) → length t ≤ bodyLimit → done (stringDone node (length t) (sets emptyStore 0 t)) ≡ after h e node m (stringOf t)
     unfolding stringDone eventOf
-    string-done t l = ap (λ (x : List ℕ). done (if (utf8 x) whole bad)) (front-read t emptyStore (fits-empty t l)) ∙ go (utf8 t)
+    string-done t l = ap (λ (x : List ℕ). done (if (utf8 x) whole (bad x))) (front-read t emptyStore (fits-empty t l)) ∙ go (utf8 t)
       where
         whole : UnitEffect
         whole = unitEffect (completes node (aString (length t))) (sets emptyStore 0 t)
 
-        bad : UnitEffect
-        bad = unitEffect (completes node (Refused 1)) (cleared (length t) (sets emptyStore 0 t))
+        bad : List ℕ → UnitEffect
+        bad x = unitEffect (completes node (Refused (stringNotUtf8 x))) (cleared (length t) (sets emptyStore 0 t))
 
-        go : (q : Bool) → done (if q whole bad) ≡ after h e node m (if q (event (value (string t))) (event (refused 1)))
+        go : (q : Bool) → done (if q whole (bad t)) ≡ after h e node m (if q (event (value (string t))) (event (refused (stringNotUtf8 t))))
         go true = rw (front-cleared t emptyStore (fits-empty t l) empty-zeros) (rw (front-read t emptyStore (fits-empty t l)))
         go false = rw (front-cleared t emptyStore (fits-empty t l) empty-zeros)
 
@@ -294,7 +295,7 @@ module _ {M : Type 0} (h : ℤ → Event → M → M) where
 
     -- the body, or 2
     abbrev bodyOf : ℕ → List StreamUnit → TokenResult
-    bodyOf c us = if (leb c bodyLimit) (event (body (appended us))) (event (refused 2))
+    bodyOf c us = if (leb c bodyLimit) (event (body (appended us))) (event (refused (alone 2)))
 
     body-ends : (us : List StreamUnit) → 1 ≤ length us → unitsTaken handed (stands (InBody 0 (length us) (length us)) emptyStore) us ≡ after h e node m (bodyOf (length us) us)
     unfolding bodyDone eventOf
@@ -304,7 +305,7 @@ module _ {M : Type 0} (h : ℤ → Event → M → M) where
         t = appended us
 
         go : (q : Bool) → leb (length us) bodyLimit ≡ q →
-            unitsTaken handed (stands (InBody 0 (length us) (length us)) emptyStore) us ≡ after h e node m (if q (event (body t)) (event (refused 2)))
+            unitsTaken handed (stands (InBody 0 (length us) (length us)) emptyStore) us ≡ after h e node m (if q (event (body t)) (event (refused (alone 2))))
         go true q =
             let l : length us ≤ bodyLimit = leb-true (length us) bodyLimit q in
             let few : length t ≤ bodyLimit = omega (arith, appended-few us) in
@@ -400,9 +401,9 @@ module _ {M : Type 0} (h : ℤ → Event → M → M) where
       }
 
   -- a first unit that is its whole token
-  alone : (t : ℕ) (a : Bool) (class : Class) (g : TokenResult) → ruleOf t ≡ rule class 0 →
+  one-unit : (t : ℕ) (a : Bool) (class : Class) (g : TokenResult) → ruleOf t ≡ rule class 0 →
       ((e : Escape) (node : ℤ) (m : M) → done h e node m (unitEffect (completes node (singleOf class t)) emptyStore) ≡ after h e node m g) → Token h (streamUnit t a ∷ []) g
-  alone t a class g q k = whole (streamUnit t a ∷ []) g (λ e node m. subst (Leads h e node m (between h e node m) (streamUnit t a ∷ [])) (k e node m) (single h e node m emptyStore t a class q))
+  one-unit t a class g q k = whole (streamUnit t a ∷ []) g (λ e node m. subst (Leads h e node m (between h e node m) (streamUnit t a ∷ [])) (k e node m) (single h e node m emptyStore t a class q))
 
   -- a number after its first unit
   number-token : (t : ℕ) (a : Bool) (class : Class) (w : ℕ) (us : List StreamUnit) (g : TokenResult) → ruleOf t ≡ rule class (suc w) → isString class ≡ false → w ≤ 3 → Further (suc w) us →
@@ -462,16 +463,16 @@ module _ {M : Type 0} (h : ℤ → Event → M → M) where
   force-leads e node m a c n (long z d f none k) l = rw (ne-eqb n 0 (λ z. omega arith)) at (long-leads e node m a z d f none k)
 
   body-token : (a : Bool) (c us : List StreamUnit) (n : ℕ) → InForce c n → 1 ≤ n → Further n us →
-      Token h (streamUnit 0xdf a ∷ (c ++ us)) (if (leb n bodyLimit) (event (body (appended us))) (event (refused 2)))
+      Token h (streamUnit 0xdf a ∷ (c ++ us)) (if (leb n bodyLimit) (event (body (appended us))) (event (refused (alone 2))))
   body-token a c us n force some k =
-      whole (streamUnit 0xdf a ∷ (c ++ us)) (if (leb n bodyLimit) (event (body (appended us))) (event (refused 2)))
+      whole (streamUnit 0xdf a ∷ (c ++ us)) (if (leb n bodyLimit) (event (body (appended us))) (event (refused (alone 2))))
       (λ e node m. leads-on h e node m (force-leads e node m a c n force some) (body-leads h e node m n us k some))
 
-  zero-token : (a : Bool) (c : List StreamUnit) (n : ℕ) → InForce c n → n ≡ 0 → Token h (streamUnit 0xdf a ∷ c) (event (refused 3))
+  zero-token : (a : Bool) (c : List StreamUnit) (n : ℕ) → InForce c n → n ≡ 0 → Token h (streamUnit 0xdf a ∷ c) (event (refused (alone 3)))
   unfolding longCountOf eventOf
   zero-token a c n (short d f some) z = absurd (omega arith)
   zero-token a c n (long y d f none k) z =
-      whole (streamUnit 0xdf a ∷ c) (event (refused 3)) (λ e node m. rw (eq-eqb (big (values d)) 0 z) at (long-leads e node m a y d f none k))
+      whole (streamUnit 0xdf a ∷ c) (event (refused (alone 3))) (λ e node m. rw (eq-eqb (big (values d)) 0 z) at (long-leads e node m a y d f none k))
 
   -- a string from a row of first units
   row-token : (t low : ℕ) (a : Bool) (us : List StreamUnit) → ruleOf t ≡ rule String (t - low + 1) → t - low + 1 ≤ 256 → Further (t - low + 1) us → Token h (streamUnit t a ∷ us) (stringOf (values us))
@@ -482,10 +483,10 @@ module _ {M : Type 0} (h : ℤ → Event → M → M) where
   -- 01's table, row by row
   pub row : (us : List StreamUnit) (g : TokenResult) → InTable us g → Token h us g
   unfolding ruleOf ruleIn singleOf isString numberOf eventOf
-  row us g (integer-t t a r) = alone t a Integer (event (value (integer (pos t)))) (rule-small t r) (λ e node m. refl)
+  row us g (integer-t t a r) = one-unit t a Integer (event (value (integer (pos t)))) (rule-small t r) (λ e node m. refl)
   row us g (string-80 t a vs r f) = row-token t 0x80 a vs (rule-80 t r) (omega (arith, r .1)) f
   row us g (string-c0 t a vs r f) = row-token t 0xc0 a vs (rule-c0 t r) (omega (arith, r .1)) f
-  row us g (string-d0 a) = alone 0xd0 a String (event (value (string []))) refl (λ e node m. refl)
+  row us g (string-d0 a) = one-unit 0xd0 a String (event (value (string []))) refl (λ e node m. refl)
   row us g (string-d1 n a b vs l f) = length-token n a b vs l f
   row us g (integer-16 a vs f) =
       let low : big (values vs) % 0x10000 ≡ big (values vs) = omega (arith, big-small 2 vs f) in
@@ -495,8 +496,8 @@ module _ {M : Type 0} (h : ℤ → Event → M → M) where
   row us g (new-node a vs f) = number-token 0xd7 a Node 3 vs (newNode (signed 31 (big (values vs)))) refl refl (omega arith) f (λ e n m. refl)
   row us g (skips-two a vs f) = number-token 0xd2 a NoEvent 1 vs nothing refl refl (omega arith) f (λ e node m. refl)
   row us g (skips-one a vs f) = number-token 0xd9 a NoEvent 0 vs nothing refl refl (omega arith) f (λ e node m. refl)
-  row us g (end-unit a) = alone 0xde a End (event end) refl (λ e node m. refl)
+  row us g (end-unit a) = one-unit 0xde a End (event end) refl (λ e node m. refl)
   row us g (bodies a c vs n force some most k) = rw (le-leb n bodyLimit most) at (body-token a c vs n force some k)
   row us g (count-over a c vs n force over k) = rw (lt-leb n bodyLimit over) at (body-token a c vs n force (omega arith) k)
   row us g (counts-zero a c force) = zero-token a c 0 force refl
-  row us g (no-event t a r) = alone t a NoEvent nothing (rule-rest t r) (λ e node m. refl)
+  row us g (no-event t a r) = one-unit t a NoEvent nothing (rule-rest t r) (λ e node m. refl)

@@ -13,6 +13,7 @@ use Rattle.wing_node.proofs.Branches.{if-both}
 use Rattle.wing_node.specs.Signed.{unsigned}
 use Rattle.wing_node.specs.Utf8.{utf8}
 use Rattle.wing_node.specs.Value.{string}
+use Rattle.wing_node.specs.Refusal.{alone, stringNotUtf8}
 use Rattle.wing_wire.specs.declared.write.Written.the-variants.{Refused}
 use Rattle.wing_wire.specs.Write.{field, writeEffect, writeOf}
 use Rattle.wing_wire.specs.Command.{from_to_, integerBytes, idBytes, setBytes, setString, requestBytes}
@@ -48,11 +49,11 @@ request-other what (pos n) ne = simp (ne-eqb n 0 (λ e. ne (ap pos e)))
 request-other what (negsuc n) ne = refl
 
 module _ (id : ℤ) (s out : List ℕ) where
-  pub string-long : 256 < length s → writeEffect (Refused 10) out ≡ setString id s out
+  pub string-long : 256 < length s → writeEffect (Refused (alone 10)) out ≡ setString id s out
   unfolding setString
   string-long h = simp (lt-leb (length s) 256 h)
 
-  pub string-bad : length s ≤ 256 → utf8 s ≡ false → writeEffect (Refused 1) out ≡ setString id s out
+  pub string-bad : length s ≤ 256 → utf8 s ≡ false → writeEffect (Refused (stringNotUtf8 s)) out ≡ setString id s out
   unfolding setString
   string-bad h e = simp (le-leb (length s) 256 h, e)
 

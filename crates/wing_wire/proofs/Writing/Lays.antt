@@ -13,6 +13,7 @@ use lib.Seq.{sets, sets-eq, set-out, drop-set-add, take-set-le, take-suc, take-a
 use borrow.Author.Tests.{le-ltb, lt-ltb, ne-eqb}
 use Rattle.wing_node.specs.Bool.{if}
 use Rattle.wing_node.proofs.Numerals.Placed.{sets-append}
+use Rattle.wing_node.specs.Refusal.{alone}
 use Rattle.wing_wire.specs.declared.write.Written.the-variants.{Bytes, Refused}
 use Rattle.wing_wire.specs.Write.{escaped, Laid, writeEffect, writeOf}
 
@@ -58,7 +59,7 @@ unfolding writeOf
 whole s d m h = rw (m, le-ltb (length d) (length s) h)
 
 -- and where there is none
-pub short : (s d : List ℕ) → length d < length s → writeEffect (Refused 9) d ≡ writeOf s d
+pub short : (s d : List ℕ) → length d < length s → writeEffect (Refused (alone 9)) d ≡ writeOf s d
 unfolding writeOf
 short s d h = rw (lt-ltb (length d) (length s) h)
 

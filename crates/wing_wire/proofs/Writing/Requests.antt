@@ -10,6 +10,7 @@ use lib.Dec.{ltb}
 use lib.Seq.{take-suc}
 use borrow.Author.Tests.{le-leb, lt-leb, eq-eqb, ne-eqb}
 use Rattle.wing_node.specs.Bool.{if}
+use Rattle.wing_node.specs.Refusal.{refusalNumber, alone}
 use Rattle.wing_wire.specs.declared.meter.Meter.{Meter}
 use Rattle.wing_wire.specs.declared.meter.Meter.the-variants.{Channel}
 use Rattle.wing_wire.specs.declared.meter.Requested.{Requested}
@@ -27,13 +28,13 @@ withId id w = requestEffect (answer (w .answer)) (w .out)
   where
     answer : Written → Requested
     answer (BytesWritten n) = Bytes n id
-    answer (WriteRefused why) = Refused why
+    answer (WriteRefused why) = Refused (refusalNumber why)
 
 write-request : (id : ℕ) (s d : List ℕ) → withId id (writeOf s d) ≡ writeRequestOf s id d
 unfolding writeOf writeRequestOf
 write-request id s d = go (ltb (length d) (length s))
   where
-    go : (q : Bool) → withId id (if q (writeEffect (WriteRefused 9) d) (writeEffect (BytesWritten (length s)) (s ++ drop (length s) d))) ≡ if q (requestEffect (Refused 9) d) (requestEffect (Bytes (length s) id) (s ++ drop (length s) d))
+    go : (q : Bool) → withId id (if q (writeEffect (WriteRefused (alone 9)) d) (writeEffect (BytesWritten (length s)) (s ++ drop (length s) d))) ≡ if q (requestEffect (Refused 9) d) (requestEffect (Bytes (length s) id) (s ++ drop (length s) d))
     go true = refl
     go false = refl
 

@@ -13,7 +13,7 @@ use Rattle.wing_node.specs.Digits.{digitsIn}
 use Rattle.wing_node.specs.Field.{bytesOf}
 use Rattle.wing_node.specs.Signed.{unsigned}
 use Rattle.wing_node.specs.Value.{integer, float, string}
-use Rattle.wing_node.specs.Utf8.{Range, chars, Matches, end, byte, Octets, empty, char, holds, begins, firstThat, charLength, charsFrom, utf8}
+use Rattle.wing_node.specs.Utf8.{Range, chars, Matches, end, byte, Octets, empty, char, holds, begins, firstThat, charLength, goodFrom, good, utf8}
 use Rattle.wing_node.proofs.Below.{and-T-left, and-T-right}
 use Rattle.wing_node.proofs.Characters.Fronts.{matches-length}
 use borrow.Author.Tests.{ltb-true, ltb-false, ne-eqb}
@@ -191,7 +191,7 @@ leads zero = []
 leads (suc n) = 0xdf ∷ 0x80 ∷ leads n
 
 pub set-string-reached : (utf8 (leads 128) ≡ true) × (length (setBytes (negsuc 0x20202020) (string (leads 128))) ≡ 395)
-unfolding setBytes valueBytes idBytes stringBytes lengthBytes leads escaped digitsIn utf8 charsFrom charLength firstThat begins holds
+unfolding setBytes valueBytes idBytes stringBytes lengthBytes leads escaped digitsIn utf8 goodFrom good charLength firstThat begins holds
 set-string-reached = (refl, refl)
 
 pub request-reached : length (requestBytes 0xdd (negsuc 0x20202020)) ≡ 10

@@ -1,13 +1,16 @@
 -- Each arm is the line of `eventNumbers` with that answer; the node and an integer come back from their bits as they went in.
 use mir.Syntax.{w32}
 use mir.Val.{toZ, ofZ}
-use mathlib.Core.Path.{_≡_, _∙_, ap}
+use mathlib.Core.Path.{_≡_, _∙_}
 use borrow.Author.Needs.{needs}
 use Rattle.wing_c.proofs.answers.event.Statement.{statement}
 use Rattle.wing_c.proofs.answers.event.Tie as tie
 
 enum-told : tie.Need-enum-told
 enum-told c = search needs
+
+no-refusal-requires : tie.Need-no-refusal-requires
+no-refusal-requires c κs = search needs
 
 without-event-requires : tie.Need-without-event-requires
 without-event-requires c κs = search needs
@@ -48,16 +51,16 @@ event-of-requires-5 c κs = search needs
 enum-known-a-5 : tie.Need-enum-known-a-5
 enum-known-a-5 c = search needs
 
-minus-requires : tie.Need-minus-requires
-minus-requires c κs = search needs
+sent-back-requires : tie.Need-sent-back-requires
+sent-back-requires c κs = search needs
 
 without-event-requires-2 : tie.Need-without-event-requires-2
 without-event-requires-2 c κs = search needs
 
 returns : tie.Need-returns
 returns c =
-    let back : toZ w32 (ofZ w32 (c .before .before .before .args .node)) ≡ c .before .before .before .args .node = search needs in
-    (rw back at (c .without-event .ensures)) ∙ simp (c .before .enum-told .given .1)
+    let back : toZ w32 (ofZ w32 (c .before .before .before .before .args .node)) ≡ c .before .before .before .before .args .node = search needs in
+    (rw back at (c .without-event .ensures)) ∙ simp (c .before .no-refusal .ensures, c .before .before .enum-told .given .1)
 
 returns-2 : tie.Need-returns-2
 returns-2 c =
@@ -87,15 +90,15 @@ returns-6 c =
 
 returns-7 : tie.Need-returns-7
 returns-7 c =
-    let back : toZ w32 (ofZ w32 (c .before .minus .result)) ≡ c .before .minus .result = search needs in
-    let back2 : toZ w32 (ofZ w32 (c .before .before .before .before .before .args .node)) ≡ c .before .before .before .before .before .args .node = search needs in
-    (rw (back, back2) at (c .without-event2 .ensures)) ∙ simp (c .before .minus .ensures, c .before .before .before .a5 .given .1)
+    let back : toZ w32 (ofZ w32 (c .before .before .before .before .before .args .node)) ≡ c .before .before .before .before .before .args .node = search needs in
+    (rw back at (c .without-event2 .ensures)) ∙ simp (c .before .sent-back .ensures, c .before .before .before .a5 .given .1)
 
 pub event-spec : {M : Type 1} → statement M
 event-spec =
     tie.close
     (tie.spec
     enum-told
+    no-refusal-requires
     without-event-requires
     enum-known-a
     of-i32-requires
@@ -109,7 +112,7 @@ event-spec =
     enum-told-2
     event-of-requires-5
     enum-known-a-5
-    minus-requires
+    sent-back-requires
     without-event-requires-2
     returns
     returns-2

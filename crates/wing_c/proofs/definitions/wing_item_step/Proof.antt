@@ -16,6 +16,9 @@ item-step-requires c κs = search needs
 item-requires : tie.Need-item-requires
 item-requires c κs = search needs
 
+no-refusal-requires : tie.Need-no-refusal-requires
+no-refusal-requires c κs = search needs
+
 type-number-requires : tie.Need-type-number-requires
 type-number-requires c κs = search needs
 
@@ -24,8 +27,9 @@ walk-requires c κs = search needs
 
 returns : tie.Need-returns
 returns c =
-    let entry = c .before .before .before .before .before .before .before in
-    rw (c .walk .ensures, c .before .type-number .ensures, c .before .before .item .ensures) (ap stepNumbers (c .before .before .before .before .item-step .ensures ∙ ap (stepAt (now (entry .args .body)) (entry .args .at) (entry .args .left)) (c .before .before .before .before .before .type-of .ensures)))
+    let entry = c .before .before .before .before .before .before .before .before in
+    rw (c .walk .ensures, c .before .type-number .ensures, c .before .before .no-refusal .ensures, c .before .before .before .item .ensures)
+    (ap stepNumbers (c .before .before .before .before .before .item-step .ensures ∙ ap (stepAt (now (entry .args .body)) (entry .args .at) (entry .args .left)) (c .before .before .before .before .before .before .type-of .ensures)))
 
 pub wing-item-step-spec : {M : Type 1} → statement M
 wing-item-step-spec =
@@ -34,6 +38,7 @@ wing-item-step-spec =
     type-of-requires
     item-step-requires
     item-requires
+    no-refusal-requires
     type-number-requires
     walk-requires
     returns)

@@ -17,6 +17,9 @@ enum-told c = search needs
 enum-known-a : tie.Need-enum-known-a
 enum-known-a c = search needs
 
+number-requires : tie.Need-number-requires
+number-requires c κs = search needs
+
 minus-requires : tie.Need-minus-requires
 minus-requires c κs = search needs
 
@@ -27,10 +30,10 @@ returns c =
 
 returns-2 : tie.Need-returns-2
 returns-2 c =
-    let loaded = c .before .before .before .before .load in
+    let loaded = c .before .before .before .before .before .load in
     let back : toZ w32 (ofZ w32 (c .minus .result)) ≡ c .minus .result = search needs in
-    rw (back, load-refused (now (c .before .before .before .before .before .before .args .state)) (loaded .result) _ (loaded .ensures) (c .before .before .a .given .1)) (c .minus .ensures)
+    rw (back, load-refused (now (c .before .before .before .before .before .before .before .args .state)) (loaded .result) _ (loaded .ensures) (c .before .before .before .a .given .1), c .minus .ensures, c .before .number .ensures) refl
 
 pub wing-state-check-spec : {M : Type 1} → statement M
 wing-state-check-spec =
-    tie.close (tie.spec load-requires enum-told enum-known-a minus-requires returns returns-2)
+    tie.close (tie.spec load-requires enum-told enum-known-a number-requires minus-requires returns returns-2)

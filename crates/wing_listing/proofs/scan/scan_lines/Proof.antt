@@ -1,16 +1,17 @@
 -- The invariant: what is counted so far with the reading of the lines left is the reading of all. A turn takes one line (Texts/Turns).
-use Prim.Native.Nat.{_+_, _-_, _≤_, _<_}
-use mathlib.Core.Path.{_≡_, refl, sym, ap, _∙_}
+use Prim.Native.Nat.{_+_, _-_, _≤_}
+use mathlib.Core.Path.{_≡_, sym, ap, _∙_}
 use native.Mathlib.Omega.{arith}
 use borrow.Author.Needs.{needs}
 use mir.Syntax.{w32}
 use mir.Val.{toZ, ofZ}
 use lib.Dec.{ltb}
 use lib.ListN.{length, drop}
+use Rattle.wing_node.specs.Refusal.{noFault}
 use Rattle.wing_mirror.specs.Rows.{nothing}
 use Rattle.wing_listing.specs.Parts.{newline, parted}
 use Rattle.wing_listing.specs.Reading.{linesFrom}
-use Rattle.wing_listing.specs.Steps.{idBefore, scannedBad, scannedAs}
+use Rattle.wing_listing.specs.Steps.{idBefore, scannedAs}
 use Rattle.wing_listing.proofs.Texts.Drops.{drop-none}
 use Rattle.wing_listing.proofs.Texts.Turns.{not-equal, line, line-within, the-line, turn-unended, turn-bad, turn-again, judged-why, judged-id}
 use Rattle.wing_listing.proofs.Texts.Scans.{lines-end, counted, counted-all}
@@ -70,24 +71,28 @@ part-judge-end c =
 judge-requires : tie.Need-judge-requires Inv-loop μ-loop
 judge-requires c κs = tt
 
+enum-told : tie.Need-enum-told Inv-loop μ-loop
+enum-told c = search needs
+
+enum-known-fault : tie.Need-enum-known-fault Inv-loop μ-loop
+enum-known-fault c = search needs
+
 bad-requires-2 : tie.Need-bad-requires-2 Inv-loop μ-loop
 bad-requires-2 c κs = tt
 
 returns-2 : tie.Need-returns-2 Inv-loop μ-loop
 returns-2 c =
-    let at-judge = c .before .before .before in
-    let at-find = at-judge .before .before .before in
-    let k = at-find .before .before .before .loop in
-    let text = at-find .before .before .before .before .before .args .text .now in
-    let f = at-find .find in
+    let k = c .before .before .before .before .before .before .before .before .before .before .loop in
+    let text = c .before .before .before .before .before .before .before .before .before .before .before .before .args .text .now in
+    let f = c .before .before .before .before .before .before .before .find in
     let w = line-within text (k .at) (f .result) (f .ensures) in
-    let h = not-equal (k .at + f .result) (length text) (omega (arith, k .inv .0)) (at-judge .before .before .if1 .left) in
+    let h = not-equal (k .at + f .result) (length text) (omega (arith, k .inv .0)) (c .before .before .before .before .before .before .if1 .left) in
     let B = idBefore (ltb 2 (k .number)) (toZ w32 (k .before)) in
     let x = line text (k .at) (f .result) (f .ensures) in
-    let j = at-judge .judge in
+    let j = c .before .before .before .before .judge in
     let why = judged-why B _ x (j .result) (j .ensures) (the-line text (k .at) (f .result) (f .ensures)) in
-    let bad-line = turn-bad text (k .at) (f .result) (f .ensures) h (k .number) B (λ z. c .before .if2 .taken (why ∙ z)) in
-    c .bad2 .ensures ∙ ap (λ n. scannedBad n (k .number)) why ∙ ap (counted (k .number - 2)) (sym bad-line) ∙ k .inv .3
+    let bad-line = turn-bad text (k .at) (f .result) (f .ensures) h (k .number) B _ (sym why ∙ c .before .before .fault .given .1) in
+    c .bad2 .ensures ∙ ap (counted (k .number - 2)) (sym bad-line) ∙ k .inv .3
 
 add-at : tie.Need-add-at Inv-loop μ-loop
 add-at c =
@@ -102,30 +107,28 @@ loop-less c = search needs
 
 loop-again : tie.Need-loop-again Inv-loop μ-loop
 loop-again c =
-    let at-judge = c .before .before .before in
-    let at-find = at-judge .before .before .before in
-    let k = at-find .before .before .before .loop in
-    let text = at-find .before .before .before .before .before .args .text .now in
-    let f = at-find .find in
+    let k = c .before .before .before .before .before .before .before .before .before .loop in
+    let text = c .before .before .before .before .before .before .before .before .before .before .before .args .text .now in
+    let f = c .before .before .before .before .before .before .find in
     let w = line-within text (k .at) (f .result) (f .ensures) in
-    let h = not-equal (k .at + f .result) (length text) (omega (arith, k .inv .0)) (at-judge .before .before .if1 .left) in
+    let h = not-equal (k .at + f .result) (length text) (omega (arith, k .inv .0)) (c .before .before .before .before .before .if1 .left) in
     let B = idBefore (ltb 2 (k .number)) (toZ w32 (k .before)) in
     let x = line text (k .at) (f .result) (f .ensures) in
-    let j = at-judge .judge in
+    let j = c .before .before .before .judge in
     let why = judged-why B _ x (j .result) (j .ensures) (the-line text (k .at) (f .result) (f .ensures)) in
-    let z = c .before .if2 .left in
+    let z = c .before .enum-told .given .1 in
     let i = judged-id B _ x (j .result) (j .ensures) (the-line text (k .at) (f .result) (f .ensures)) z in
     (omega arith, omega (arith, k .inv .1), omega (arith, k .inv .2), turn-again text (k .at) (f .result) (f .ensures) h (k .number) B (toZ w32 (ofZ w32 (j .result .id))) (scannedAs (linesFrom 2 nothing (parted newline text))) (k .inv .1) (sym why ∙ z) i (k .inv .3))
 
-sub-t16 : tie.Need-sub-t16 Inv-loop μ-loop
-sub-t16 c = search needs
+sub-t20 : tie.Need-sub-t20 Inv-loop μ-loop
+sub-t20 c = search needs
 
 returns-3 : tie.Need-returns-3 Inv-loop μ-loop
 returns-3 c =
     let k = c .before .loop in
     let text = c .before .before .before .args .text .now in
     let n : k .number - 2 ≡ k .number - 2 + 0 = omega arith in
-    ap (λ m. record { why = 0; line = 0; count = m }) n ∙
+    ap (λ m. record { fault = noFault; line = 0; count = m }) n ∙
     ap (counted (k .number - 2)) (sym (ap (λ t. linesFrom (k .number) (idBefore (ltb 2 (k .number)) (toZ w32 (k .before))) (parted newline t)) (drop-none text (k .at) (c .loop-test .left)) ∙ lines-end (k .number) (idBefore (ltb 2 (k .number)) (toZ w32 (k .before))))) ∙ k .inv .3
 
 pub scan-lines-spec : {M : Type 1} → statement M
@@ -146,11 +149,13 @@ scan-lines-spec =
     part-judge-start
     part-judge-end
     judge-requires
+    enum-told
+    enum-known-fault
     bad-requires-2
     returns-2
     add-at
     add-number
     loop-less
     loop-again
-    sub-t16
+    sub-t20
     returns-3)

@@ -1,6 +1,6 @@
 -- `definitionOf` opened is the code's reads one after the other: the contract of each call gives its field, and that of `finish` the refusal or the
 -- definition.
-use mathlib.Core.Path.{_≡_, _∙_, ap, ap₂}
+use mathlib.Core.Path.{_≡_, _∙_, ap}
 use mir.Syntax.{w32}
 use mir.Val.{toZ, ofZ}
 use Prim.Native.Nat.{_/_, _%_}
@@ -60,7 +60,7 @@ finish-requires c κs = search needs
 returns : tie.Need-returns
 unfolding definitionOf reads after
 returns c =
-    let at-to-i322 = c .before .before .before .before in
+    let at-to-i322 = c .before .before .before .before .before in
     let at-read-details = at-to-i322 .before .before in
     let at-read-162 = at-read-details .before .before in
     let at-read-16 = at-read-162 .before .before .before in
@@ -79,10 +79,10 @@ returns c =
     let back2 : toZ w32 (ofZ w32 (at-to-i322 .to-i322 .result)) ≡ at-to-i322 .to-i322 .result = search needs in
     let parent-id : toZ w32 (ofZ w32 (at-to-i322 .before .to-i32 .result)) ≡ signed 31 (f ParentId .value) = back ∙ at-to-i322 .before .to-i32 .ensures ∙ ap (λ (r : FieldRead). signed 31 (r .value)) parent in
     let own-id : toZ w32 (ofZ w32 (at-to-i322 .to-i322 .result)) ≡ signed 31 (f Id .value) = back2 ∙ at-to-i322 .to-i322 .ensures ∙ ap (λ (r : FieldRead). signed 31 (r .value)) id in
-    let name-span : c .before .before .before .span-of .result ≡ spanOf (f Name) = c .before .before .before .span-of .ensures ∙ ap spanOf name in
-    let long-span : c .before .before .span-of2 .result ≡ spanOf (f LongName) = c .before .before .span-of2 .ensures ∙ ap spanOf long in
-    let unit : c .before .unit-of .result ≡ unitOf (f Flags .value % 16) = c .before .unit-of .ensures ∙ ap (λ (r : ShortRead). unitOf (r .value % 16)) flags in
-    c .finish .ensures ∙ (λ j. parsedFrom (found j .next .refused) (record {
+    let name-span : c .before .before .before .before .span-of .result ≡ spanOf (f Name) = c .before .before .before .before .span-of .ensures ∙ ap spanOf name in
+    let long-span : c .before .before .before .span-of2 .result ≡ spanOf (f LongName) = c .before .before .before .span-of2 .ensures ∙ ap spanOf long in
+    let unit : c .before .before .unit-of .result ≡ unitOf (f Flags .value % 16) = c .before .before .unit-of .ensures ∙ ap (λ (r : ShortRead). unitOf (r .value % 16)) flags in
+    c .finish .ensures ∙ (λ j. parsedFrom (found j .next .fault) (record {
       «parent_id» = parent-id j;
       id = own-id j;
       index = index j .value;

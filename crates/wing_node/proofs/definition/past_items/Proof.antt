@@ -19,8 +19,11 @@ abbrev μ-loop : tie.MeasureT-loop
 loop-holds : tie.Need-loop-holds Inv-loop μ-loop
 loop-holds c = refl
 
+is-refused-requires : tie.Need-is-refused-requires Inv-loop μ-loop
+is-refused-requires c κs = search needs
+
 returns : tie.Need-returns Inv-loop μ-loop
-returns c = sym (c .before .before .before .loop .inv ∙ after-refused _ _ _ (c .if1 .taken))
+returns c = sym (c .before .before .before .loop .inv ∙ after-refused _ _ _ (sym (c .before .is-refused .ensures) ∙ c .if1 .taken))
 
 read-item-requires : tie.Need-read-item-requires Inv-loop μ-loop
 read-item-requires c κs = search needs
@@ -51,6 +54,7 @@ past-items-spec =
     Inv-loop
     μ-loop
     loop-holds
+    is-refused-requires
     returns
     read-item-requires
     sub-left

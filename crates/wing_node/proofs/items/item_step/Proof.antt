@@ -18,22 +18,28 @@ has-items-requires c κs = search needs
 read-item-requires : tie.Need-read-item-requires
 read-item-requires c κs = search needs
 
-stay-requires-2 : tie.Need-stay-requires-2
-stay-requires-2 c κs = search needs
-
-returns-2 : tie.Need-returns-2
-unfolding stepAt
-returns-2 c = simp (ne-eqb _ _ (c .before .before .before .before .before .before .if1 .left), ← c .before .before .before .before .before .has-items .ensures, c .before .before .before .before .if2 .taken, ← c .before .before .before .read-item .ensures, ne-eqb _ _ (c .before .if3 .taken), c .stay2 .ensures)
+enum-told : tie.Need-enum-told
+enum-told c = search needs
 
 sub-stay : tie.Need-sub-stay
 sub-stay c = search needs
 
+stay-requires-2 : tie.Need-stay-requires-2
+stay-requires-2 c κs = search needs
+
+enum-known-fault : tie.Need-enum-known-fault
+enum-known-fault c = search needs
+
 stay-requires-3 : tie.Need-stay-requires-3
 stay-requires-3 c κs = search needs
 
+returns-2 : tie.Need-returns-2
+unfolding stepAt
+returns-2 c = simp (ne-eqb _ _ (c .before .before .before .before .before .before .before .if1 .left), ← c .before .before .before .before .before .before .has-items .ensures, c .before .before .before .before .before .if2 .taken, ← c .before .before .before .before .read-item .ensures, c .before .enum-told .given .1, c .stay2 .ensures)
+
 returns-3 : tie.Need-returns-3
 unfolding stepAt
-returns-3 c = simp (ne-eqb _ _ (c .before .before .before .before .before .before .if1 .left), ← c .before .before .before .before .before .has-items .ensures, c .before .before .before .before .if2 .taken, ← c .before .before .before .read-item .ensures, eq-eqb _ _ (c .before .if3 .left), c .stay3 .ensures)
+returns-3 c = simp (ne-eqb _ _ (c .before .before .before .before .before .before .before .before .if1 .left), ← c .before .before .before .before .before .before .before .has-items .ensures, c .before .before .before .before .before .before .if2 .taken, ← c .before .before .before .before .before .read-item .ensures, c .before .before .fault .given .1, c .stay3 .ensures)
 
 stay-requires-4 : tie.Need-stay-requires-4
 stay-requires-4 c κs = search needs
@@ -50,10 +56,12 @@ item-step-spec =
     returns
     has-items-requires
     read-item-requires
-    stay-requires-2
-    returns-2
+    enum-told
     sub-stay
+    stay-requires-2
+    enum-known-fault
     stay-requires-3
+    returns-2
     returns-3
     stay-requires-4
     returns-4)

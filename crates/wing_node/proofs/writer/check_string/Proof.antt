@@ -2,6 +2,7 @@
 use mathlib.Core.Path.{_≡_, _∙_}
 use Prim.Native.Nat.{_+_, _-_}
 use native.Mathlib.Omega.{arith}
+use lib.ListN.{drop, length-take}
 use Rattle.wing_node.proofs.Bodies.Checks.{string-none, string-there}
 use borrow.Author.Needs.{needs}
 use Rattle.wing_node.proofs.writer.check_string.Statement.{statement}
@@ -33,20 +34,23 @@ least-requires c κs = search needs
 add-end : tie.Need-add-end
 add-end c = search needs
 
-add-t11 : tie.Need-add-t11
-add-t11 c = omega (arith, c .before .shared-slice-known2 .given (c .before .before .before .before .before .args .at))
+add-t12 : tie.Need-add-t12
+add-t12 c = omega (arith, c .before .shared-slice-known2 .given (c .before .before .before .before .before .args .at))
 
-sub-is-utf8 : tie.Need-sub-is-utf8
-sub-is-utf8 c = search needs
+sub-text-fault : tie.Need-sub-text-fault
+sub-text-fault c = search needs
 
-part-is-utf8-start : tie.Need-part-is-utf8-start
-part-is-utf8-start c = search needs
+part-text-fault-start : tie.Need-part-text-fault-start
+part-text-fault-start c = search needs
 
-part-is-utf8-end : tie.Need-part-is-utf8-end
-part-is-utf8-end c = search needs
+part-text-fault-end : tie.Need-part-text-fault-end
+part-text-fault-end c = search needs
 
-is-utf8-requires : tie.Need-is-utf8-requires
-is-utf8-requires c κs = search needs
+text-fault-requires : tie.Need-text-fault-requires
+text-fault-requires c κs =
+    let args = c .before .before .before .before .before .before .args in
+    let rest = drop (args .at + 1) (args .items .now) in
+    omega (arith, length-take (args .at + 1 + c .before .least .result - (args .at + 1)) rest, c .before .least .ensures, c .before .before .shared-slice-known2 .given (args .at))
 
 returns-2 : tie.Need-returns-2
 returns-2 c =
@@ -56,7 +60,7 @@ returns-2 c =
     let k : args .at + 1 + e - (args .at + 1) ≡ e = omega arith in
     let there = at-least .before .before .before .left .ensures in
     let both = string-there (args .items .now) (args .at) e (rw there at (at-least .least .ensures)) in
-    (both .0, rw k at (c .is-utf8 .ensures .0) ∙ both .1)
+    (both .0, rw k at (c .text-fault .ensures) ∙ both .1)
 
 pub check-string-spec : {M : Type 1} → statement M
 check-string-spec =
@@ -70,9 +74,9 @@ check-string-spec =
     add-first
     least-requires
     add-end
-    add-t11
-    sub-is-utf8
-    part-is-utf8-start
-    part-is-utf8-end
-    is-utf8-requires
+    add-t12
+    sub-text-fault
+    part-text-fault-start
+    part-text-fault-end
+    text-fault-requires
     returns-2)

@@ -4,11 +4,12 @@ use Prim.Native.Nat.{_+_, _-_}
 use native.Mathlib.Omega.{arith}
 use lib.ListN.{length, drop}
 use borrow.Author.Tests.{eq-eqb, ne-eqb}
-use Rattle.wing_node.specs.Bool.{and}
+use Rattle.wing_node.specs.Refusal.{firstFault}
 use Rattle.wing_node.specs.Standing.{extent}
 use Rattle.wing_node.specs.Definition.{itemsOf}
-use Rattle.wing_node.specs.Writer.{texts}
-use Rattle.wing_node.proofs.Bodies.Checks.{items-extent, items-texts, no-extent, no-texts, and-assoc}
+use Rattle.wing_node.specs.Writer.{textsFault}
+use Rattle.wing_node.proofs.Bodies.Checks.{items-extent, items-texts, no-extent, no-texts}
+use Rattle.wing_node.proofs.Bodies.Faults.{first-assoc, first-none}
 use borrow.Author.Needs.{needs}
 use Rattle.wing_node.proofs.writer.items_fault.Statement.{statement}
 use Rattle.wing_node.proofs.writer.items_fault.Tie as tie
@@ -16,7 +17,7 @@ use Rattle.wing_node.proofs.writer.items_fault.Tie as tie
 abbrev Inv-loop : tie.InvT-loop
 Inv-loop items kind count passed₀ left₀ passed left =
     (passed .at + extent (itemsOf kind left) (drop (passed .at) items) ≡ extent (itemsOf kind count) items) ×
-    (and (passed .«is_text») (texts (itemsOf kind left) (drop (passed .at) items)) ≡ texts (itemsOf kind count) items)
+    (firstFault (passed .fault) (textsFault (itemsOf kind left) (drop (passed .at) items)) ≡ firstFault (passed₀ .fault) (textsFault (itemsOf kind count) items))
 
 abbrev μ-loop : tie.MeasureT-loop
 μ-loop items kind count passed₀ left₀ passed left = left
@@ -24,17 +25,20 @@ abbrev μ-loop : tie.MeasureT-loop
 loop-holds : tie.Need-loop-holds Inv-loop μ-loop
 loop-holds c = (omega arith, refl)
 
+by-number-requires : tie.Need-by-number-requires Inv-loop μ-loop
+by-number-requires c κs = search needs
+
 returns : tie.Need-returns Inv-loop μ-loop
 returns c =
-    let at-loop = c .before .before .before in
+    let at-loop = c .before .before .before .before in
     let args = at-loop .before .before .args in
-    simp (ne-eqb (extent (itemsOf (args .kind) (args .count)) (args .items .now)) (length (args .items .now)) (λ e. omega (arith, at-loop .loop .inv .0)))
+    simp (c .by-number .ensures, ne-eqb (extent (itemsOf (args .kind) (args .count)) (args .items .now)) (length (args .items .now)) (λ e. omega (arith, at-loop .loop .inv .0)))
 
 check-item-requires : tie.Need-check-item-requires Inv-loop μ-loop
 check-item-requires c κs = omega arith
 
-both-requires : tie.Need-both-requires Inv-loop μ-loop
-both-requires c κs = search needs
+first-fault-requires : tie.Need-first-fault-requires Inv-loop μ-loop
+first-fault-requires c κs = search needs
 
 sub-left : tie.Need-sub-left Inv-loop μ-loop
 sub-left c = search needs
@@ -53,35 +57,28 @@ loop-again c =
     let item = c .before .check-item in
     let e = item .ensures .0 in (
       rw e (sym (items-extent (args .kind) n (p .at) s some) ∙ at-loop .loop .inv .0),
-      rw (e, c .both .ensures, item .ensures .1) (and-assoc (p .«is_text») _ _ ∙ ap (and (p .«is_text»)) (sym (items-texts (args .kind) n (p .at) s some)) ∙ at-loop .loop .inv .1),
+      rw (e, c .first-fault .ensures, item .ensures .1) (first-assoc (p .fault) _ _ ∙ ap (firstFault (p .fault)) (sym (items-texts (args .kind) n (p .at) s some)) ∙ at-loop .loop .inv .1),
     )
+
+by-number-requires-2 : tie.Need-by-number-requires-2 Inv-loop μ-loop
+by-number-requires-2 c κs = search needs
 
 returns-2 : tie.Need-returns-2 Inv-loop μ-loop
 returns-2 c =
-    let at-loop = c .before .before .before in
+    let at-loop = c .before .before .before .before in
     let args = at-loop .before .before .args in
-    let none = no-extent (args .kind) (at-loop .loop .left) (drop (at-loop .loop .passed .at) (args .items .now)) (c .before .before .loop-test .left) in
-    simp (ne-eqb (extent (itemsOf (args .kind) (args .count)) (args .items .now)) (length (args .items .now)) (λ e. c .if2 .taken (omega (arith, at-loop .loop .inv .0))))
+    let none = no-extent (args .kind) (at-loop .loop .left) (drop (at-loop .loop .passed .at) (args .items .now)) (c .before .before .before .loop-test .left) in
+    simp (c .by-number2 .ensures, ne-eqb (extent (itemsOf (args .kind) (args .count)) (args .items .now)) (length (args .items .now)) (λ e. c .before .if2 .taken (omega (arith, at-loop .loop .inv .0))))
 
 returns-3 : tie.Need-returns-3 Inv-loop μ-loop
 returns-3 c =
-    let at-loop = c .before .before .before .before in
+    let at-loop = c .before .before .before in
     let args = at-loop .before .before .args in
     let rest = drop (at-loop .loop .passed .at) (args .items .now) in
-    let ended = c .before .before .before .loop-test .left in
+    let ended = c .before .before .loop-test .left in
     let none = no-extent (args .kind) (at-loop .loop .left) rest ended in
-    let text = rw (c .if3 .taken, no-texts (args .kind) (at-loop .loop .left) rest ended) at (at-loop .loop .inv .1) in
-    simp (eq-eqb (extent (itemsOf (args .kind) (args .count)) (args .items .now)) (length (args .items .now)) (omega (arith, at-loop .loop .inv .0, c .before .if2 .left)), ← text)
-
-returns-4 : tie.Need-returns-4 Inv-loop μ-loop
-returns-4 c =
-    let at-loop = c .before .before .before .before in
-    let args = at-loop .before .before .args in
-    let rest = drop (at-loop .loop .passed .at) (args .items .now) in
-    let ended = c .before .before .before .loop-test .left in
-    let none = no-extent (args .kind) (at-loop .loop .left) rest ended in
-    let text = rw (c .if3 .left) at (at-loop .loop .inv .1) in
-    simp (eq-eqb (extent (itemsOf (args .kind) (args .count)) (args .items .now)) (length (args .items .now)) (omega (arith, at-loop .loop .inv .0, c .before .if2 .left)), ← text)
+    let text = sym (first-none (at-loop .loop .passed .fault)) ∙ ap (firstFault (at-loop .loop .passed .fault)) (sym (no-texts (args .kind) (at-loop .loop .left) rest ended)) ∙ at-loop .loop .inv .1 in
+    rw (eq-eqb (extent (itemsOf (args .kind) (args .count)) (args .items .now)) (length (args .items .now)) (omega (arith, at-loop .loop .inv .0, c .if2 .left))) text
 
 pub items-fault-spec : {M : Type 1} → statement M
 items-fault-spec =
@@ -90,12 +87,13 @@ items-fault-spec =
     Inv-loop
     μ-loop
     loop-holds
+    by-number-requires
     returns
     check-item-requires
-    both-requires
+    first-fault-requires
     sub-left
     loop-less
     loop-again
+    by-number-requires-2
     returns-2
-    returns-3
-    returns-4)
+    returns-3)

@@ -1,10 +1,12 @@
 -- Each return is a case of `requestMeter` (`too-many`, `spent`, `request-whole`, `request-handed`); no request is over 212 bytes (`meter-request-le`), so
 -- an output or scratch buffer of that size has room for it.
-use Prim.Native.Nat.{_+_}
+use Prim.Native.Nat.{ℕ, _+_}
 use mathlib.Core.Path.{sym, ap, _∙_}
 use native.Mathlib.Omega.{arith}
 use Rattle.wing_wire.specs.declared.write.Written.{Written}
 use Rattle.wing_wire.specs.Write.{writeEffect}
+use Rattle.wing_wire.specs.Meter.{requestEffect}
+use Rattle.wing_wire.specs.declared.meter.Requested.the-variants.{Refused}
 use Rattle.wing_wire.proofs.Writing.Requests.{too-many, spent, request-whole, request-handed}
 use Rattle.wing_wire.proofs.Writing.Sizes.{meter-request-le}
 use borrow.Author.Needs.{needs}
@@ -71,17 +73,21 @@ returns-4 c =
     request-handed (a .port) (a .last-id) (a .meters) (a .count) (a .out .now) (omega arith) (k3 .if2 .left) (omega arith) (k2 .lay-meter-request2 .ensures)
     (ap (λ (r : Written). writeEffect r (k1 .hand-over .last .0)) (sym (c .before .w .given .1)) ∙ k1 .hand-over .ensures)
 
+number-requires : tie.Need-number-requires
+number-requires c κs = search needs
+
 same-length-3 : tie.Need-same-length-3
 same-length-3 c = search needs
 
 returns-5 : tie.Need-returns-5
 returns-5 c =
-    let k1 = c .before .before .before .before .before in
-    let k2 = k1 .before .before .before .before in
-    let k3 = k2 .before .before .before in
-    let a = k3 .before .before .before .args in
+    let k1 = c .before .before .before .before .before .before in
+    let k2 = c .before .before .before .before .before .before .before .before .before .before in
+    let k3 = c .before .before .before .before .before .before .before .before .before .before .before .before .before in
+    let a = c .before .before .before .before .before .before .before .before .before .before .before .before .before .before .before .before .args in
+    ap (λ (n : ℕ). requestEffect (Refused n) (k1 .hand-over .last .0)) (c .number .ensures) ∙
     request-handed (a .port) (a .last-id) (a .meters) (a .count) (a .out .now) (omega arith) (k3 .if2 .left) (omega arith) (k2 .lay-meter-request2 .ensures)
-    (ap (λ (r : Written). writeEffect r (k1 .hand-over .last .0)) (sym (c .before .w2 .given .1)) ∙ k1 .hand-over .ensures)
+    (ap (λ (r : Written). writeEffect r (k1 .hand-over .last .0)) (sym (c .before .before .w2 .given .1)) ∙ k1 .hand-over .ensures)
 
 pub request-meter-spec : {M : Type 1} → statement M
 request-meter-spec =
@@ -99,6 +105,7 @@ request-meter-spec =
     hand-over-requires
     enum-known-w
     enum-known-w-2
+    number-requires
     same-length-2
     returns-4
     same-length-3

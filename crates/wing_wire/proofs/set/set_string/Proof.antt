@@ -1,8 +1,13 @@
 -- Each return is a case of `setString` (`string-long`, `string-bad`, `string-good`); an order of UTF-8 is not over 395 bytes (`set-string-le`), so
 -- it is laid straight into out (law `written`) or into a scratch buffer and handed over (law `handed-over`).
 use mir.Facts.{toZ-ofZ}
-use mathlib.Core.Path.{sym, _∙_}
+use mathlib.Core.Path.{_≡_, sym, _∙_}
+use mathlib.Core.Bool.{true}
 use native.Mathlib.Omega.{arith}
+use lib.Seq.{take-all}
+use Rattle.wing_node.specs.Utf8.{utf8}
+use Rattle.wing_node.proofs.Refusals.{string-right, string-wrong}
+use Rattle.wing_node.proofs.Characters.Grammar.{decides}
 use Rattle.wing_wire.proofs.Writing.Choices.{string-long, string-bad, string-good}
 use Rattle.wing_wire.proofs.Writing.Lays.{written, handed-over}
 use Rattle.wing_wire.proofs.Writing.Sizes.{set-string-le}
@@ -13,11 +18,23 @@ use Rattle.wing_wire.proofs.set.set_string.Tie as tie
 returns : tie.Need-returns
 returns c =
     let entry = c .before .before .before in
-    let if1 = c .if1 in
-    string-long (entry .args .id) (entry .args .value .now) (entry .args .out .now) (if1 .taken)
+    string-long (entry .args .id) (entry .args .value .now) (entry .args .out .now) (c .if1 .taken)
 
-is-utf8-requires : tie.Need-is-utf8-requires
-is-utf8-requires c κs = search needs
+string-fault-requires : tie.Need-string-fault-requires
+string-fault-requires c κs = search needs
+
+enum-told : tie.Need-enum-told
+enum-told c = search needs
+
+enum-known-fault : tie.Need-enum-known-fault
+enum-known-fault c = search needs
+
+returns-2 : tie.Need-returns-2
+returns-2 c =
+    let entry = c .before .before .before .before .before .before .before in
+    let s = entry .args .value .now in
+    let w = string-wrong s _ (sym (rw (take-all 256 s (c .before .before .before .before .if1 .left)) at (c .before .before .before .string-fault .ensures)) ∙ c .before .fault .given .1) in
+    rw (w .1) (string-bad (entry .args .id) s (entry .args .out .now) (omega arith) (w .0))
 
 lay-set-string-requires : tie.Need-lay-set-string-requires
 lay-set-string-requires c κs = search needs
@@ -25,15 +42,14 @@ lay-set-string-requires c κs = search needs
 same-length : tie.Need-same-length
 same-length c = search needs
 
-returns-2 : tie.Need-returns-2
-returns-2 c =
-    let k1 = c .before .before .before .before .before in
-    let k2 = k1 .before in
-    let entry = k2 .before .before .before .before in
+returns-3 : tie.Need-returns-3
+returns-3 c =
+    let entry = c .before .before .before .before .before .before .before .before .before .before .before in
+    let s = entry .args .value .now in
     let z = toZ-ofZ (entry .fits .id) in
-    let o = k2 .is-utf8 .ensures .1 .right (k1 .if2 .taken) in
-    written (rw z at (c .before .before .lay-set-string .ensures)) (omega (arith, set-string-le (entry .args .id) (entry .args .value .now) o (omega arith)))
-    ∙ string-good (entry .args .id) (entry .args .value .now) (entry .args .out .now) (omega arith) (sym (k2 .is-utf8 .ensures .0) ∙ k1 .if2 .taken)
+    let u : utf8 s ≡ true = string-right s (sym (rw (take-all 256 s (c .before .before .before .before .before .before .before .before .if1 .left)) at (c .before .before .before .before .before .before .before .string-fault .ensures)) ∙ c .before .before .before .before .before .enum-told .given .1) in
+    written (rw z at (c .before .before .lay-set-string .ensures)) (omega (arith, set-string-le (entry .args .id) s (decides s .right u) (omega arith)))
+    ∙ string-good (entry .args .id) s (entry .args .out .now) (omega arith) u
 
 slice-aggregate-lay-set-string : tie.Need-slice-aggregate-lay-set-string
 slice-aggregate-lay-set-string c = search needs
@@ -46,50 +62,40 @@ slice-aggregate-hand-over c = search needs
 
 hand-over-requires : tie.Need-hand-over-requires
 hand-over-requires c κs =
-    let k1 = c .before .before .before in
-    let k2 = k1 .before .before .before in
-    let k3 = k2 .before in
-    let entry = k3 .before .before .before .before in
+    let entry = c .before .before .before .before .before .before .before .before .before .before .before .before in
+    let s = entry .args .value .now in
     let z = toZ-ofZ (entry .fits .id) in
-    let o = k3 .is-utf8 .ensures .1 .right (k2 .if2 .taken) in
-    omega (arith, (rw z at (k1 .lay-set-string2 .ensures)) .next, set-string-le (entry .args .id) (entry .args .value .now) o (omega arith))
+    let u : utf8 s ≡ true = string-right s (sym (rw (take-all 256 s (c .before .before .before .before .before .before .before .before .before .if1 .left)) at (c .before .before .before .before .before .before .before .before .string-fault .ensures)) ∙ c .before .before .before .before .before .before .enum-told .given .1) in
+    omega (arith, (rw z at (c .before .before .before .lay-set-string2 .ensures)) .next, set-string-le (entry .args .id) s (decides s .right u) (omega arith))
 
 same-length-2 : tie.Need-same-length-2
 same-length-2 c = search needs
 
-returns-3 : tie.Need-returns-3
-returns-3 c =
-    let k1 = c .before .before in
-    let k2 = k1 .before .before .before .before in
-    let k3 = k2 .before .before .before in
-    let k4 = k3 .before in
-    let entry = k4 .before .before .before .before in
-    let z = toZ-ofZ (entry .fits .id) in
-    let o = k4 .is-utf8 .ensures .1 .right (k3 .if2 .taken) in
-    k1 .hand-over .ensures
-    ∙ handed-over (rw z at (k2 .lay-set-string2 .ensures)) (set-string-le (entry .args .id) (entry .args .value .now) o (omega arith)) (entry .args .out .now)
-    ∙ string-good (entry .args .id) (entry .args .value .now) (entry .args .out .now) (omega arith) (sym (k4 .is-utf8 .ensures .0) ∙ k3 .if2 .taken)
-
 returns-4 : tie.Need-returns-4
 returns-4 c =
-    let entry = c .before .before .before .before .before in
-    let is-utf8 = c .before .is-utf8 in
-    let if2 = c .if2 in
-    string-bad (entry .args .id) (entry .args .value .now) (entry .args .out .now) (omega arith) (sym (is-utf8 .ensures .0) ∙ if2 .left)
+    let entry = c .before .before .before .before .before .before .before .before .before .before .before .before .before .before .before in
+    let s = entry .args .value .now in
+    let z = toZ-ofZ (entry .fits .id) in
+    let u : utf8 s ≡ true = string-right s (sym (rw (take-all 256 s (c .before .before .before .before .before .before .before .before .before .before .before .before .if1 .left)) at (c .before .before .before .before .before .before .before .before .before .before .before .string-fault .ensures)) ∙ c .before .before .before .before .before .before .before .before .before .enum-told .given .1) in
+    c .before .before .hand-over .ensures
+    ∙ handed-over (rw z at (c .before .before .before .before .before .before .lay-set-string2 .ensures)) (set-string-le (entry .args .id) s (decides s .right u) (omega arith)) (entry .args .out .now)
+    ∙ string-good (entry .args .id) s (entry .args .out .now) (omega arith) u
 
 pub set-string-spec : {M : Type 1} → statement M
 set-string-spec =
     tie.close
     (tie.spec
     returns
-    is-utf8-requires
+    string-fault-requires
+    enum-told
+    enum-known-fault
+    returns-2
     lay-set-string-requires
     same-length
-    returns-2
+    returns-3
     slice-aggregate-lay-set-string
     lay-set-string-requires-2
     slice-aggregate-hand-over
     hand-over-requires
     same-length-2
-    returns-3
     returns-4)

@@ -13,12 +13,12 @@ returns : tie.Need-returns
 unfolding bodyDone
 returns c = simp (le-leb _ _ (c .before .if1 .taken), c .taken-of .ensures) (rw (toZ-ofZ (c .before .before .fits .node)))
 
-taken-of-requires-2 : tie.Need-taken-of-requires-2
-taken-of-requires-2 c κs = search needs
+refuse-requires : tie.Need-refuse-requires
+refuse-requires c κs = search needs
 
 returns-2 : tie.Need-returns-2
 unfolding bodyDone
-returns-2 c = simp (lt-leb _ _ (c .before .if1 .left), c .taken-of2 .ensures) (rw (toZ-ofZ (c .before .before .fits .node)))
+returns-2 c = simp (lt-leb _ _ (c .before .if1 .left), c .refuse .ensures) (rw (toZ-ofZ (c .before .before .fits .node)))
 
 pub body-done-spec : {M : Type 1} → statement M
-body-done-spec = tie.close (tie.spec taken-of-requires returns taken-of-requires-2 returns-2)
+body-done-spec = tie.close (tie.spec taken-of-requires returns refuse-requires returns-2)

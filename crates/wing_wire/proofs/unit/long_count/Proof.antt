@@ -6,12 +6,12 @@ use Rattle.wing_wire.specs.Unit.{longCountOf}
 use Rattle.wing_wire.proofs.unit.long_count.Statement.{statement}
 use Rattle.wing_wire.proofs.unit.long_count.Tie as tie
 
-taken-of-requires : tie.Need-taken-of-requires
-taken-of-requires c κs = search needs
+refuse-requires : tie.Need-refuse-requires
+refuse-requires c κs = search needs
 
 returns : tie.Need-returns
 unfolding longCountOf
-returns c = simp (eq-eqb _ _ (c .before .if1 .taken), c .taken-of .ensures) (rw (toZ-ofZ (c .before .before .fits .node)))
+returns c = simp (eq-eqb _ _ (c .before .if1 .taken), c .refuse .ensures) (rw (toZ-ofZ (c .before .before .fits .node)))
 
 body-of-requires : tie.Need-body-of-requires
 body-of-requires c κs = search needs
@@ -21,4 +21,4 @@ unfolding longCountOf
 returns-2 c = simp (ne-eqb _ _ (c .before .if1 .left), c .body-of .ensures) (rw (toZ-ofZ (c .before .before .fits .node)))
 
 pub long-count-spec : {M : Type 1} → statement M
-long-count-spec = tie.close (tie.spec taken-of-requires returns body-of-requires returns-2)
+long-count-spec = tie.close (tie.spec refuse-requires returns body-of-requires returns-2)

@@ -1,16 +1,16 @@
--- The invariant: the bytes from the start on are UTF-8 exactly if those from i on are; a turn passes one whole character.
-use Prim.Native.Nat.{_-_}
-use mathlib.Core.Path.{_≡_, refl, sym, _∙_}
+-- The invariant: the good bytes from the start on end where those from i on end; a turn passes one whole character.
+use Prim.Native.Nat.{_+_, _-_}
+use mathlib.Core.Path.{_≡_, refl, _∙_}
 use native.Mathlib.Omega.{arith}
 use borrow.Author.Needs.{needs}
 use lib.ListN.{length, drop}
-use Rattle.wing_node.specs.Utf8.{utf8}
+use Rattle.wing_node.specs.Utf8.{good}
 use Rattle.wing_node.proofs.Characters.Chars.{ascii-at, inside, passed, stopped, ended}
-use Rattle.wing_node.proofs.utf8.is_utf8_from.Statement.{statement}
-use Rattle.wing_node.proofs.utf8.is_utf8_from.Tie as tie
+use Rattle.wing_node.proofs.utf8.good_from.Statement.{statement}
+use Rattle.wing_node.proofs.utf8.good_from.Tie as tie
 
 abbrev Inv-loop : tie.InvT-loop
-Inv-loop s from i₀ i = utf8 (drop from s) ≡ utf8 (drop i s)
+Inv-loop s from i₀ i = from + good (drop from s) ≡ i + good (drop i s)
 
 abbrev μ-loop : tie.MeasureT-loop
 μ-loop s from i₀ i = length s - i
@@ -36,7 +36,9 @@ char-length-requires : tie.Need-char-length-requires Inv-loop μ-loop
 char-length-requires c κs = search needs
 
 returns : tie.Need-returns Inv-loop μ-loop
-returns c = sym (c .before .before .before .before .before .loop .inv ∙ stopped _ _ _ (c .before .before .before .before .loop-test .taken) (c .before .char-length .ensures) (c .if2 .taken))
+returns c =
+    let h = c .before .before .before .before .loop-test .taken in
+    omega (arith, c .before .before .before .before .before .loop .inv, stopped (c .before .before .before .before .before .before .before .args .s .now) (c .before .before .before .before .before .loop .i) _ h (c .before .char-length .ensures) (c .if2 .taken))
 
 add-i-2 : tie.Need-add-i-2 Inv-loop μ-loop
 add-i-2 c = omega (arith, inside _ _ _ (c .before .before .before .before .loop-test .taken) (c .before .char-length .ensures))
@@ -51,10 +53,10 @@ loop-again-2 c =
     c .before .before .before .before .before .loop .inv ∙ passed _ _ _ h e (c .if2 .left)
 
 returns-2 : tie.Need-returns-2 Inv-loop μ-loop
-returns-2 c = sym (c .before .loop .inv ∙ ended _ _ (c .loop-test .left))
+returns-2 c = omega (arith, c .before .loop .inv, ended (c .before .before .before .args .s .now) (c .before .loop .i) (c .loop-test .left))
 
-pub is-utf8-from-spec : {M : Type 1} → statement M
-is-utf8-from-spec =
+pub good-from-spec : {M : Type 1} → statement M
+good-from-spec =
     tie.close
     (tie.spec
     Inv-loop
