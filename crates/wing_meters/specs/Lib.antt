@@ -1,0 +1,5 @@
+pub mod Afresh
+pub mod Level
+pub mod Window
+pub mod Kept
+pub mod Calls

@@ -1,0 +1,5 @@
+// Meters watched over time: a window over a strip's last readings, with their figures (02, Job 6).
+pub mod figures;
+mod level;
+pub mod reading;
+pub mod window;
