@@ -4,3 +4,7 @@ pub mod Sound
 pub mod Rings
 pub mod Windows
 pub mod Follows
+pub mod Divided
+pub mod Left
+pub mod Reached
+pub mod Moves

@@ -42,10 +42,10 @@ pub last-map : {A B : Type 0} (f : A → B) (n : ℕ) (l : List A) → lastOf n 
 last-map f n l = ap (λ (k : ℕ). drop (k - n) (map f l)) (length-map f l) ∙ drop-map f (length l - n) l
 
 -- the levels held, the oldest first
-pub levelsIn : Window → List ℕ
+unfoldable pub levelsIn : Window → List ℕ
 levelsIn w = let c = w .control in inOrder (c .next) (take (c .held) (w .levels))
 
-kept-levels : (w : Window) → keptIn w ≡ map readingAt (levelsIn w)
+pub kept-levels : (w : Window) → keptIn w ≡ map readingAt (levelsIn w)
 unfolding keptIn levelsIn
 kept-levels w = refl
 

@@ -3,3 +3,4 @@ pub mod Level
 pub mod Window
 pub mod Kept
 pub mod Calls
+pub mod Moving
