@@ -10,3 +10,4 @@ mod Savers
 mod Calls
 mod Listings
 mod Carries
+mod Windows

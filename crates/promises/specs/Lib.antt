@@ -6,3 +6,4 @@ pub mod Wire
 pub mod Mirror
 pub mod Saved
 pub mod Listing
+pub mod Meters

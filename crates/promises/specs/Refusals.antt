@@ -35,7 +35,7 @@ noPlace = alone 6
 abbrev pub tableUnsound : Refusal
 tableUnsound = alone 7
 
--- state unsound; 02: an old state that has taken any of the four units after count 0
+-- state unsound; 02: an old state that has taken any of the four units after count 0; a window state that no list of readings leaves
 abbrev pub stateUnsound : Refusal
 stateUnsound = alone 8
 
@@ -79,14 +79,18 @@ lineWrong = alone 17
 abbrev pub idNotAbove : Refusal
 idNotAbove = alone 18
 
+-- 02: a window's width outside 1 to 256
+abbrev pub widthWrong : Refusal
+widthWrong = alone 19
+
 -- the number of each, in the order above, whatever the goods are
 abbrev pub numbers : ℕ → ℕ → List ℕ
 numbers g h =
     refusalNumber (stringWrong g) ∷ refusalNumber bodyLong ∷ refusalNumber bodyEmpty ∷ refusalNumber definitionShort ∷ refusalNumber (definitionWrong h) ∷
     refusalNumber noPlace ∷ refusalNumber tableUnsound ∷ refusalNumber stateUnsound ∷ refusalNumber outputShort ∷ refusalNumber stringLong ∷ refusalNumber metersOver ∷
     refusalNumber meterIdLast ∷ refusalNumber packetSize ∷ refusalNumber numberOver ∷ refusalNumber nameLong ∷ refusalNumber fieldsUnfit ∷ refusalNumber lineWrong ∷
-    refusalNumber idNotAbove ∷ []
+    refusalNumber idNotAbove ∷ refusalNumber widthWrong ∷ []
 
--- 1 to 18
+-- 1 to 19
 abbrev pub Numbered : Type 0
-Numbered = (g h : ℕ) → numbers g h ≡ 1 ∷ 2 ∷ 3 ∷ 4 ∷ 5 ∷ 6 ∷ 7 ∷ 8 ∷ 9 ∷ 10 ∷ 11 ∷ 12 ∷ 13 ∷ 14 ∷ 15 ∷ 16 ∷ 17 ∷ 18 ∷ []
+Numbered = (g h : ℕ) → numbers g h ≡ 1 ∷ 2 ∷ 3 ∷ 4 ∷ 5 ∷ 6 ∷ 7 ∷ 8 ∷ 9 ∷ 10 ∷ 11 ∷ 12 ∷ 13 ∷ 14 ∷ 15 ∷ 16 ∷ 17 ∷ 18 ∷ 19 ∷ []

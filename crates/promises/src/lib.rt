@@ -1,5 +1,5 @@
 // The three demands. What is promised of a call is the contract of a function of the same name that does nothing but the call
-// (node.rt, wire.rt, saved.rt, mirror.rt, listing.rt), so that it hangs on the code. What is promised of whole streams and histories, and of the search's count, which no
+// (node.rt, wire.rt, saved.rt, mirror.rt, listing.rt, meters.rt), so that it hangs on the code. What is promised of whole streams and histories, and of the search's count, which no
 // call answers, is the contract of a function with an empty body, here. The gate prints a 'proved' line for each.
 ghost use mathlib.Core.Path.{_≡_};
 ghost use mathlib.Core.List.{map};
@@ -14,6 +14,7 @@ ghost use Rattle.wing_saved.specs.Saved.{SavedLaws};
 ghost use Rattle.wing_saved.specs.Earlier.{EarlierLaws};
 ghost use Rattle.wing_listing.specs.BothWays.{BothWays as ListedBothWays};
 ghost use Rattle.wing_listing.specs.Cases.{Case as ListedCase, cases as listedCases};
+ghost use Rattle.wing_meters.specs.Moving.{Moving};
 ghost use Rattle.wing_mirror.specs.Record.{full};
 ghost use Rattle.wing_mirror.specs.HighEnd.{SearchReads};
 ghost use Rattle.wing_mirror.specs.History.{Agreement, Equality, Rebuilding, Histories};
@@ -23,6 +24,7 @@ ghost use Rattle.promises.specs.Wire.{withEvent, listed, PiecesJoin};
 ghost use Rattle.promises.specs.Mirror.{UnplacedStays};
 
 pub mod listing;
+pub mod meters;
 pub mod mirror;
 pub mod node;
 pub mod saved;
@@ -138,6 +140,13 @@ pub fn saved_earlier()
 // for every text that loads.
 pub fn listing_both_ways()
     ensures { λ _. ⌜ ListedBothWays ⌝ }
+{}
+
+// A window over a strip's last readings (02): for every width from 1 to 256 and every list of readings, each reading call is answered with the figures worked out afresh
+// from the last readings of the list so far, and so are the figures asked for after them, none of no readings; the sum is the quotient times the number plus the
+// remainder, which is from 0 to number − 1, the largest is one of these readings and none of them is above it; and a state is taken exactly when some list of readings leaves it.
+pub fn moving_average()
+    ensures { λ _. ⌜ Moving ⌝ }
 {}
 
 // The search for a node's record (02): in every usable table it reads the ids above the one asked, and one more if any is not above it. The contract of

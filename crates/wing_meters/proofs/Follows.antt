@@ -66,11 +66,21 @@ module _ (w : Window) (x : ℤ) (e : soundWindow w ≡ true) (size : length (w .
   unfolding answers rows rowTold
   rows-on xs = rw (reading-sound w x e, told-taking)
 
--- ---- one row more in the output
-
+-- five numbers for each reading
 pub length-row : (f : Figures) → length (rowOf f) ≡ 5
 unfolding rowOf
 length-row f = refl
+
+pub length-rows : (w : Window) (xs : List ℤ) → soundWindow w ≡ true → length (w .levels) ≡ 256 → length (rows (answers w xs)) ≡ 5 * length xs
+unfolding answers rows
+length-rows w [] e size = refl
+length-rows w (x ∷ xs) e size =
+    let row = rowOf (figuresIn (taking w x .control)) in
+    ap length (rows-on w x e size xs) ∙
+    (length-append row (rows (answers (taking w x) xs)) ∙
+    omega (arith, length-row (figuresIn (taking w x .control)), length-rows (taking w x) xs (still-sound w x e size) (size-taking w x size)))
+
+-- ---- one row more in the output
 
 module _ (out row : List ℤ) (i : ℕ) (five : length row ≡ 5) (room : 5 * i + 5 ≤ length out) where
   laid : sets out (5 * i) row ≡ take (5 * i) out ++ (row ++ drop (5 * i + 5) out)
@@ -169,6 +179,14 @@ module _ (w : Window) (xs out : List ℤ) where
   pub readings-unsound : soundWindow w ≡ false → readingsOf w xs out ≡ rowsEffect (followed (NotFollowed 8) w) out
   unfolding readingsOf
   readings-unsound e = simp e
+
+  -- taken, unless the output is too short
+  pub readings-sound : soundWindow w ≡ true →
+      readingsOf w xs out ≡
+      if (ltb (length out) (5 * length xs)) (rowsEffect (followed (NotFollowed 9) w) out)
+      (rowsEffect (followed (Rows (length xs)) (afterAll w xs)) (rows (answers w xs) ++ drop (5 * length xs) out))
+  unfolding readingsOf
+  readings-sound e = simp e
 
   pub readings-short : soundWindow w ≡ true → length out < 5 * length xs → readingsOf w xs out ≡ rowsEffect (followed (NotFollowed 9) w) out
   unfolding readingsOf

@@ -108,7 +108,7 @@ pub ran : (w : Window) (xs : List ℤ) → soundWindow w ≡ true → length (w 
 ran w [] e size r =
     let s = sound w e in
     let few : length (keptIn w ++ []) ≤ w .control .width =
-        subst (λ (l : List ℤ). length l ≤ w .control .width) (sym (append-nil (keptIn w))) (omega (arith, length-kept w s size, held-le (w .control) (s .placed))) in
+    subst (λ (l : List ℤ). length l ≤ w .control .width) (sym (append-nil (keptIn w))) (omega (arith, length-kept w s size, held-le (w .control) (s .placed))) in
     record { sound = e; size = size; width = refl; kept = sym (last-all (w .control .width) (keptIn w ++ []) few ∙ append-nil (keptIn w)) }
 ran w (x ∷ xs) e size (readingThen b r) =
     let t = ran (taking w x) xs (still-sound w x e size) (size-taking w x size) r in
@@ -132,7 +132,7 @@ ran-next w (x ∷ xs) n h e =
     let width = w .control .width in
     let more : suc n + length xs ≡ n + suc (length xs) = omega arith in
     let on : taking w x .control .next ≡ suc n % taking w x .control .width =
-        next-taking w x ∙ (ap (λ (m : ℕ). onward m width) e ∙ (onward-mod n width h ∙ ap (λ (m : ℕ). suc n % m) (sym (width-taking w x)))) in
+    next-taking w x ∙ (ap (λ (m : ℕ). onward m width) e ∙ (onward-mod n width h ∙ ap (λ (m : ℕ). suc n % m) (sym (width-taking w x)))) in
     ran-next (taking w x) xs (suc n) (subst (λ (m : ℕ). 0 < m) (sym (width-taking w x)) h) on ∙
     (ap (λ (m : ℕ). (suc n + length xs) % m) (width-taking w x) ∙ ap (λ (m : ℕ). m % width) more)
 

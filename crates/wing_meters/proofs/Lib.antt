@@ -8,3 +8,4 @@ pub mod Divided
 pub mod Left
 pub mod Reached
 pub mod Moves
+pub mod Types

@@ -55,9 +55,9 @@ module _ (w : Window) (s : Sound w) (size : length (w .levels) ≡ 256) where
   levels-told : w .levels ≡ inOrder (length (levelsIn w) - w .control .next) (levelsIn w) ++ replicate (256 - length (levelsIn w)) 0
   levels-told =
       let rest : drop (w .control .held) (w .levels) ≡ replicate (256 - length (levelsIn w)) 0 =
-          let count : length (drop (w .control .held) (w .levels)) ≡ 256 - length (levelsIn w) =
-              length-drop (w .control .held) (w .levels) ∙ omega (arith, size, length-levels w s size) in
-          all-zero (drop (w .control .held) (w .levels)) (s .unused) ∙ ap (λ (n : ℕ). replicate n 0) count in
+      let count : length (drop (w .control .held) (w .levels)) ≡ 256 - length (levelsIn w) =
+      length-drop (w .control .held) (w .levels) ∙ omega (arith, size, length-levels w s size) in
+      all-zero (drop (w .control .held) (w .levels)) (s .unused) ∙ ap (λ (n : ℕ). replicate n 0) count in
       sym (take-append-drop (w .control .held) (w .levels)) ∙
       (ap (λ (l : List ℕ). l ++ drop (w .control .held) (w .levels)) ring-told ∙
       ap (λ (l : List ℕ). inOrder (length (levelsIn w) - w .control .next) (levelsIn w) ++ l) rest)
@@ -66,9 +66,9 @@ pub same-window : (v w : Window) → Sound v → Sound w → length (v .levels) 
     v .control .width ≡ w .control .width → v .control .next ≡ w .control .next → levelsIn v ≡ levelsIn w → v ≡ w
 same-window v w s t a b width next levels =
     let same : v .levels ≡ w .levels =
-        levels-told v s a ∙
-        (ap (λ (n : ℕ). inOrder (length (levelsIn v) - n) (levelsIn v) ++ replicate (256 - length (levelsIn v)) 0) next ∙
-        (ap (λ (l : List ℕ). inOrder (length l - w .control .next) l ++ replicate (256 - length l) 0) levels ∙ sym (levels-told w t b))) in
+    levels-told v s a ∙
+    (ap (λ (n : ℕ). inOrder (length (levelsIn v) - n) (levelsIn v) ++ replicate (256 - length (levelsIn v)) 0) next ∙
+    (ap (λ (l : List ℕ). inOrder (length l - w .control .next) l ++ replicate (256 - length l) 0) levels ∙ sym (levels-told w t b))) in
     let held : v .control .held ≡ w .control .held = sym (length-levels v s a) ∙ (ap length levels ∙ length-levels w t b) in
     let top : v .control .top ≡ w .control .top = sym (s .top) ∙ (ap greatest same ∙ t .top) in
     let sum : v .control .sum ≡ w .control .sum = sym (s .sum) ∙ (ap added same ∙ t .sum) in
@@ -158,12 +158,15 @@ module _ (w : Window) (e : soundWindow w ≡ true) (t : Typed w) where
     where
       s : Sound w
       s = sound w e
+
       long : length (keptIn w) ≡ w .control .held
       long = length-kept w s (t .size)
+
       unfilled : ((w .control .held < w .control .width) × (w .control .next ≡ w .control .held)) → Left w
       unfilled u =
           leaves-it (keptIn w) (kept-readings w t) (last-all (w .control .width) (keptIn w) (omega (arith, long, u .0)))
           (ap (λ (n : ℕ). n % w .control .width) long ∙ (mod-eq-of-lt (u .0) ∙ sym (u .1)))
+
       full : ((w .control .held ≡ w .control .width) × (w .control .next < w .control .width)) → Left w
       full f =
           let width = w .control .width in

@@ -4,3 +4,4 @@ pub mod Window
 pub mod Kept
 pub mod Calls
 pub mod Moving
+pub mod Answers

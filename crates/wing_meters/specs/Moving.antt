@@ -2,14 +2,14 @@
 use Prim.Native.Nat.{ℕ, _+_, _≤_, _<_, _^_}
 use mathlib.Core.Bool.{true}
 use mathlib.Core.Path.{_≡_}
-use mathlib.Core.List.{List, [], _∷_, List·Memᴰ}
+use mathlib.Core.List.{List, [], _∷_, _++_, List·Memᴰ}
 use lib.IntN.{ℤ, pos, _+ℤ_, _*ℤ_}
 use lib.ListN.{length, take, getD}
 use lib.Signed.{_≤ℤ_}
 use Rattle.wing_node.specs.Signed.{InBits}
 use Rattle.wing_meters.specs.Afresh.{lastOf, total, figuresOf}
 use Rattle.wing_meters.specs.Window.{freshWindow, leaves, soundWindow}
-use Rattle.wing_meters.specs.Calls.{figuresAnswer, afterAll, answers}
+use Rattle.wing_meters.specs.Calls.{figuresAnswer, afterAll, answers, rowTold}
 use Rattle.wing_meters.specs.declared.figures.Figures.{Figures}
 use Rattle.wing_meters.specs.declared.figures.Told.the-variants.{None, Figures as Told·Figures}
 use Rattle.wing_meters.specs.declared.window.Window.{Window}
@@ -45,6 +45,12 @@ pub record Left (w : Window) : Type 0 where
   pub width : ℕ
   pub list : List ℤ
   pub by : Leaves width list w
+
+-- a row for each of some readings that come after others: the figures worked out afresh from the last readings so far
+unfoldable pub afreshRows : ℕ → List ℤ → List ℤ → List ℤ
+afreshRows width before [] = []
+afreshRows width before (x ∷ xs) =
+    let soFar = before ++ (x ∷ []) in rowTold (figuresOf (lastOf width soFar)) ++ afreshRows width soFar xs
 
 -- what the types of the code say of a window
 pub record Typed (w : Window) : Type 0 where

@@ -2,7 +2,7 @@
 ghost use mathlib.Core.Path.{_≡_};
 ghost use lib.ListN.{length};
 ghost use lib.Seq.{sets};
-ghost use Prim.Native.Nat.{_+_, _≤_};
+ghost use Prim.Native.Nat.{_+_, _*_, _/_, _≤_};
 ghost use Rattle.wing_meters.specs.Kept.{InRange, figuresIn, toldIn};
 ghost use Rattle.wing_meters.specs.Calls.{rowOf};
 use crate::level::reading_of;
@@ -25,6 +25,14 @@ pub enum Told {
     Refused(u8),
 }
 
+// The quotient of the levels' sum is that of the readings, rounded down, raised as they are.
+fn quotient(sum: u32, n: u32) -> u32
+    requires { ⌜ (1 ≤ n) × (n ≤ 256) × (sum ≤ 65535 * n) ⌝ }
+    ensures { λ r. ⌜ r ≡ sum / n ⌝ }
+{
+    sum / n
+}
+
 // The figures of a window that holds any, by what it keeps up.
 pub(crate) fn figures_in(c: Control) -> Figures
     requires { ⌜ (1 ≤ c .held) × InRange c ⌝ }
@@ -34,7 +42,7 @@ pub(crate) fn figures_in(c: Control) -> Figures
     Figures {
         held: c.held,
         sum: sum_of(c.sum, c.held),
-        mean: reading_of((c.sum / n) as u16),
+        mean: reading_of(quotient(c.sum, n) as u16),
         rest: (c.sum % n) as u16,
         top: reading_of(c.top),
     }

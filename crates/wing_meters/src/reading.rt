@@ -1,7 +1,7 @@
 // Readings that go into a window, one by one: each takes the next place, where the oldest stands once the window is full.
 ghost use mathlib.Core.Path.{_≡_};
 ghost use mathlib.Core.Bool.{true};
-ghost use Prim.Native.Nat.{_*_, _≤_, _<_};
+ghost use Prim.Native.Nat.{_+_, _-_, _*_, _≤_, _<_};
 ghost use mathlib.Core.List.{_++_};
 ghost use lib.ListN.{length, drop};
 ghost use Rattle.wing_meters.specs.Kept.{InRange, TopBefore};
@@ -64,7 +64,15 @@ fn top_after(top: u16, left: u16, came: u16, levels: &[u16]) -> u16
     top
 }
 
-// The sum and the largest are kept up.
+// The sum after one level left and one came: it is kept up and not added anew.
+fn sum_after(sum: u32, left: u16, came: u16) -> u32
+    requires { ⌜ (left ≤ sum) × (sum ≤ 65535 * 256) ⌝ }
+    ensures { λ r. ⌜ r ≡ sum - left + came ⌝ }
+{
+    sum - left as u32 + came as u32
+}
+
+// One reading takes the next place; the sum and the largest are kept up.
 fn step(c: Control, levels: &mut [u16], x: i16) -> Control
     requires { ⌜ (length (now levels) ≡ 256) × (soundWindow (windowOf c (now levels)) ≡ true) ⌝ }
     ensures { λ r. ⌜ (windowOf r (now (levels .exit)) ≡ taking (windowOf c (now (levels .entry))) x) × InRange r ⌝ }
@@ -78,7 +86,7 @@ fn step(c: Control, levels: &mut [u16], x: i16) -> Control
         held: grown(c.held, c.width),
         next: onward(c.next, c.width),
         top: top_after(c.top, left, came, levels),
-        sum: c.sum - left as u32 + came as u32,
+        sum: sum_after(c.sum, left, came),
     }
 }
 

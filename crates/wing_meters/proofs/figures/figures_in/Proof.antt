@@ -1,4 +1,4 @@
-use borrow.Author.Needs.{needs}
+-- Each figure is what `figuresIn` has, by the contracts of `sum_of`, `quotient` and `reading_of`; a quotient of levels is at most 65,535.
 use Prim.Native.Nat.{_/_, _%_, _≤_, _<_}
 use mathlib.Core.Path.{_≡_}
 use native.Mathlib.Omega.{arith}
@@ -6,52 +6,40 @@ use native.Mathlib.Nat.{mul-comm, mod-lt, div-le-of-le-mul}
 use mir.Syntax.{w16, w32}
 use mir.Val.{toZ, ofZ}
 use Rattle.wing_meters.specs.Kept.{figuresIn}
+use borrow.Author.Needs.{needs}
 use Rattle.wing_meters.proofs.figures.figures_in.Statement.{statement}
 use Rattle.wing_meters.proofs.figures.figures_in.Tie as tie
-use Rattle.wing_meters.proofs.figures.figures_in.Reads as reads
-use Rattle.wing_meters.proofs.figures.figures_in.Lts as lts
-use Rattle.wing_meters.proofs.level.reading_of.Reads as reading-of-reads
-use Rattle.wing_meters.proofs.level.sum_of.Reads as sum-of-reads
 
--- src/figures.rt:33:13
 cast-n : tie.Need-cast-n
 cast-n c = search needs
 
--- src/figures.rt:36:14
 sum-of-requires : tie.Need-sum-of-requires
 sum-of-requires c κs = search needs
 
--- src/figures.rt:37:27
-div-reading-of : tie.Need-div-reading-of
-div-reading-of c = search needs
+quotient-requires : tie.Need-quotient-requires
+quotient-requires c κs = search needs
 
--- src/figures.rt:37:26
 cast-reading-of : tie.Need-cast-reading-of
 cast-reading-of c =
     let k = c .before .before .before .args .c in
     let most : k .sum / k .held ≤ 65535 = div-le-of-le-mul (k .held) (omega (arith, mul-comm 65535 (k .held))) in
-    omega arith
+    omega (arith, c .quotient .ensures)
 
--- src/figures.rt:37:15
 reading-of-requires : tie.Need-reading-of-requires
 reading-of-requires c κs = search needs
 
--- src/figures.rt:38:16
 rem-t7 : tie.Need-rem-t7
 rem-t7 c = search needs
 
--- src/figures.rt:38:15
 cast-t8 : tie.Need-cast-t8
 cast-t8 c =
     let k = c .before .before .before .before .before .args .c in
     let less : k .sum % k .held < k .held = mod-lt (k .sum) (omega arith) in
     omega arith
 
--- src/figures.rt:39:14
 reading-of-requires-2 : tie.Need-reading-of-requires-2
 reading-of-requires-2 c κs = search needs
 
--- src/figures.rt:29:1
 returns : tie.Need-returns
 unfolding figuresIn
 returns c =
@@ -59,7 +47,7 @@ returns c =
     let m : toZ w16 (ofZ w16 (c .before .before .reading-of .result)) ≡ c .before .before .reading-of .result = search needs in
     let t : toZ w16 (ofZ w16 (c .reading-of2 .result)) ≡ c .reading-of2 .result = search needs in
     rw
-    (s, m, t, c .before .before .before .before .sum-of .ensures, c .before .before .reading-of .ensures, c .reading-of2 .ensures)
+    (s, m, t, c .before .before .before .before .sum-of .ensures, c .before .before .reading-of .ensures, c .before .before .before .quotient .ensures, c .reading-of2 .ensures)
 
 pub figures-in-spec : {M : Type 1} → statement M
 figures-in-spec =
@@ -67,7 +55,7 @@ figures-in-spec =
     (tie.spec
     cast-n
     sum-of-requires
-    div-reading-of
+    quotient-requires
     cast-reading-of
     reading-of-requires
     rem-t7

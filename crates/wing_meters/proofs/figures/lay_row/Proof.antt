@@ -12,14 +12,10 @@ use mir.Val.{toZ, ofZ, SFits}
 use borrow.Author.Needs.{needs}
 use Rattle.wing_meters.proofs.figures.lay_row.Statement.{statement}
 use Rattle.wing_meters.proofs.figures.lay_row.Tie as tie
-use Rattle.wing_meters.proofs.figures.lay_row.Reads as reads′
-use Rattle.wing_meters.proofs.figures.lay_row.Lts as lts
 
--- src/figures.rt:60:16
 cast-held : tie.Need-cast-held
 cast-held c = search needs
 
--- src/figures.rt:62:16
 cast-mean : tie.Need-cast-mean
 cast-mean c =
     let m = c .before .before .before .before .args .f .mean in
@@ -27,11 +23,9 @@ cast-mean c =
     let g : SFits w16 m = search needs in
     rw k (record { sfits = omega (arith, g .sfits) })
 
--- src/figures.rt:63:16
 cast-rest : tie.Need-cast-rest
 cast-rest c = search needs
 
--- src/figures.rt:64:15
 cast-top : tie.Need-cast-top
 cast-top c =
     let m = c .before .before .before .before .before .before .before .args .f .top in
@@ -39,67 +33,51 @@ cast-top c =
     let g : SFits w16 m = search needs in
     rw k (record { sfits = omega (arith, g .sfits) })
 
--- src/figures.rt:65:5
 mul-held : tie.Need-mul-held
 mul-held c = search needs
 
--- src/figures.rt:65:5
 slice-set-from-held : tie.Need-slice-set-from-held
 slice-set-from-held c = search needs
 
--- src/figures.rt:66:9
 add-sum : tie.Need-add-sum
 add-sum c = search needs
 
--- src/figures.rt:66:5
 mul-sum : tie.Need-mul-sum
 mul-sum c = search needs
 
--- src/figures.rt:66:5
 slice-set-from-sum : tie.Need-slice-set-from-sum
 slice-set-from-sum c = simp length-set (omega arith)
 
--- src/figures.rt:67:9
 add-mean : tie.Need-add-mean
 add-mean c = search needs
 
--- src/figures.rt:67:5
 mul-mean : tie.Need-mul-mean
 mul-mean c = search needs
 
--- src/figures.rt:67:5
 slice-set-from-mean : tie.Need-slice-set-from-mean
 slice-set-from-mean c = simp length-set (omega arith)
 
--- src/figures.rt:68:9
 add-rest : tie.Need-add-rest
 add-rest c = search needs
 
--- src/figures.rt:68:5
 mul-rest : tie.Need-mul-rest
 mul-rest c = search needs
 
--- src/figures.rt:68:5
 slice-set-from-rest : tie.Need-slice-set-from-rest
 slice-set-from-rest c = simp length-set (omega arith)
 
--- src/figures.rt:69:9
 add-top : tie.Need-add-top
 add-top c = search needs
 
--- src/figures.rt:69:5
 mul-top : tie.Need-mul-top
 mul-top c = search needs
 
--- src/figures.rt:69:5
 slice-set-from-top : tie.Need-slice-set-from-top
 slice-set-from-top c = simp length-set (omega arith)
 
--- src/figures.rt:56:1
 same-length : tie.Need-same-length
 same-length c = search needs
 
--- src/figures.rt:56:1
 returns : tie.Need-returns
 unfolding rowOf
 returns c =

@@ -3,20 +3,14 @@ use borrow.Author.Tests.{eq-eqb, ne-eqb}
 use Rattle.wing_meters.specs.Kept.{toldIn}
 use Rattle.wing_meters.proofs.figures.tell.Statement.{statement}
 use Rattle.wing_meters.proofs.figures.tell.Tie as tie
-use Rattle.wing_meters.proofs.figures.tell.Reads as reads
-use Rattle.wing_meters.proofs.figures.tell.Lts as lts
-use Rattle.wing_meters.proofs.figures.figures_in.Reads as figures-in-reads
 
--- src/figures.rt:49:9
 returns : tie.Need-returns
 unfolding toldIn
 returns c = simp (eq-eqb _ _ (c .if1 .taken))
 
--- src/figures.rt:51:9
 figures-in-requires : tie.Need-figures-in-requires
 figures-in-requires c κs = search needs
 
--- src/figures.rt:44:1
 returns-2 : tie.Need-returns-2
 unfolding toldIn
 returns-2 c = simp (ne-eqb _ _ (c .before .if1 .left), c .figures-in .ensures)

@@ -8,19 +8,13 @@ use Rattle.wing_node.specs.Signed.{unsigned}
 use Rattle.wing_meters.proofs.Levels.{level-low, level-high}
 use Rattle.wing_meters.proofs.level.level_of.Statement.{statement}
 use Rattle.wing_meters.proofs.level.level_of.Tie as tie
-use Rattle.wing_meters.proofs.level.level_of.Reads as reads
-use Rattle.wing_meters.proofs.level.level_of.Lts as lts
-use Rattle.wing_node.proofs.field.of_i16.Reads as of-i16-reads
 
--- src/level.rt:13:9
 of-i16-requires : tie.Need-of-i16-requires
 of-i16-requires c κs = search needs
 
--- src/level.rt:15:9
 add-result : tie.Need-add-result
 add-result c = search needs
 
--- src/level.rt:10:1
 returns : tie.Need-returns
 returns c =
     let x = c .before .before .args .x in

@@ -6,42 +6,31 @@ use mir.Val.{toZ, ofZ}
 use Rattle.wing_meters.proofs.Levels.{lowered-below, lowered-above}
 use Rattle.wing_meters.proofs.level.sum_of.Statement.{statement}
 use Rattle.wing_meters.proofs.level.sum_of.Tie as tie
-use Rattle.wing_meters.proofs.level.sum_of.Reads as reads
-use Rattle.wing_meters.proofs.level.sum_of.Lts as lts
-use Rattle.wing_node.proofs.field.to_i32.Reads as to-i32-reads
 
--- src/level.rt:37:18
 mul-raised : tie.Need-mul-raised
 mul-raised c = search needs
 
--- src/level.rt:39:38
 sub-to-i32 : tie.Need-sub-to-i32
 sub-to-i32 c = search needs
 
--- src/level.rt:39:38
 sub-to-i32-2 : tie.Need-sub-to-i32-2
 sub-to-i32-2 c = search needs
 
--- src/level.rt:39:23
 sub-to-i32-3 : tie.Need-sub-to-i32-3
 sub-to-i32-3 c = search needs
 
--- src/level.rt:39:9
 to-i32-requires : tie.Need-to-i32-requires
 to-i32-requires c κs = search needs
 
--- src/level.rt:39:9
 returns : tie.Need-returns
 returns c =
     let a = c .before .before .args in
     let k : toZ w32 (ofZ w32 (c .to-i32 .result)) ≡ c .to-i32 .result = search needs in
     k ∙ (c .to-i32 .ensures ∙ lowered-below (a .sum) (a .held) (omega arith) (c .before .if1 .taken))
 
--- src/level.rt:41:5
 to-i32-requires-2 : tie.Need-to-i32-requires-2
 to-i32-requires-2 c κs = search needs
 
--- src/level.rt:33:1
 returns-2 : tie.Need-returns-2
 returns-2 c =
     let a = c .before .before .args in

@@ -2,18 +2,13 @@ use borrow.Author.Tests.{lt-leb, lt-ltb, le-leb, le-ltb}
 use borrow.Author.Needs.{needs}
 use Rattle.wing_meters.proofs.reading.grown.Statement.{statement}
 use Rattle.wing_meters.proofs.reading.grown.Tie as tie
-use Rattle.wing_meters.proofs.reading.grown.Reads as reads
-use Rattle.wing_meters.proofs.reading.grown.Lts as lts
 
--- src/reading.rt:42:23
 add-result : tie.Need-add-result
 add-result c = search needs
 
--- src/reading.rt:39:1
 returns : tie.Need-returns
 returns c = simp (lt-ltb _ _ (c .if1 .taken))
 
--- src/reading.rt:39:1
 returns-2 : tie.Need-returns-2
 returns-2 c = simp (le-ltb _ _ (c .if1 .left))
 

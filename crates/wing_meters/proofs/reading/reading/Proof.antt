@@ -16,33 +16,22 @@ use Rattle.wing_meters.proofs.Follows.{size-taking, reading-sound, read
 use borrow.Author.Needs.{needs}
 use Rattle.wing_meters.proofs.reading.reading.Statement.{statement}
 use Rattle.wing_meters.proofs.reading.reading.Tie as tie
-use Rattle.wing_meters.proofs.reading.reading.Reads as reads
-use Rattle.wing_meters.proofs.reading.reading.Lts as lts
-use Rattle.wing_meters.proofs.figures.tell.Reads as tell-reads
-use Rattle.wing_meters.proofs.reading.step.Reads as step-reads
-use Rattle.wing_meters.proofs.window.is_sound_lent.Reads as is-sound-lent-reads
 
--- src/reading.rt:91:25
 slice-aggregate-is-sound-lent : tie.Need-slice-aggregate-is-sound-lent
 slice-aggregate-is-sound-lent c = search needs
 
--- src/reading.rt:91:8
 is-sound-lent-requires : tie.Need-is-sound-lent-requires
 is-sound-lent-requires c κs = search needs
 
--- src/reading.rt:92:29
 slice-aggregate-step : tie.Need-slice-aggregate-step
 slice-aggregate-step c = search needs
 
--- src/reading.rt:92:13
 step-requires : tie.Need-step-requires
 step-requires c κs = (search needs, sym (c .before .before .is-sound-lent .ensures .0) ∙ c .before .if1 .taken)
 
--- src/reading.rt:93:13
 tell-requires : tie.Need-tell-requires
 tell-requires c κs = search needs
 
--- src/reading.rt:94:9
 returns : tie.Need-returns
 returns c =
     let a = c .before .before .before .before .before .before .before .before .before .args in
@@ -57,7 +46,6 @@ returns c =
     (ap (λ (v : Window). taken (toldIn (v .control)) v) after ∙
     (ap (λ (t : Told). taken t (taking w (a .x))) told ∙ sym (reading-sound w (a .x) e)))
 
--- src/reading.rt:86:1
 returns-2 : tie.Need-returns-2
 returns-2 c =
     let a = c .before .before .before .before .before .args in

@@ -12,45 +12,32 @@ use Rattle.wing_meters.proofs.Follows.{readings-unsound, readings-short
 use borrow.Author.Needs.{needs}
 use Rattle.wing_meters.proofs.reading.readings.Statement.{statement}
 use Rattle.wing_meters.proofs.reading.readings.Tie as tie
-use Rattle.wing_meters.proofs.reading.readings.Reads as reads
-use Rattle.wing_meters.proofs.reading.readings.Lts as lts
-use Rattle.wing_meters.proofs.reading.follow.Reads as follow-reads
-use Rattle.wing_meters.proofs.reading.refuse.Reads as refuse-reads
-use Rattle.wing_meters.proofs.window.is_sound_lent.Reads as is-sound-lent-reads
 
--- src/reading.rt:139:25
 slice-aggregate-is-sound-lent : tie.Need-slice-aggregate-is-sound-lent
 slice-aggregate-is-sound-lent c = search needs
 
--- src/reading.rt:139:8
 is-sound-lent-requires : tie.Need-is-sound-lent-requires
 is-sound-lent-requires c κs = search needs
 
--- src/reading.rt:141:13
 refuse-requires : tie.Need-refuse-requires
 refuse-requires c κs = search needs
 
--- src/reading.rt:141:13
 returns : tie.Need-returns
 returns c =
     let a = c .before .before .before .before .before .before .before .args in
     let e = sym (c .before .before .before .is-sound-lent .ensures .0) ∙ c .before .before .if1 .taken in
     ap (λ (r : Followed). rowsEffect r (a .out .now)) (c .refuse .ensures) ∙ sym (readings-short (a .w) (a .xs .now) (a .out .now) e (omega (arith, c .before .if2 .taken)))
 
--- src/reading.rt:143:31
 slice-aggregate-follow : tie.Need-slice-aggregate-follow
 slice-aggregate-follow c = search needs
 
--- src/reading.rt:143:13
 follow-requires : tie.Need-follow-requires
 follow-requires c κs =
     (search needs, sym (c .before .before .before .before .is-sound-lent .ensures .0) ∙ c .before .before .before .if1 .taken, omega (arith, c .before .before .if2 .left))
 
--- src/reading.rt:144:9
 same-length : tie.Need-same-length
 same-length c = search needs
 
--- src/reading.rt:144:9
 returns-2 : tie.Need-returns-2
 returns-2 c =
     let a = c .before .before .before .before .before .before .before .before .before .before .before .args in
@@ -60,11 +47,9 @@ returns-2 c =
     (ap (λ (o : List ℤ). rowsEffect (followed (Rows (length (a .xs .now))) (afterAll (a .w) (a .xs .now))) o) (f .ensures .1) ∙
     sym (readings-taken (a .w) (a .xs .now) (a .out .now) e (omega (arith, c .before .before .before .before .before .if2 .left))))
 
--- src/reading.rt:152:5
 refuse-requires-2 : tie.Need-refuse-requires-2
 refuse-requires-2 c κs = search needs
 
--- src/reading.rt:134:1
 returns-3 : tie.Need-returns-3
 returns-3 c =
     let a = c .before .before .before .before .before .before .args in

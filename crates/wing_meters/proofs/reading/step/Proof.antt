@@ -13,26 +13,16 @@ use Rattle.wing_meters.proofs.Sums.{set-le}
 use borrow.Author.Needs.{needs}
 use Rattle.wing_meters.proofs.reading.step.Statement.{statement}
 use Rattle.wing_meters.proofs.reading.step.Tie as tie
-use Rattle.wing_meters.proofs.reading.step.Reads as reads
-use Rattle.wing_meters.proofs.reading.step.Lts as lts
-use Rattle.wing_meters.proofs.level.level_of.Reads as level-of-reads
-use Rattle.wing_meters.proofs.reading.grown.Reads as grown-reads
-use Rattle.wing_meters.proofs.reading.onward.Reads as onward-reads
-use Rattle.wing_meters.proofs.reading.top_after.Reads as top-after-reads
 
--- src/reading.rt:72:14
 cast-at : tie.Need-cast-at
 cast-at c = search needs
 
--- src/reading.rt:73:9
 level-of-requires : tie.Need-level-of-requires
 level-of-requires c κs = search needs
 
--- src/reading.rt:74:16
 mul-left : tie.Need-mul-left
 mul-left c = search needs
 
--- src/reading.rt:74:16
 slice-read-left : tie.Need-slice-read-left
 slice-read-left c =
     let a = c .before .before .before .before .args in
@@ -40,19 +30,15 @@ slice-read-left c =
     let s = sound w (c .before .before .before .before .pre .1) in
     next-in w s (c .before .before .before .before .pre .0)
 
--- src/reading.rt:75:5
 mul-levels : tie.Need-mul-levels
 mul-levels c = search needs
 
--- src/reading.rt:75:5
 slice-write-levels : tie.Need-slice-write-levels
 slice-write-levels c = slice-read-left c
 
--- src/reading.rt:78:15
 grown-requires : tie.Need-grown-requires
 grown-requires c κs = search needs
 
--- src/reading.rt:79:15
 onward-requires : tie.Need-onward-requires
 onward-requires c κs =
     let a = c .before .before .before .before .before .args in
@@ -60,7 +46,6 @@ onward-requires c κs =
     let s = sound w (c .before .before .before .before .before .pre .1) in
     next-below (a .c) (s .placed)
 
--- src/reading.rt:80:14
 top-after-requires : tie.Need-top-after-requires
 top-after-requires c κs =
     let a = c .before .before .before .before .before .before .before .args in
@@ -68,37 +53,17 @@ top-after-requires c κs =
     let s = sound w (c .before .before .before .before .before .before .before .pre .1) in
     top-taking w s (c .before .before .before .before .before .before .before .pre .0) (c .before .before .before .before .level-of .result)
 
--- src/reading.rt:81:22
-cast-t15 : tie.Need-cast-t15
-cast-t15 c = omega (arith, c .before .before .before .before .slice-known2 .given (c .before .before .before .before .before .before .before .before .args .c .next))
-
--- src/reading.rt:81:14
-sub-t16 : tie.Need-sub-t16
-sub-t16 c =
-    let a = c .before .before .before .before .before .before .before .before .before .args in
+sum-after-requires : tie.Need-sum-after-requires
+sum-after-requires c κs =
+    let a = c .before .before .before .before .before .before .before .before .args in
     let w = window (a .c) (a .levels .now) in
-    let s = sound w (c .before .before .before .before .before .before .before .before .before .pre .1) in
-    leaving-le w s (c .before .before .before .before .before .before .before .before .before .pre .0)
+    let s = sound w (c .before .before .before .before .before .before .before .before .pre .1) in
+    let r = in-range w s (c .before .before .before .before .before .before .before .before .pre .0) (λ k h. omega (arith, c .before .before .before .before .slice-known2 .given k)) in
+    (leaving-le w s (c .before .before .before .before .before .before .before .before .pre .0), omega arith)
 
--- src/reading.rt:81:36
-cast-t17 : tie.Need-cast-t17
-cast-t17 c = search needs
-
--- src/reading.rt:81:14
-add-t18 : tie.Need-add-t18
-add-t18 c =
-    let a = c .before .before .before .before .before .before .before .before .before .args in
-    let w = window (a .c) (a .levels .now) in
-    let s = sound w (c .before .before .before .before .before .before .before .before .before .pre .1) in
-    let r = in-range w s (c .before .before .before .before .before .before .before .before .before .pre .0) (λ k h. omega (arith, c .before .before .before .before .before .slice-known2 .given k)) in
-    let low : c .before .before .before .before .before .before .level-of .result < 65536 = search needs in
-    omega arith
-
--- src/reading.rt:68:1
 same-length : tie.Need-same-length
 same-length c = search needs
 
--- src/reading.rt:68:1
 returns : tie.Need-returns
 unfolding taking
 returns c =
@@ -111,7 +76,9 @@ returns c =
     let low : c .before .before .before .before .before .before .level-of .result < 65536 = search needs in
     let most = set-le (a .levels .now) (a .c .next) (levelOf (a .x)) 65535 (λ k h. omega (arith, c .before .before .before .before .before .slice-known2 .given k)) (omega arith) in
     let range = in-range (taking w (a .x)) (sound-taking w s size (a .x)) (length-set (a .levels .now) (a .c .next) (levelOf (a .x)) ∙ size) most in
-    rw (c .before .before .before .before .grown .ensures, c .before .before .before .onward .ensures, c .before .top-after .ensures, v, sym (sum-taking w s size (levelOf (a .x)))) (refl, range)
+    rw
+    (c .before .before .before .before .grown .ensures, c .before .before .before .onward .ensures, c .before .top-after .ensures, c .sum-after .ensures, v, sym (sum-taking w s size (levelOf (a .x))))
+    (refl, range)
 
 pub step-spec : {M : Type 1} → statement M
 step-spec =
@@ -126,9 +93,6 @@ step-spec =
     grown-requires
     onward-requires
     top-after-requires
-    cast-t15
-    sub-t16
-    cast-t17
-    add-t18
+    sum-after-requires
     same-length
     returns)

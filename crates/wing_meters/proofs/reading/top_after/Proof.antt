@@ -1,23 +1,16 @@
 use borrow.Author.Needs.{needs}
 use Rattle.wing_meters.proofs.reading.top_after.Statement.{statement}
 use Rattle.wing_meters.proofs.reading.top_after.Tie as tie
-use Rattle.wing_meters.proofs.reading.top_after.Reads as reads
-use Rattle.wing_meters.proofs.reading.top_after.Lts as lts
-use Rattle.wing_meters.proofs.window.greatest.Reads as greatest-reads
 
--- src/reading.rt:59:9
 returns : tie.Need-returns
 returns c = c .before .before .pre .above (c .if1 .taken)
 
--- src/reading.rt:62:9
 greatest-requires : tie.Need-greatest-requires
 greatest-requires c κs = search needs
 
--- src/reading.rt:62:9
 returns-2 : tie.Need-returns-2
 returns-2 c = search needs
 
--- src/reading.rt:54:1
 returns-3 : tie.Need-returns-3
 returns-3 c = c .before .before .before .pre .stays (c .before .if1 .left) (c .if2 .left)
 

@@ -8,8 +8,6 @@ use Rattle.wing_meters.specs.Level.{added}
 use Rattle.wing_meters.proofs.Sums.{added-from, added-end, added-le}
 use Rattle.wing_meters.proofs.window.added.Statement.{statement}
 use Rattle.wing_meters.proofs.window.added.Tie as tie
-use Rattle.wing_meters.proofs.window.added.Reads as reads
-use Rattle.wing_meters.proofs.window.added.Lts as lts
 
 abbrev Inv-loop : tie.InvT-loop
 Inv-loop levels sum₀ i₀ sum i = (i ≤ length levels) × (sum + added (drop i levels) ≡ added levels)
@@ -17,7 +15,6 @@ Inv-loop levels sum₀ i₀ sum i = (i ≤ length levels) × (sum + added (drop 
 abbrev μ-loop : tie.MeasureT-loop
 μ-loop levels sum₀ i₀ sum i = length levels - i
 
--- src/window.rt:83:5
 loop-holds : tie.Need-loop-holds Inv-loop μ-loop
 loop-holds c = search needs
 

@@ -9,20 +9,13 @@ use Rattle.wing_meters.proofs.Windows.{kept-told}
 use borrow.Author.Needs.{needs}
 use Rattle.wing_meters.proofs.window.figures.Statement.{statement}
 use Rattle.wing_meters.proofs.window.figures.Tie as tie
-use Rattle.wing_meters.proofs.window.figures.Reads as reads
-use Rattle.wing_meters.proofs.window.figures.Lts as lts
-use Rattle.wing_meters.proofs.figures.tell.Reads as tell-reads
-use Rattle.wing_meters.proofs.window.is_sound_lent.Reads as is-sound-lent-reads
 
--- src/window.rt:160:8
 is-sound-lent-requires : tie.Need-is-sound-lent-requires
 is-sound-lent-requires c κs = search needs
 
--- src/window.rt:161:9
 tell-requires : tie.Need-tell-requires
 tell-requires c κs = c .before .is-sound-lent .ensures .1 (c .if1 .taken)
 
--- src/window.rt:161:9
 returns : tie.Need-returns
 unfolding figuresAnswer
 returns c =
@@ -31,7 +24,6 @@ returns c =
     let e : soundWindow w ≡ true = sym (c .before .before .is-sound-lent .ensures .0) ∙ c .before .if1 .taken in
     c .tell .ensures ∙ (sym (kept-told w (sound w e) size) ∙ sym (simp e))
 
--- src/window.rt:156:1
 returns-2 : tie.Need-returns-2
 unfolding figuresAnswer
 returns-2 c =

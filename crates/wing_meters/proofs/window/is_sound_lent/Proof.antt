@@ -12,52 +12,37 @@ use borrow.Author.Needs.{needs}
 use Rattle.wing_meters.proofs.Windows.{in-range}
 use Rattle.wing_meters.proofs.window.is_sound_lent.Statement.{statement}
 use Rattle.wing_meters.proofs.window.is_sound_lent.Tie as tie
-use Rattle.wing_meters.proofs.window.is_sound_lent.Reads as reads
-use Rattle.wing_meters.proofs.window.is_sound_lent.Lts as lts
-use Rattle.wing_meters.proofs.window.added.Reads as added-reads
-use Rattle.wing_meters.proofs.window.greatest.Reads as greatest-reads
-use Rattle.wing_meters.proofs.window.sound_control.Reads as sound-control-reads
 
--- src/window.rt:132:8
 sound-control-requires : tie.Need-sound-control-requires
 sound-control-requires c κs = search needs
 
--- src/window.rt:133:12
 added-requires : tie.Need-added-requires
 added-requires c κs = search needs
 
--- src/window.rt:134:16
 greatest-requires : tie.Need-greatest-requires
 greatest-requires c κs = search needs
 
--- src/window.rt:135:28
 cast-held : tie.Need-cast-held
 cast-held c = search needs
 
--- src/window.rt:136:33
 mul-greatest : tie.Need-mul-greatest
 mul-greatest c = search needs
 
--- src/window.rt:136:33
 sub-greatest : tie.Need-sub-greatest
 sub-greatest c =
     let k = c .before .before .before .before .before .before .before .before .before .before .args .c in
     let p = placed k (sym (c .before .before .before .before .before .before .before .before .sound-control .ensures) ∙ c .before .before .before .before .before .before .before .if1 .taken) in
     omega (arith, held-le k p, p .few, c .before .before .before .before .before .before .before .before .before .before .pre)
 
--- src/window.rt:136:33
 part-greatest-start : tie.Need-part-greatest-start
 part-greatest-start c = sub-greatest c
 
--- src/window.rt:136:33
 part-greatest-end : tie.Need-part-greatest-end
 part-greatest-end c = search needs
 
--- src/window.rt:136:24
 greatest-requires-2 : tie.Need-greatest-requires-2
 greatest-requires-2 c κs = search needs
 
--- src/window.rt:136:17
 returns : tie.Need-returns
 returns c =
     let a = c .before .before .before .before .before .before .before .before .before .before .before .before .args in
@@ -73,7 +58,6 @@ returns c =
     (sym (c .before .before .before .before .before .greatest .ensures) ∙ c .before .before .before .if3 .taken)) in
     (tested, λ e. in-range w (sound w (sym tested ∙ e)) (c .before .before .before .before .before .before .before .before .before .before .before .before .pre) (λ k h. omega (arith, c .before .before .before .before .before .before .before .before .before .before .before .shared-slice-known .given k)))
 
--- src/window.rt:138:13
 returns-2 : tie.Need-returns-2
 returns-2 c =
     let a = c .before .before .before .before .before .before .before .before .before .args in
@@ -86,14 +70,12 @@ returns-2 c =
       λ e. never e,
     )
 
--- src/window.rt:140:9
 returns-3 : tie.Need-returns-3
 returns-3 c =
     let a = c .before .before .before .before .before .before .args in
     let w = window (a .c) (a .levels .now) in
     (sym (summed-wrong w (sym (c .before .before .before .before .sound-control .ensures) ∙ c .before .before .before .if1 .taken) (λ e. c .if2 .left (c .before .before .added .ensures ∙ e))), λ e. never e)
 
--- src/window.rt:128:1
 returns-4 : tie.Need-returns-4
 returns-4 c =
     let a = c .before .before .before .args in

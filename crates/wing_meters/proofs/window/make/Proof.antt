@@ -3,38 +3,27 @@ use Rattle.wing_meters.specs.Calls.{madeOf}
 use borrow.Author.Needs.{needs}
 use Rattle.wing_meters.proofs.window.make.Statement.{statement}
 use Rattle.wing_meters.proofs.window.make.Tie as tie
-use Rattle.wing_meters.proofs.window.make.Reads as reads
-use Rattle.wing_meters.proofs.window.make.Lts as lts
-use Rattle.wing_meters.proofs.window.fresh.Reads as fresh-reads
-use Rattle.wing_meters.proofs.window.no_window.Reads as no-window-reads
 
--- src/window.rt:66:9
 no-window-requires : tie.Need-no-window-requires
 no-window-requires c κs = search needs
 
--- src/window.rt:66:9
 returns : tie.Need-returns
 unfolding madeOf
 returns c = simp (lt-ltb _ _ (c .before .if1 .taken), c .no-window .ensures)
 
--- src/window.rt:69:9
 no-window-requires-2 : tie.Need-no-window-requires-2
 no-window-requires-2 c κs = search needs
 
--- src/window.rt:69:9
 returns-2 : tie.Need-returns-2
 unfolding madeOf
 returns-2 c = simp (le-ltb _ _ (c .before .before .if1 .left), lt-ltb _ _ (c .before .if2 .taken), c .no-window2 .ensures)
 
--- src/window.rt:73:23
 cast-fresh : tie.Need-cast-fresh
 cast-fresh c = search needs
 
--- src/window.rt:73:17
 fresh-requires : tie.Need-fresh-requires
 fresh-requires c κs = search needs
 
--- src/window.rt:62:1
 returns-3 : tie.Need-returns-3
 unfolding madeOf
 returns-3 c = simp (le-ltb _ _ (c .before .before .if1 .left), le-ltb _ _ (c .before .if2 .left), c .fresh .ensures)

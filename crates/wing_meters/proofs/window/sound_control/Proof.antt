@@ -4,20 +4,15 @@ use Rattle.wing_meters.proofs.Sound.{place-unfilled, place-full}
 use Rattle.wing_meters.specs.Window.{soundControl}
 use Rattle.wing_meters.proofs.window.sound_control.Statement.{statement}
 use Rattle.wing_meters.proofs.window.sound_control.Tie as tie
-use Rattle.wing_meters.proofs.window.sound_control.Reads as reads
-use Rattle.wing_meters.proofs.window.sound_control.Lts as lts
 
--- src/window.rt:114:9
 returns : tie.Need-returns
 unfolding soundControl
 returns c = simp (lt-ltb _ _ (c .if1 .taken))
 
--- src/window.rt:117:9
 returns-2 : tie.Need-returns-2
 unfolding soundControl
 returns-2 c = simp (le-ltb _ _ (c .before .before .if1 .left), lt-ltb _ _ (c .if2 .taken))
 
--- src/window.rt:120:9
 returns-3 : tie.Need-returns-3
 returns-3 c =
     let k = c .before .before .before .before .before .before .before .args .c in
@@ -27,7 +22,6 @@ returns-3 c =
     (c .before .before .before .if2 .left)
     (c .before .if3 .taken))
 
--- src/window.rt:123:9
 returns-4 : tie.Need-returns-4
 returns-4 c =
     let k = c .before .before .before .before .before .before .before .before .before .args .c in
@@ -37,7 +31,6 @@ returns-4 c =
     (c .before .before .before .before .before .if2 .left)
     (c .before .if4 .taken))
 
--- src/window.rt:110:1
 returns-5 : tie.Need-returns-5
 unfolding soundControl
 returns-5 c = simp (le-ltb _ _ (c .before .before .before .before .before .before .if1 .left), le-ltb _ _ (c .before .before .before .before .if2 .left), le-ltb _ _ (c .before .before .if3 .left), ne-eqb _ _ (c .if4 .left))
