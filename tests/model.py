@@ -5,6 +5,7 @@ The rules are in rules/, the orders of docs/ORDERS.md in orders/.
     python3 tests/model.py < crates/shell/stdin                  # the lines that shell prints
     python3 tests/model.py --mirror < samples/capture.bin        # the listing that the program mirror prints
     target/bin/mirror < samples/capture.bin | python3 tests/model.py --recall      # what the program recall writes
+    python3 tests/model.py --meters 64 < samples/meters.bin      # what the program meters prints
 """
 import sys
 
@@ -12,11 +13,13 @@ from orders import define, node, wire, writers
 from orders.compact import summed
 from orders.listing import ListingOrders
 from orders.mirrors import MirrorOrders
+from orders.window import WindowOrders
 from orders.wire import REPEATED
 from orders.words import UINT32, OutOfForm, count, demand, hex_of
 from rules.decoder import CALL_LIMIT
 from rules.listing import BadLine, listing, load
 from rules.mirror import WIDTH, Mirror
+from rules.packets import WIDEST, BadPacket, checked_width, table
 from rules.refusal import Refusal
 
 LINE = 16384        # the longest line that shell reads
@@ -26,6 +29,8 @@ RECALLED = 1024     # places of the program recall
 # What the program recall says of a refusal, by its number.
 CAUSES = {1: "string not UTF-8", 6: "more than 1,024 records", 10: "string over 256 bytes", 14: "text over 65,536 bytes",
           17: "header or line out of form", 18: "id not above the one before"}
+METERED = 2**20     # the most bytes that the program meters takes
+WORD = 64           # and the most of its width
 
 
 class Orders:
@@ -37,10 +42,10 @@ class Orders:
 
     def __init__(self):
         self.held = b""
-        # Orders that have no sum: those to the mirror and to the bytes held, and those of 02.
+        # Orders that have no sum: those to the mirror, to the window and to the bytes held, and those of 02.
         mirrors = MirrorOrders()
-        self.unsummed = {**mirrors.table(), **ListingOrders(mirrors).table(), **define.TABLE, b"more": ((1,), self.more),
-                         b"mores": ((2,), self.mores)}
+        self.unsummed = {**mirrors.table(), **ListingOrders(mirrors).table(), **WindowOrders().table(), **define.TABLE,
+                         b"more": ((1,), self.more), b"mores": ((2,), self.mores)}
 
     def hold(self, more):
         data = self.held + more
@@ -134,10 +139,35 @@ def recalled(text):
     return mirror.recall(10**7), b""
 
 
+def width_of(words):
+    """The width that the program meters is started with: 0, which is none, for a word that is no decimal number."""
+    if not words:
+        return WIDEST
+    digits = words[0] and all(c in b"0123456789" for c in words[0])
+    return int(words[0]) if digits and len(words[0]) <= WORD else 0
+
+
+def metered(words, data):
+    """What the program meters writes of its words and its input, to standard output and to standard error."""
+    if len(words) > 1:
+        return b"", b"meters: the width is the only argument\n"
+    try:
+        width = checked_width(width_of(words))
+    except Refusal as r:
+        return b"", b"meters: %d, width not a number from 1 to 256\n" % r.why.number
+    if len(data) > METERED:
+        return b"", b"meters: the input is longer than 1,048,576 bytes\n"
+    try:
+        return table(data, width), b""
+    except BadPacket as bad:
+        fault = b"the input ends inside it" if bad.why is None else b"%d, length outside 4 to 8,192" % bad.why
+        return b"", b"meters: packet %d: %s\n" % (bad.number, fault)
+
+
 def main():
     given = sys.stdin.buffer.read()
-    if sys.argv[1:] == ["--recall"]:
-        out, said = recalled(given)
+    if sys.argv[1:] == ["--recall"] or sys.argv[1:2] == ["--meters"]:
+        out, said = recalled(given) if sys.argv[1] == "--recall" else metered([word.encode() for word in sys.argv[2:]], given)
         sys.stdout.buffer.write(out)
         sys.stderr.buffer.write(said)
     else:

@@ -21,7 +21,7 @@ fn bytes(d: &mut Dice) -> String {
 }
 
 /// Orders that libwing has no answer to, 02's among them. N stands for a number and H for bytes.
-const FORMS: [&str; 54] = [
+const FORMS: [&str; 63] = [
     "new N", "new N N", "new N N N", "feed H", "feed H", "feed H", "repeat N H", "int N N N", "int N N 18", "float N H N", "string N H N", "string N H 512",
     "dump", "lookup N", "record N", "recall N", "recall 16384", "poke N H", "count N", "peek N N", "more H", "mores N H", "earlier H H H", "stream +", "pieces N +", "piecelist N,N,N +",
     "packet N +", "definition +", "sum stream +", "sum piecelist N,1,N +", "cuts H", "item N H", "step N N N H", "walk H", "units H", "state N N H",
@@ -30,6 +30,7 @@ const FORMS: [&str; 54] = [
     "load H", "loads N H", "load 69642c6b696e642c76616c75650a2d322c662c33663830303030300a312c692c350a322c732c343134320a",
     "lines 69642c6b696e642c76616c75650a312c692c350aH", "print N", "print 16384",
     "places H", "sum places H",
+    "window N", "window 4", "reading N", "figures", "readings N,N,N N", "readings N,-1,5 20", "ring", "hold N N N N N N,N,N", "hold 2 2 1 2 3 1,2",
 ];
 
 fn formed(d: &mut Dice) -> String {

@@ -1,5 +1,6 @@
 """The words of an order: numbers and hex. A word out of form makes its line so."""
 
+INT16 = (-2**15, 2**15 - 1)
 INT32 = (-2**31, 2**31 - 1)
 UINT16 = 2**16 - 1
 UINT32 = 2**32 - 1

@@ -1,5 +1,5 @@
 """Lines out of form, comments, and lines at the limits."""
-from randoms import odd_define, odd_listing
+from randoms import odd_define, odd_listing, odd_window
 
 LINE = 16384
 ODD = (
@@ -35,14 +35,17 @@ ODD = (
     "askmetersfill 9 0 0 0 0000", "askmetersfill 9 0 0 0 0A00 -", "askmetersfill 9 0 0 256 0000 -",
     "askmetersfill 16385 0 0 0 0000 -", "getters 2 +", "getstring 1 +", "repeat 1 +", "string 1 + 9", "poke 0 +", "sum more 00",
     "sum units +", "sum stream + +", "sum +", "+",
-) + odd_define.ODD + odd_listing.ODD
+) + odd_define.ODD + odd_listing.ODD + odd_window.ODD
 
 
 def at_limit(source):
     """A line of the most bytes that a line may have, or one more."""
     length = LINE + source.pick(-1, 0, 0, 1, 2, 100)
-    word = source.pick("#", "feed ", "stream ", "utf8 ", "more ", "x", "lookup 1 ", "again ", "load ", "lines ")
-    return word + "4" * (length - len(word))
+    word = source.pick("#", "feed ", "stream ", "utf8 ", "more ", "x", "lookup 1 ", "again ", "load ", "lines ", "readings ")
+    if word != "readings ":
+        return word + "4" * (length - len(word))
+    readings = length - len(word) - len(" 16384")
+    return word + ("4," * readings)[:readings - 1] + source.pick("4", "4", ",") + " 16384"
 
 
 def changed(source, line):
@@ -58,7 +61,7 @@ EDGES = (
     "state 34 65600 40", "mores 65600 00", "mores 0 00", "mores 4294967295 -", "state 0 65536 40", "pieces 65535 05", "lookup -2147483648", "lookup 2147483647", "lookup -0",
     "lookup 0000000001", "record 4294967295", "keepalive 851968 1 0", "packet 4200 00000000", "packet 0 00000000", "more -",
     "stream +", "definition +", "piecelist " + ",".join(["1"] * 64) + " 0505", "piecelist " + ",".join(["1"] * 65) + " 0505",
-) + odd_define.EDGES + odd_listing.EDGES
+) + odd_define.EDGES + odd_listing.EDGES + odd_window.EDGES
 
 
 def limits(source):

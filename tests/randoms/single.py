@@ -1,10 +1,11 @@
-"""Orders that stand alone: streams, definitions read and written, commands, packets, getters, UTF-8, states, listings."""
+"""Orders that stand alone: streams, definitions read and written, commands, packets, getters, UTF-8, states, listings, windows."""
 from orders.states import MOST
 from orders.words import UINT32, pairs
 from orders.writers import KEEP_ALIVE_ROOM
 from randoms.define import Definitions
 from randoms.listing import Listings
 from randoms.source import BROKEN, LETTERS, LINE_BYTES
+from randoms.window import Windows
 from rules.command import data_request, definition_request, escaped, format_id, keep_alives, meter_request, set_bytes
 from rules.decoder import State, events
 from rules.definition import Definition, refusal_of
@@ -75,6 +76,9 @@ class Single:
 
     def listing(self):
         return Listings(self.s).single()
+
+    def window(self):
+        return Windows(self.s).single()
 
     def near(self):
         """Bytes at the edges of the grammar's rows."""
@@ -240,7 +244,7 @@ class Single:
                 + (self.pieces, self.set_int, self.set_string, self.ask_meters, self.step) * 3
                 + (self.piece_list, self.utf8, self.places, self.cuts, self.set_float, self.packet, self.item, self.walk, self.units, self.lent,
                    self.state, self.earlier, self.earlier, self.summed, self.getters, self.ask_meters_fill) * 2
-                + (self.format, self.ask, self.keep_alive, self.get_string, self.splits, self.more, self.taking))
+                + (self.format, self.ask, self.keep_alive, self.get_string, self.splits, self.more, self.taking, self.window))
 
     def rare(self):
         """Orders whose answers are long."""

@@ -1,12 +1,12 @@
 -- What is promised of a window over a strip's last readings, as specs/Meters states it.
-use Prim.Native.Nat.{ℕ, zero, suc, _*_, _≤_, _<_}
+use Prim.Native.Nat.{ℕ, _*_}
 use mathlib.Core.Bool.{Bool, true, false}
 use mathlib.Core.Path.{_≡_, refl, sym, ap, _∙_, subst}
 use mathlib.Core.List.{List, [], _∷_, _++_}
 use native.Mathlib.Omega.{arith}
 use lib.Dec.{ltb}
-use lib.IntN.{ℤ, pos}
-use lib.ListN.{length, take, drop, getD}
+use lib.IntN.{ℤ}
+use lib.ListN.{length, take, drop}
 use lib.Seq.{take-at, drop-at}
 use Rattle.wing_node.specs.Bool.{if}
 use Rattle.wing_node.specs.Signed.{InBits}
@@ -17,7 +17,7 @@ use Rattle.wing_node.proofs.Branches.{branch}
 use Rattle.wing_meters.specs.Afresh.{lastOf, figuresOf}
 use Rattle.wing_meters.specs.Window.{freshWindow, taking, leaves, keptIn, soundControl, soundWindow}
 use Rattle.wing_meters.specs.Calls.{madeOf, figuresAnswer, taken, readingOf, afterAll, answers, rows, RowsEffect, rowsEffect, followed, readingsOf}
-use Rattle.wing_meters.specs.Moving.{Readings, noReadings, readingThen, Leaves, Left, Typed, afreshRows}
+use Rattle.wing_meters.specs.Moving.{Readings, Leaves, Left, Typed, afreshRows}
 use Rattle.wing_meters.specs.Answers.{Shown, none, some, toldResult, madeResult, rowsResult}
 use Rattle.wing_meters.specs.declared.figures.Told.{Told}
 use Rattle.wing_meters.specs.declared.figures.Told.the-variants.{None, Figures as Told·Figures, Refused}
@@ -44,8 +44,8 @@ no-width = never-left (freshWindow 0) refl
 pub make-call : (width : ℕ) → MakeCall width (madeOf width .answer) (madeOf width .window)
 unfolding madeOf
 make-call width =
-    let came = λ (x : Made). madeResult (x .answer) (x .window) in
-    let W = λ (x : Made). Left (x .window) → ⊥ in
+    let came : Made → Result Window = λ x. madeResult (x .answer) (x .window) in
+    let W : Made → Type 0 = λ x. (Left (x .window) → ⊥) in
     let wrong : Made = record { answer = NotMade 19; window = freshWindow 0 } in
     let good : Made = record { answer = Good; window = freshWindow width } in
     record {
@@ -97,10 +97,6 @@ figures-call w t =
     go false s why e = never-left w s
 
 -- ---- many readings
-
-pub are-readings : (xs : List ℤ) → ((k : ℕ) → k < length xs → InBits 15 (getD xs k (pos 0))) → Readings xs
-are-readings [] h = noReadings
-are-readings (x ∷ xs) h = readingThen (h 0 (omega arith)) (are-readings xs (λ k l. h (suc k) (omega arith)))
 
 -- what a call with many readings came to
 abbrev came : RowsEffect → Result (List ℤ)
@@ -162,12 +158,12 @@ module _ (w : Window) (xs out : List ℤ) where
         (line came (Kept w out) (afreshRows width before xs) (ltb (length out) (5 * length xs)) outputShort [] short whole refl (refl, refl)
         (none-applies came (Kept w out) (afreshRows width before xs) whole (given-rows width before l r)))
 
-    pub readings-call : Readings xs → ReadingsCall w xs out (readingsOf w xs out .reply .answer) (readingsOf w xs out .reply .window) (readingsOf w xs out .out)
+    pub readings-call : ReadingsCall w xs out (readingsOf w xs out .reply .answer) (readingsOf w xs out .reply .window) (readingsOf w xs out .out)
     unfolding Laid
-    readings-call r =
+    readings-call =
         record {
-          answered = λ width before l. lines-apply width before l r;
-          taken = λ width before l n e. let a = rows-laid n e in (a .0, a .1 ∙ after-left width before w xs l r);
+          answered = λ r width before l. lines-apply width before l r;
+          taken = λ r width before l n e. let a = rows-laid n e in (a .0, a .1 ∙ after-left width before w xs l r);
           rest = λ n e. rows-laid n e .2;
           refusal =
               λ never.

@@ -9,7 +9,7 @@ use Rattle.wing_node.specs.declared.refusal.Refusal.{Refusal}
 use Rattle.wing_node.specs.Result.{ok, refused}
 use Rattle.wing_meters.specs.Afresh.{lastOf, figuresOf}
 use Rattle.wing_meters.specs.Window.{leaves}
-use Rattle.wing_meters.specs.Moving.{Leaves, Left, afreshRows}
+use Rattle.wing_meters.specs.Moving.{Readings, Leaves, Left, afreshRows}
 use Rattle.wing_meters.specs.Answers.{toldResult, madeResult, rowsResult}
 use Rattle.wing_meters.specs.declared.figures.Told.{Told}
 use Rattle.wing_meters.specs.declared.window.Window.{Window}
@@ -50,13 +50,14 @@ pub record FiguresCall (w : Window) (answer : Told) : Type 0 where
   -- and only then
   pub only : (why : Refusal) → toldResult answer ≡ refused why → Left w → ⊥
 
--- many readings that go into a window, one after the other
+-- many readings that go into a window, one after the other. Their type has 16 bits, which what is said of their figures needs
 pub record ReadingsCall (w : Window) (xs out : List ℤ) (answer : RowsAnswer) (after : Window) (laid : List ℤ) : Type 0 where
   -- whatever readings left the window: 9; else a row for each, of the figures worked out afresh from the last readings so far
-  pub answered : (width : ℕ) (before : List ℤ) → Leaves width before w →
+  pub answered : Readings xs → (width : ℕ) (before : List ℤ) → Leaves width before w →
       Answers (rowsLines xs out) (afreshRows width before xs) (rowsResult answer laid) ((laid ≡ out) × (after ≡ w))
   -- a row for each reading, and the window that all of them leave
-  pub taken : (width : ℕ) (before : List ℤ) → Leaves width before w → (n : ℕ) → answer ≡ Rows n → (n ≡ length xs) × (after ≡ leaves width (before ++ xs))
+  pub taken : Readings xs → (width : ℕ) (before : List ℤ) → Leaves width before w → (n : ℕ) → answer ≡ Rows n →
+      (n ≡ length xs) × (after ≡ leaves width (before ++ xs))
   -- the output past the rows as it was
   pub rest : (n : ℕ) → answer ≡ Rows n → drop (5 * n) laid ≡ drop (5 * n) out
   -- 8 if no list of readings leaves it; as it was

@@ -31,7 +31,7 @@ pub fn int(n: usize) -> i32 {
     field::to_i32(word(n))
 }
 
-fn half(n: usize) -> u16 {
+pub fn half(n: usize) -> u16 {
     (n % 0x1_0000) as u16
 }
 

@@ -64,7 +64,8 @@ fn number(word: &[u8], letter: u8) -> usize {
     let limits =
         b"f1|g2|n34|o255|e263|t512|p1026|k4096|a4200|r16384|w65535|m270864|l851968|d4294967295";
     match letter {
-        b'i' => read::signed(word),
+        b'i' => read::signed(word, 0x8000_0000),
+        b's' => read::signed(word, 0x8000),
         b'x' => hex_number(word, 8),
         b'z' => hex_number(word, 4),
         b'y' => hex_number(word, 2),
@@ -108,6 +109,27 @@ fn with_list(mut a: Asked, word: &[u8]) -> Asked {
         k += 1;
     }
     a.count = k;
+    a
+}
+
+// A list of readings or of levels, by the letter of one, `-` for none: two bytes each, after those of the words before it.
+fn with_values(mut a: Asked, word: &[u8], letter: u8, bytes: &mut Bytes) -> Asked {
+    if read::same(word, b"-") {
+        return a;
+    }
+    let mut at = 0;
+    let mut turns: u16 = 16384;
+    while turns > 0 && at <= word.len() {
+        let end = read::word_end(word, at, b',');
+        let n = number(read::part(word, at, end), letter);
+        if n == read::NONE {
+            a.part = 0;
+        }
+        a.to = read::put(bytes, a.to, (n / 256 % 256) as u8);
+        a.to = read::put(bytes, a.to, (n % 256) as u8);
+        at = read::after(end);
+        turns -= 1;
+    }
     a
 }
 
@@ -156,6 +178,8 @@ fn with_word(mut a: Asked, word: &[u8], letter: u8, place: usize, bytes: &mut By
         }
         b'*' => with_bytes(a, word, bytes, a.last),
         b',' => with_list(a, word),
+        b'v' => with_values(a, word, b's', bytes),
+        b'u' => with_values(a, word, b'w', bytes),
         _ => with_number(a, place, number(word, letter)),
     }
 }
@@ -211,8 +235,8 @@ fn by_table(line: &[u8], table: &[u8], bytes: &mut Bytes, held: usize) -> Asked 
 
 // A line has its most bytes. Of an order's two letters the first is the part that answers it, a capital one where the order
 // has no sum, which stands before an order. Of the words h is hex, + hex or the bytes held, * hex as many times over as the
-// number before it says, `,` a list, x, z and y are hex numbers of eight, four and two digits, i is signed, and every other
-// letter a number up to a limit.
+// number before it says, `,` a list of sizes, v one of readings and u one of levels, x, z and y are hex numbers of eight,
+// four and two digits, i and s signed ones of 32 and 16 bits, and every other letter a number up to a limit.
 pub fn order(line: &[u8], bytes: &mut Bytes, held: usize) -> Asked {
     let mut from = 0;
     if read::is_front(b"sum ", line) {
@@ -228,7 +252,8 @@ dddefinition:+ dccuts:h diitem:dh dsstep:wwwh dwwalk:h \
 vuutf8:h vfutf8s:h vpplaces:h vsstreams:h vggetters:gh vlgetstring:wh pvpacket:a+ \
 cisetint:rii cfsetfloat:rix cssetstring:rih ctformat:riyh cdaskdefinition:ri caaskdata:ri \
 cmaskmeters:rwwoh cnaskmetersfill:rwwozh ckkeepalive:lww DDdefine:iiwoofxxiwwhhhr AAagain:h \
-L?load:h L?loads:d* LJlines:h TPprint:r",
+L?load:h L?loads:d* LJlines:h TPprint:r \
+Wwwindow:d Wrreading:s Wffigures: Wsreadings:vr Wgring: Whhold:wwwwdu",
         bytes,
         held,
     );

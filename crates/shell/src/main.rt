@@ -10,6 +10,7 @@ mod show;
 mod states;
 mod streams;
 mod values;
+mod windows;
 
 use crate::forms::Asked;
 use crate::forms::Bytes;
@@ -17,6 +18,7 @@ use crate::mirror::Kept;
 use crate::mirror::Memory;
 use crate::mirror::Session;
 use crate::show::Log;
+use wing_meters::window::Window;
 
 // The longest line, and one byte more that tells a longer one.
 const LINE: usize = 16385;
@@ -37,6 +39,18 @@ struct Input {
     more: bool,
 }
 
+// What lasts from line to line: the mirror's session, and the window beside it.
+struct Lasting {
+    session: Session,
+    window: Window,
+}
+
+fn start() -> Lasting {
+    let session = mirror::start();
+    let window = windows::start();
+    Lasting { session, window }
+}
+
 // An order with no answer but its text, or the text's sum. A definition's room is the last of its numbers, or 4,096 for one
 // written anew.
 fn text(part: u8, k: Kept, memory: &[u8], a: Asked, bytes: &[u8], log: &mut Log) -> usize {
@@ -55,7 +69,7 @@ fn text(part: u8, k: Kept, memory: &[u8], a: Asked, bytes: &[u8], log: &mut Log)
     show::summed(log, len, a.summed)
 }
 
-// Every order but a feed and a load.
+// Every order but those to the window, a feed and a load.
 fn order(part: u8, k: Kept, memory: &mut Memory, a: Asked, bytes: &[u8], log: &mut Log) -> Kept {
     match part {
         b'M' => mirror::change(k, memory, a, bytes, log),
@@ -64,7 +78,14 @@ fn order(part: u8, k: Kept, memory: &mut Memory, a: Asked, bytes: &[u8], log: &m
     }
 }
 
-fn turn(mut t: Session, memory: &mut Memory, a: Asked, bytes: &[u8], log: &mut Log) -> Session {
+// Every order but those to the window.
+fn to_mirror(
+    mut t: Session,
+    memory: &mut Memory,
+    a: Asked,
+    bytes: &[u8],
+    log: &mut Log,
+) -> Session {
     if a.part == b'F' {
         return mirror::feed(t.state, t.kept, memory, bytes, log);
     }
@@ -73,6 +94,28 @@ fn turn(mut t: Session, memory: &mut Memory, a: Asked, bytes: &[u8], log: &mut L
     }
     let kept = order(a.part, t.kept, memory, a, bytes, log);
     t.kept = kept;
+    t
+}
+
+fn to_window(mut t: Lasting, a: Asked, bytes: &[u8], log: &mut Log) -> Lasting {
+    let w = t.window;
+    let r = windows::order(w, a, bytes, log);
+    let after = r.window;
+    t.window = after;
+    let mut s = t.session;
+    let kept = mirror::with_text(s.kept, r.len, a.from);
+    s.kept = kept;
+    t.session = s;
+    t
+}
+
+fn turn(mut t: Lasting, memory: &mut Memory, a: Asked, bytes: &[u8], log: &mut Log) -> Lasting {
+    if a.part == b'W' {
+        return to_window(t, a, bytes, log);
+    }
+    let s = t.session;
+    let after = to_mirror(s, memory, a, bytes, log);
+    t.session = after;
     t
 }
 
@@ -93,15 +136,15 @@ fn print(line: &[u8], log: &mut Log, answer: usize) {
 }
 
 fn answer(
-    mut t: Session,
+    mut t: Lasting,
     m: &mut Memory,
     line: &[u8],
     bytes: &mut Bytes,
     log: &mut Log,
-) -> Session {
-    let a = forms::order(line, bytes, t.kept.held);
+) -> Lasting {
+    let a = forms::order(line, bytes, t.session.kept.held);
     t = turn(t, m, a, read::part(bytes, a.from, a.to), log);
-    print(line, log, t.kept.len);
+    print(line, log, t.session.kept.len);
     t
 }
 
@@ -154,7 +197,7 @@ fn run(
     bytes: &mut Bytes,
     log: &mut Log,
 ) {
-    let mut s = mirror::start();
+    let mut s = start();
     let mut t = Input {
         at: 0,
         end: 0,

@@ -143,12 +143,12 @@ pub fn unsigned(word: &[u8], base: usize, most: usize) -> usize {
     if n <= most { n } else { NONE }
 }
 
-// A number of 32 bits with its sign, by its bits.
-pub fn signed(word: &[u8]) -> usize {
+// A number with its sign that is below a limit, or that with a minus: by its 32 bits.
+pub fn signed(word: &[u8], limit: usize) -> usize {
     if byte_or(word, 0, 0) != b'-' {
-        return unsigned(word, 10, 0x7fff_ffff);
+        return unsigned(word, 10, less(limit, 1));
     }
-    let n = unsigned(part(word, 1, word.len()), 10, 0x8000_0000);
+    let n = unsigned(part(word, 1, word.len()), 10, limit);
     if n == 0 || n == NONE {
         return n;
     }

@@ -72,7 +72,7 @@ pub fn refused(letter: u8, why: Refusal) -> Said {
     one(letter, refusal(why))
 }
 
-fn decimal(log: &mut Log, at: usize, n: usize) -> usize {
+pub fn decimal(log: &mut Log, at: usize, n: usize) -> usize {
     let mut digits = [0u8; 20];
     let k = io::decimal(n as u64, &mut digits);
     read::lay(log, at, &digits[..k])
@@ -85,7 +85,7 @@ pub fn hex(log: &mut Log, at: usize, n: usize, width: usize) -> usize {
 }
 
 // A number of 32 bits with its sign, by its bits.
-fn signed(log: &mut Log, at: usize, bits: usize) -> usize {
+pub fn signed(log: &mut Log, at: usize, bits: usize) -> usize {
     if bits < 0x8000_0000 {
         return decimal(log, at, bits);
     }
@@ -210,7 +210,7 @@ fn spell(log: &mut Log, mut at: usize, text: &[u8], values: &[usize], source: &[
 }
 
 // A text of the table, in which each stands after its letter, with `|` between. First those of streams and units, then of
-// definitions, states, commands and values, the mirror, and lines out of form.
+// definitions, states, commands and values, the mirror, the window, and lines out of form.
 pub fn say(log: &mut Log, at: usize, s: Said, source: &[u8]) -> usize {
     let text = read::entry(
         b"iiHH@H|ffHH@H|ssHX@H|bbNX:|eeNN@H|rNR@H|@@H|..AHHA|u B|+ B+|:; channel=S escaped=A|\
@@ -219,7 +219,8 @@ pub fn say(log: &mut Log, at: usize, s: Said, source: &[u8]) -> usize {
 p pending=B|n pending=none|t token=between|c token=number T left=U value=H|\
 j token=string left=U of U|k token=body left=U of U stored=U|o store=Q|wDXZ|qRZ|mDH:|vH-Y|yHsXY|\
 Ffed U U U U U U|Nplaces U|Ccount U|Hheld U|Ppoked|Tsent NQ V|RP V|DU records T|IS,i,S|BS,f,H|\
-GS,s,X|Aat U|LQ|Wwrote NQ V|Oother NQ|Kloaded U|JP line U|Vprinted NQ V|E?|#W|X? W",
+GS,s,X|Aat U|LQ|Wwrote NQ V|Oother NQ|Kloaded U|JP line U|Vprinted NQ V|\
+Mwindow U|Yheld U sum S mean S rest U top S|Zrows U |Q T|Swidth U held U next U top U sum U levels |hheld|E?|#W|X? W",
         s.letter,
     );
     let values = [s.first, s.second, s.third, s.fourth, s.fifth, s.sixth];
