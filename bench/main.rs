@@ -6,6 +6,7 @@
 mod definitions;
 mod inputs;
 mod listing;
+mod windows;
 
 use definitions::{definitions, write, Given};
 use inputs::{bodies, broken_strings, capture, orders, strings, values, Order, START, STREAMS};
@@ -13,6 +14,7 @@ use std::collections::HashMap;
 use std::hint::black_box;
 use std::time::Instant;
 use whistleloam::{raw, Mirror};
+use windows::{following, one_by_one};
 use wing::{WingConsole, WingNodeData, WingNodeDef, WingResponse};
 
 // A slice goes over the border as its start and its length.
@@ -314,6 +316,9 @@ fn parts() -> Vec<Part> {
         printing(),
         loading_listing(),
         broken_characters(),
+        following("a million readings, window 256", windows::random(1_000_000)),
+        following("a million falling, window 256", windows::falling(1_000_000)),
+        one_by_one("100,000 readings one by one", windows::random(100_000)),
     ]
 }
 

@@ -10,9 +10,9 @@
  *
  * Status: 0 for a call that was taken (1 where that is said below), or a refusal's number with a minus sign: -9 is refusal 9. Where
  * several refusals apply, the first in the order given at the call is answered. A refused call has changed nothing that was lent, and
- * gives a count that was lent back as it was; the one exception are wing_next's own -1 to -3, said there. Where the status is a refusal,
- * all other fields of the answer are 0, but for the good, the count of a set or a feed, an event's node and taken, a step's walk and a
- * load's line.
+ * gives a count that was lent and a window back as they were; the one exception are wing_next's own -1 to -3, said there. Where the
+ * status is a refusal, all other fields of the answer are 0, but for the good, the count of a set or a feed, an event's node and taken,
+ * a step's walk, a load's line and the window beside an answer.
  *
  * Good: -1 and -5 are about a string that is not UTF-8. Beside them an answer has `good`: how many leading bytes of that string form
  * whole characters, the largest such number (0 to 255). The string is not stored; a box can show those bytes. With every other status the
@@ -65,6 +65,10 @@ extern "C" {
 #define WING_PACKET_MIN 4
 #define WING_PACKET_MAX 8192
 #define WING_READINGS_MAX 4094
+
+/* The widest window over readings, and how many figures a row has. */
+#define WING_WINDOW_MAX 256
+#define WING_ROW_FIGURES 5
 
 /* Kinds of a value; the last two are kinds of an event alone. */
 #define WING_KIND_INTEGER 0
@@ -123,7 +127,7 @@ extern "C" {
 #define WING_REFUSED_DEFINITION_STRING 5   /* a definition's string that is not UTF-8; its good stands beside it */
 #define WING_REFUSED_NO_PLACE 6            /* a new node, and no place left; a listing of more records than places */
 #define WING_REFUSED_TABLE 7               /* the table is not sound, or its places are not 1 to 1,024 */
-#define WING_REFUSED_STATE 8               /* the bytes are no sound state's, or an old state's that cannot be carried over */
+#define WING_REFUSED_STATE 8               /* no sound state, or an old one that cannot be carried over; a window that no readings leave */
 #define WING_REFUSED_OUTPUT_SHORT 9        /* the output is too short for the whole */
 #define WING_REFUSED_STRING_LONG 10        /* a string over 256 bytes */
 #define WING_REFUSED_METERS 11             /* more than 64 meters */
@@ -134,6 +138,7 @@ extern "C" {
 #define WING_REFUSED_FIELDS 16             /* a type or unit over 7; item bytes that are not the type's items, as many as the count */
 #define WING_REFUSED_LINE 17               /* a listing's header or line out of form */
 #define WING_REFUSED_ID_ORDER 18           /* a line's id not above the one before */
+#define WING_REFUSED_WIDTH 19              /* a window's width outside 1 to 256 */
 
 /* ---- What comes back ---- */
 
@@ -261,6 +266,46 @@ typedef struct WingStep {
     WingItem item; /* the item there */
     WingWalk walk; /* the walk after it; where the item is a refusal, the walk as it was. Its status and good are always 0 */
 } WingStep;
+
+/* A window over readings: the caller keeps it, and it crosses by value. A window that no list of readings leaves is refused with 8. Inside
+ * it a reading is a level: the reading raised by 32,768. */
+typedef struct WingWindow {
+    uint16_t width;       /* the most readings that it holds, 1 to WING_WINDOW_MAX */
+    uint16_t held;        /* how many it holds */
+    uint16_t next;        /* the place of the next one */
+    uint16_t top;         /* the largest level */
+    uint32_t sum;         /* the sum of the levels */
+    uint16_t levels[256]; /* a ring of width levels; places not used yet, and those after the ring, are 0 */
+} WingWindow;
+
+/* What a window tells of the readings that it holds. Where it tells nothing, the five figures are 0. */
+typedef struct WingFigures {
+    int32_t status; /* 1 figures, 0 none, or a refusal */
+    uint16_t held;  /* how many readings, 1 to the width */
+    int32_t sum;    /* their sum */
+    int16_t mean;   /* the sum divided by their number, rounded down */
+    uint16_t rest;  /* what that leaves of the sum, 0 to held - 1 */
+    int16_t top;    /* the largest */
+} WingFigures;
+
+/* A window made. */
+typedef struct WingMade {
+    int32_t status;    /* 0, or a refusal */
+    WingWindow window; /* it holds none; refused: all 0, which every call refuses */
+} WingMade;
+
+/* A reading taken. */
+typedef struct WingTaken {
+    WingFigures figures; /* its status is the call's */
+    WingWindow window;   /* the window to go on with; refused: as it was given */
+} WingTaken;
+
+/* Readings taken, one after the other. */
+typedef struct WingFollowed {
+    int32_t status;    /* 0, or a refusal */
+    size_t rows;       /* how many rows stand at the front of the output, one for each reading */
+    WingWindow window; /* the window to go on with; refused: as it was given */
+} WingFollowed;
 
 /* ---- What goes in ---- */
 
@@ -433,6 +478,26 @@ bool wing_is_utf8(const uint8_t *s, size_t s_len);
 /* How many leading bytes form whole characters: the largest such number, and all of them exactly if wing_is_utf8 says so. Lent to be read:
  * s, of any length. Never refused. */
 size_t wing_utf8_good(const uint8_t *s, size_t s_len);
+
+/* ---- A window over a strip's last readings ---- */
+
+/* A window of a width from 1 to WING_WINDOW_MAX, which holds none.
+ * Refused: 19. */
+WingMade wing_window_make(uint32_t width);
+
+/* What the window tells of the readings that it holds (status 1), or none (0).
+ * Refused: 8. */
+WingFigures wing_window_figures(WingWindow w);
+
+/* A reading goes in, and once the window is full the oldest leaves. Beside the window to go on with stands what it tells (status 1).
+ * Refused (the figures' status): 8. */
+WingTaken wing_window_reading(WingWindow w, int16_t x);
+
+/* Readings one after the other, and what the window tells after each: a row of WING_ROW_FIGURES numbers, held, sum, mean, rest and top. The
+ * window is tested once for all of them. Lent to be read: xs; to be written: out, with room for a row for each reading; what stands after
+ * the rows is as it was.
+ * Refused: 8, 9. */
+WingFollowed wing_window_readings(WingWindow w, const int16_t *xs, size_t xs_len, int32_t *out, size_t out_len);
 
 #ifdef __cplusplus
 }

@@ -19,8 +19,9 @@ from orders.words import UINT32, OutOfForm, count, demand, hex_of
 from rules.decoder import CALL_LIMIT
 from rules.listing import BadLine, listing, load
 from rules.mirror import WIDTH, Mirror
-from rules.packets import WIDEST, BadPacket, checked_width, table
+from rules.packets import BadPacket, table
 from rules.refusal import Refusal
+from rules.window import WIDEST, checked_width
 
 LINE = 16384        # the longest line that shell reads
 HELD = 80000        # the most bytes that it holds for a later order

@@ -6,7 +6,8 @@ use std::process::Command;
 use std::time::SystemTime;
 
 /// The crates whose sources the archive is made of.
-const CRATES: [&str; 6] = ["wing_c", "wing_listing", "wing_saved", "wing_mirror", "wing_wire", "wing_node"];
+const CRATES: [&str; 7] =
+    ["wing_c", "wing_listing", "wing_meters", "wing_saved", "wing_mirror", "wing_wire", "wing_node"];
 
 fn main() {
     println!("cargo:rerun-if-env-changed=WING_C_ARCHIVE");

@@ -2,10 +2,10 @@
 from rules.command import packet
 from rules.numbers import unsigned
 from rules.refusal import Refusal, refuse_if
+from rules.window import figures_of, last_of
 
 LONGEST = 8192      # 01: "Packet outside 4–8,192" is 13
 MOST_READINGS = (LONGEST - 4) // 2
-WIDEST = 256        # 02: "A window of width 1 to 256"
 
 
 class BadPacket(Exception):
@@ -15,20 +15,6 @@ class BadPacket(Exception):
         super().__init__(number, why)
         self.number = number
         self.why = why
-
-
-def checked_width(width):
-    """02: "a width outside 1 to 256 is 19"."""
-    refuse_if(not 1 <= width <= WIDEST, 19)
-    return width
-
-
-def figures(readings, width):
-    """02: how many the window holds, "the sum, and the sum divided by that number as a whole quotient, rounded down, with its
-    exact remainder", and "the largest reading too"; worked out afresh from the last readings."""
-    last = readings[-width:]
-    mean, rest = divmod(sum(last), len(last))
-    return len(last), sum(last), mean, rest, max(last)
 
 
 def packet_at(data, at):
@@ -69,5 +55,5 @@ def strips_of(packets):
 
 def table(data, width):
     """The text: a header, then a line for each strip, which has a reading at least."""
-    rows = ((meter, number) + figures(strip, width) for meter, number, strip in strips_of(packets_of(data)))
+    rows = ((meter, number) + figures_of(last_of(width, strip)) for meter, number, strip in strips_of(packets_of(data)))
     return b"id,strip,held,sum,mean,rest,top\n" + b"".join(b"%d,%d,%d,%d,%d,%d,%d\n" % row for row in rows)

@@ -27,6 +27,12 @@ def filled(levels):
     return tuple(levels) + (0,) * (PLACES - len(levels))
 
 
+def checked_width(width):
+    """02: "a width outside 1 to 256 is 19"."""
+    refuse_if(not 1 <= width <= WIDEST, 19)
+    return width
+
+
 NO_WINDOW = State(0, 0, 0, 0, 0, filled(()))
 
 
@@ -78,9 +84,7 @@ class Window:
     """The readings so far, in a width; or a state that no list leaves."""
 
     def __init__(self, width):
-        """02: "a width outside 1 to 256 is 19"."""
-        refuse_if(not 1 <= width <= WIDEST, 19)
-        self.width, self.readings, self.unsound = width, [], None
+        self.width, self.readings, self.unsound = checked_width(width), [], None
 
     @classmethod
     def made_up(cls, s):

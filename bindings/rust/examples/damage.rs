@@ -1,12 +1,14 @@
 //! Damaged buffers through the crate and through its raw parts: `damage N SEED`.
 //!
-//! States, tables, streams, definitions to be read and written, listings, packets, saved mirrors and orders, with bytes changed, left out or
+//! States, tables, streams, definitions to be read and written, listings, packets, windows, saved mirrors and orders, with bytes changed, left out or
 //! put in, each in a heap allocation of exactly its size, so that valgrind sees an access past the end. Every answer must be a value or a refusal that its
 //! call may give, with the good of a string where Rust's own test has it, and a refused call must have changed nothing. Ends with the totals; status 1
 //! at the first fault.
 use std::process::exit;
 use whistleloam::raw;
-use whistleloam::{Decoder, Definition, Details, Mirror, Refusal, Value, BODY_LIMIT, PLACE_WIDTH, STATE_SIZE};
+use whistleloam::{
+    Decoder, Definition, Details, Mirror, Refusal, Value, BODY_LIMIT, PLACE_WIDTH, ROW_FIGURES, STATE_SIZE,
+};
 
 struct Dice(u64);
 
@@ -55,7 +57,7 @@ impl Dice {
 #[derive(Default)]
 struct Totals {
     values: u64,
-    refused: [u64; 19],
+    refused: [u64; 20],
 }
 
 impl Totals {
@@ -283,6 +285,10 @@ impl Pool {
             self.totals.of("feed", mirror.feed(&piece), &[]);
             self.events(&mut decoder, &piece);
         }
+        // A body of both counts 0 (3), which damage seldom makes.
+        if self.dice.one_in(50) {
+            self.events(&mut decoder, &[0xdf, 0xde, 0, 0, 0, 0, 0, 0]);
+        }
         if self.dice.one_in(500) {
             let long = vec![self.dice.byte(); 65535 + self.dice.below(3)].into_boxed_slice();
             self.totals.of("feed", mirror.feed(&long), &[14]);
@@ -416,6 +422,66 @@ impl Pool {
         must("read_meters", got.count <= out.len());
     }
 
+    fn reading(&mut self) -> i16 {
+        self.dice.below(65536) as u16 as i16
+    }
+
+    /// A window of any width after some readings.
+    fn window(&mut self) {
+        let width = if self.dice.one_in(8) { self.dice.below(1 << 20) } else { self.dice.below(258) };
+        let made = raw::window_make(width as u32);
+        if self.totals.note("window_make", made.status, &[19]) {
+            must("window_make", made.window.width == 0 && made.window.levels == [0; 256]);
+        }
+        let readings: Box<[i16]> = (0..self.dice.below(300)).map(|_| self.reading()).collect();
+        let room = ROW_FIGURES * readings.len() + 2 - self.dice.below(4).min(2 + readings.len());
+        let mut rows = vec![77; room].into_boxed_slice();
+        let followed = raw::window_readings(made.window, &readings, &mut rows);
+        if self.totals.note("window_readings", followed.status, &[8, 9]) {
+            must(
+                "window_readings",
+                rows.iter().all(|n| *n == 77) && followed.rows == 0 && followed.window == made.window,
+            );
+        } else {
+            let laid = ROW_FIGURES * readings.len();
+            must("window_readings", followed.rows == readings.len() && rows[laid..].iter().all(|n| *n == 77));
+        }
+        self.made_up(followed.window);
+    }
+
+    /// Some of its numbers changed, a level also with the sum kept up. Every call takes it or refuses it alike.
+    fn made_up(&mut self, mut w: raw::WingWindow) {
+        for _ in 0..self.dice.below(3) {
+            let number = self.dice.below(260) as u16;
+            match self.dice.below(6) {
+                0 => w.width = number,
+                1 => w.held = number,
+                2 => w.next = number,
+                3 => w.top = w.top.wrapping_add(number),
+                4 => w.sum = w.sum.wrapping_add(number.into()),
+                _ => {
+                    let level = &mut w.levels[usize::from(number % 256)];
+                    w.sum = w.sum.wrapping_sub((*level).into()).wrapping_add(number.into());
+                    *level = number;
+                }
+            }
+        }
+        let (x, mut row) = (self.reading(), vec![77; ROW_FIGURES].into_boxed_slice());
+        let (told, taken) = (raw::window_figures(w), raw::window_reading(w, x));
+        let followed = raw::window_readings(w, &[x], &mut row);
+        let unsound = self.totals.note("window_figures", told.status, &[8]);
+        for status in [taken.figures.status, followed.status] {
+            must("window", unsound == self.totals.note("window_reading", status, &[8]));
+        }
+        let f = taken.figures;
+        let figures = [f.held.into(), f.sum, f.mean.into(), f.rest.into(), f.top.into()];
+        if unsound {
+            must("window", taken.window == w && followed.window == w && row.iter().all(|n| *n == 77));
+        } else {
+            must("window", taken.window == followed.window && figures[..] == *row && f.rest < f.held && x <= f.top);
+        }
+    }
+
     fn saved(&mut self) {
         let good = self.mirrors[self.dice.below(self.mirrors.len())].save();
         let resize = self.dice.one_in(4);
@@ -454,7 +520,7 @@ impl Pool {
     }
 
     fn one(&mut self) {
-        match self.dice.below(9) {
+        match self.dice.below(10) {
             0 => self.state(),
             1 => self.table(),
             2 => self.stream(),
@@ -463,6 +529,7 @@ impl Pool {
             5 => self.listing(),
             6 => self.packet(),
             7 => self.saved(),
+            8 => self.window(),
             _ => self.orders(),
         }
     }
@@ -476,7 +543,7 @@ fn main() {
         pool.one();
     }
     let totals = pool.totals;
-    let each: String = (1..19).map(|n| format!(", {} refused with {n}", totals.refused[n])).collect();
+    let each: String = (1..20).map(|n| format!(", {} refused with {n}", totals.refused[n])).collect();
     println!("{number} damaged buffers: {} answers{each}", totals.values);
     if number >= 20_000 && totals.refused[1..].contains(&0) {
         fault("damage", "a refusal that never came: the buffers are not damaged enough");

@@ -235,6 +235,75 @@ pub struct WingStep {
     pub walk: WingWalk,
 }
 
+/// A window over readings: the caller keeps it, and it crosses by value. A window that no list of readings leaves is
+/// refused with 8. Inside it a reading is a level: the reading raised by 32,768.
+#[repr(C)]
+#[derive(Clone, Copy, Debug, PartialEq, Eq)]
+pub struct WingWindow {
+    /// The most readings that it holds, 1 to 256.
+    pub width: u16,
+    /// How many it holds.
+    pub held: u16,
+    /// The place of the next one.
+    pub next: u16,
+    /// The largest level.
+    pub top: u16,
+    /// The sum of the levels.
+    pub sum: u32,
+    /// A ring of `width` levels; places not used yet, and those after the ring, are 0.
+    pub levels: [u16; 256],
+}
+
+/// What a window tells of the readings that it holds. Where it tells nothing, the five figures are 0.
+#[repr(C)]
+#[derive(Clone, Copy, Debug, PartialEq, Eq)]
+pub struct WingFigures {
+    /// 1 figures, 0 none, or a refusal.
+    pub status: i32,
+    /// How many readings, 1 to the width.
+    pub held: u16,
+    /// Their sum.
+    pub sum: i32,
+    /// The sum divided by their number, rounded down.
+    pub mean: i16,
+    /// What that leaves of the sum, 0 to `held - 1`.
+    pub rest: u16,
+    /// The largest.
+    pub top: i16,
+}
+
+/// A window made.
+#[repr(C)]
+#[derive(Clone, Copy, Debug, PartialEq, Eq)]
+pub struct WingMade {
+    /// 0, or a refusal.
+    pub status: i32,
+    /// It holds none; refused: all 0, which every call refuses.
+    pub window: WingWindow,
+}
+
+/// A reading taken.
+#[repr(C)]
+#[derive(Clone, Copy, Debug, PartialEq, Eq)]
+pub struct WingTaken {
+    /// Its status is the call's.
+    pub figures: WingFigures,
+    /// The window to go on with; refused: as it was given.
+    pub window: WingWindow,
+}
+
+/// Readings taken, one after the other.
+#[repr(C)]
+#[derive(Clone, Copy, Debug, PartialEq, Eq)]
+pub struct WingFollowed {
+    /// 0, or a refusal.
+    pub status: i32,
+    /// How many rows stand at the front of the output, one for each reading.
+    pub rows: usize,
+    /// The window to go on with; refused: as it was given.
+    pub window: WingWindow,
+}
+
 /// A definition to be written: fields of [`WingDefinition`]. What its type has not is ignored, but for the count and the
 /// item bytes (16).
 #[repr(C)]
@@ -381,6 +450,16 @@ mod library {
         pub fn wing_read_meters(packet: *const u8, packet_len: usize, out: *mut i16, out_len: usize) -> WingMeters;
         pub fn wing_is_utf8(s: *const u8, s_len: usize) -> bool;
         pub fn wing_utf8_good(s: *const u8, s_len: usize) -> usize;
+        pub fn wing_window_make(width: u32) -> WingMade;
+        pub fn wing_window_figures(w: WingWindow) -> WingFigures;
+        pub fn wing_window_reading(w: WingWindow, x: i16) -> WingTaken;
+        pub fn wing_window_readings(
+            w: WingWindow,
+            xs: *const i16,
+            xs_len: usize,
+            out: *mut i32,
+            out_len: usize,
+        ) -> WingFollowed;
     }
 }
 
@@ -733,4 +812,40 @@ pub fn utf8_good(s: &[u8]) -> usize {
     // SAFETY: `s` is borrowed and only read. The call stays within the lengths and keeps no
     // address.
     unsafe { library::wing_utf8_good(s.as_ptr(), s.len()) }
+}
+
+/// A window of a width from 1 to 256, which holds none.
+///
+/// Refused: 19.
+pub fn window_make(width: u32) -> WingMade {
+    // SAFETY: only numbers cross.
+    unsafe { library::wing_window_make(width) }
+}
+
+/// What the window tells of the readings that it holds (status 1), or none (0).
+///
+/// Refused: 8.
+pub fn window_figures(w: WingWindow) -> WingFigures {
+    // SAFETY: only numbers cross, the window by value.
+    unsafe { library::wing_window_figures(w) }
+}
+
+/// A reading goes in, and once the window is full the oldest leaves. Beside the window to go on with stands what it
+/// tells (status 1).
+///
+/// Refused (the figures' status): 8.
+pub fn window_reading(w: WingWindow, x: i16) -> WingTaken {
+    // SAFETY: only numbers cross, the window by value.
+    unsafe { library::wing_window_reading(w, x) }
+}
+
+/// Readings one after the other, and what the window tells after each: a row of five numbers, held, sum, mean, rest and
+/// top. The window is tested once for all of them. Lent to be read: xs; to be written: out, with room for a row for each
+/// reading; what stands after the rows is as it was.
+///
+/// Refused: 8, 9.
+pub fn window_readings(w: WingWindow, xs: &[i16], out: &mut [i32]) -> WingFollowed {
+    // SAFETY: `out` is borrowed for this call alone; `xs` is borrowed and only read; the window
+    // crosses by value. The call stays within the lengths and keeps no address.
+    unsafe { library::wing_window_readings(w, xs.as_ptr(), xs.len(), out.as_mut_ptr(), out.len()) }
 }

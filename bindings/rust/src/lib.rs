@@ -31,8 +31,8 @@
 //! ```
 //!
 //! To see each event rather than the last values, there is [`Decoder`]; for what a node is, [`Definition`], and
-//! [`Fields`] to write one. Requests, set orders without a mirror and meters are functions of this module. [`raw`] has the
-//! calls over your own buffers.
+//! [`Fields`] to write one. Requests, set orders without a mirror and meters are functions of this module; [`Window`] tells of a
+//! strip's last readings. [`raw`] has the calls over your own buffers.
 //!
 //! No call panics, whatever the bytes. A call that cannot be done answers a [`Refusal`] and has changed nothing. A
 //! [`Decoder`]'s refusals 1 to 5 are of another sort: they say what the console sent, which is taken like an event. Where it is
@@ -49,6 +49,7 @@ mod mirror;
 pub mod raw;
 mod refusal;
 mod value;
+mod window;
 
 pub use commands::{
     is_utf8, keep_alive_meters, read_meters, request_meter, request_node_data, request_node_definition, set_float,
@@ -60,6 +61,7 @@ pub use fields::Fields;
 pub use mirror::{Counts, Mirror, Records};
 pub use refusal::{LoadRefusal, Refusal};
 pub use value::Value;
+pub use window::{Figures, Window};
 
 /// The bytes of a decoder state.
 pub const STATE_SIZE: usize = 4123;
@@ -97,3 +99,7 @@ pub const PACKET_MIN: usize = 4;
 pub const PACKET_MAX: usize = 8192;
 /// The most readings of a meter packet.
 pub const READINGS_MAX: usize = 4094;
+/// The most readings that a window holds.
+pub const WINDOW_MAX: usize = 256;
+/// How many figures a row of [`Window::readings_into`] has.
+pub const ROW_FIGURES: usize = 5;

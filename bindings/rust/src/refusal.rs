@@ -42,7 +42,7 @@ impl Refusal {
     pub const NO_PLACE: Refusal = Refusal::Other(6);
     /// 7: a table that is not sound, or whose places are not 1 to 1,024.
     pub const TABLE: Refusal = Refusal::Other(7);
-    /// 8: bytes that are no sound decoder state's, or an old state's that cannot be carried over.
+    /// 8: bytes that are no sound decoder state's, an old state that cannot be carried over, or a window that no readings leave.
     pub const STATE: Refusal = Refusal::Other(8);
     /// 9: an output too short for the whole.
     pub const OUTPUT_SHORT: Refusal = Refusal::Other(9);
@@ -64,6 +64,8 @@ impl Refusal {
     pub const LINE: Refusal = Refusal::Other(17);
     /// 18: a line's id that is not above the one before.
     pub const ID_ORDER: Refusal = Refusal::Other(18);
+    /// 19: a window's width outside 1 to 256.
+    pub const WIDTH: Refusal = Refusal::Other(19);
 
     /// The number in the rules' table.
     pub fn number(self) -> u8 {
@@ -103,6 +105,7 @@ impl Refusal {
             16 => "a type or unit over 7, or item bytes that are not the type's items, as many as the count",
             17 => "a listing's header or line is out of form",
             18 => "a line's id is not above the one before",
+            19 => "a window's width is not 1 to 256",
             _ => "a number that the rules do not have",
         }
     }

@@ -11,6 +11,8 @@ use Rattle.wing_wire.specs.Meter.{RequestEffect, requestEffect, PacketEffect, p
 use Rattle.wing_wire.specs.declared.write.Written.{Written}
 use Rattle.wing_wire.specs.declared.meter.Requested.{Requested}
 use Rattle.wing_wire.specs.declared.meter.MetersRead.{MetersRead}
+use Rattle.wing_meters.specs.Calls.{RowsEffect, rowsEffect}
+use Rattle.wing_meters.specs.declared.reading.Followed.{Followed}
 use Rattle.wing_mirror.specs.Mirror.{SetEffect, setEffect, FeedEffect, lentEffect}
 use Rattle.wing_mirror.specs.declared.answer.SetReply.{SetReply}
 use Rattle.wing_mirror.specs.declared.answer.LentFeedReply.{LentFeedReply}
@@ -18,6 +20,7 @@ use Rattle.wing_listing.specs.Calls.{LoadEffect, loadEffect}
 use Rattle.wing_listing.specs.declared.answer.LoadReply.{LoadReply}
 use Rattle.wing_c.specs.Numbers.{writtenNumbers, bodyNumbers, setNumbers, requestedNumbers, metersNumbers, loadedNumbers, feedStatus, fedNumbers}
 use Rattle.wing_c.specs.Written.{command, commandOf, bodyFrom, mirrorCommand, mirrorCommandOf, request, requestOf, packet, packetFrom, tableLoad, tableLoadOf}
+use Rattle.wing_c.specs.Windows.{followedNumbers, rowsLeft, rowsFrom}
 use Rattle.wing_c.specs.Kept.{keptFeed, stateAfter, feedFrom}
 use Rattle.wing_c.specs.declared.answers.WingWritten.{WingWritten}
 use Rattle.wing_c.specs.declared.answers.WingSet.{WingSet}
@@ -25,6 +28,7 @@ use Rattle.wing_c.specs.declared.answers.WingFed.{WingFed}
 use Rattle.wing_c.specs.declared.answers.WingRequested.{WingRequested}
 use Rattle.wing_c.specs.declared.answers.WingMeters.{WingMeters}
 use Rattle.wing_c.specs.declared.answers.WingLoaded.{WingLoaded}
+use Rattle.wing_c.specs.declared.windows.WingFollowed.{WingFollowed}
 
 -- a command
 pub command-as : {r : WingWritten} (w : Written) {out : List ℕ} {e : WriteEffect} → r ≡ writtenNumbers w → writeEffect w out ≡ e → command r out ≡ commandOf e
@@ -47,6 +51,11 @@ request-as w {out} p q = ap (λ (x : WingRequested). request x out) p ∙ ap req
 -- a meter packet
 pub packet-as : {r : WingMeters} (w : MetersRead) {out : List ℤ} {e : PacketEffect} → r ≡ metersNumbers w → packetEffect w out ≡ e → packet r out ≡ packetFrom e
 packet-as w {out} p q = ap (λ (x : WingMeters). packet x out) p ∙ ap packetFrom q
+
+-- a window's readings
+pub rows-as : {r : WingFollowed} (f : Followed) {out : List ℤ} {e : RowsEffect} → r ≡ followedNumbers f → rowsEffect f out ≡ e →
+    rowsLeft r out ≡ rowsFrom e
+rows-as f {out} p q = ap (λ (x : WingFollowed). rowsLeft x out) p ∙ ap rowsFrom q
 
 -- a load
 pub load-as : {r : WingLoaded} (a : LoadReply) {buffer : List ℕ} {e : LoadEffect} → r ≡ loadedNumbers (a .answer) → loadEffect a buffer ≡ e →

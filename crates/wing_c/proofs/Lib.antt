@@ -7,3 +7,4 @@ mod Listed
 pub mod Said
 mod Answered
 pub mod SaidDefinitions
+pub mod SaidWindows

@@ -3,5 +3,7 @@ pub mod Written
 pub mod Kept
 pub mod Meters
 pub mod Definitions
+pub mod Windows
 pub mod Meanings
 pub mod DefinitionMeanings
+pub mod WindowMeanings

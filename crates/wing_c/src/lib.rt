@@ -9,4 +9,5 @@ pub mod laws;
 pub mod listing;
 pub mod mirror;
 pub mod state;
+pub mod windows;
 pub mod writer;

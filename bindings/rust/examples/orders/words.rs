@@ -17,6 +17,10 @@ pub fn int32(word: &str) -> Option<i32> {
     i32::try_from(number).ok()
 }
 
+pub fn int16(word: &str) -> Option<i16> {
+    i16::try_from(int32(word)?).ok()
+}
+
 fn digit(b: u8) -> Option<u8> {
     match b {
         b'0'..=b'9' => Some(b - b'0'),

@@ -1,5 +1,5 @@
 //! The crate against the rules of 01 and 02's requests: byte examples, every refusal, streams cut anywhere, definitions of all types, read and
-//! written, listings printed and loaded, how much of a broken string is good.
+//! written, listings printed and loaded, how much of a broken string is good, windows over readings.
 mod commands;
 mod decoder;
 mod definition;
@@ -7,6 +7,7 @@ mod good;
 mod listing;
 mod mirror;
 mod refused;
+mod window;
 mod written;
 
 use std::path::Path;
@@ -77,6 +78,8 @@ fn constants_are_those_of_the_header() {
         ("PACKET_MIN", whistleloam::PACKET_MIN),
         ("PACKET_MAX", whistleloam::PACKET_MAX),
         ("READINGS_MAX", whistleloam::READINGS_MAX),
+        ("WINDOW_MAX", whistleloam::WINDOW_MAX),
+        ("ROW_FIGURES", whistleloam::ROW_FIGURES),
         ("KIND_INTEGER", event_kind("05")),
         ("KIND_FLOAT", event_kind("d5 00 00 00 00")),
         ("KIND_STRING", event_kind("d0")),
@@ -134,6 +137,7 @@ fn constants_are_those_of_the_header() {
         refused("REFUSED_FIELDS", Refusal::FIELDS),
         refused("REFUSED_LINE", Refusal::LINE),
         refused("REFUSED_ID_ORDER", Refusal::ID_ORDER),
+        refused("REFUSED_WIDTH", Refusal::WIDTH),
     ];
     let number = |word: &str| match word.strip_prefix("0x") {
         Some(digits) => usize::from_str_radix(digits, 16).ok(),

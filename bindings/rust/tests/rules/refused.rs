@@ -3,7 +3,7 @@ use crate::hex;
 use whistleloam::raw;
 use whistleloam::{
     keep_alive_meters, read_meters, request_meter, Decoder, Definition, Details, Fields, Meter, Mirror, Refusal,
-    PLACE_WIDTH, STATE_SIZE,
+    Window, PLACE_WIDTH, STATE_SIZE,
 };
 
 fn first(bytes: &str) -> Result<(), Refusal> {
@@ -18,7 +18,7 @@ fn each_number_has_its_cause() {
     let node = Definition::from_bytes(&hex("00 00 00 00 00 00 00 02 00 00 01 61 00 00 00")).unwrap().fields();
     let listed = Fields { details: Details::Items(1), ..node };
     let load = |text: &str| Mirror::new(2).unwrap().load(text).map(|_| ()).map_err(Refusal::from);
-    let causes: [Result<(), Refusal>; 18] = [
+    let causes: [Result<(), Refusal>; 19] = [
         first("80 80"),
         first(&("df de 10 01 ".to_string() + &"00 ".repeat(4097))),
         first("df de 00 00 00 00 00 00"),
@@ -37,6 +37,7 @@ fn each_number_has_its_cause() {
         listed.to_bytes("x", "", &[]).map(|_| ()),
         load("id,kind,value\n1,i,05\n"),
         load("id,kind,value\n1,i,5\n1,i,5\n"),
+        Window::new(257).map(|_| ()),
     ];
     for (number, cause) in (1..).zip(causes) {
         let why = cause.expect_err("taken");
