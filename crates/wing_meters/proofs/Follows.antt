@@ -23,7 +23,7 @@ use Rattle.wing_meters.specs.declared.figures.Told.the-variants.{None, F
 use Rattle.wing_meters.specs.declared.window.Window.{Window}
 use Rattle.wing_meters.specs.declared.reading.RowsAnswer.the-variants.{Rows, Refused as NotFollowed}
 use Rattle.wing_meters.proofs.Rings.{grown-below, grown-full}
-use Rattle.wing_meters.proofs.Sound.{Sound, sound, is-sound}
+use Rattle.wing_meters.proofs.Soundness.{Sound, sound, is-sound}
 use Rattle.wing_meters.proofs.Windows.{kept-told, sound-taking}
 
 pub size-taking : (w : Window) (x : ℤ) → length (w .levels) ≡ 256 → length (taking w x .levels) ≡ 256

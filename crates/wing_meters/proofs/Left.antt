@@ -26,7 +26,7 @@ use Rattle.wing_meters.specs.declared.window.Control.{Control}
 use Rattle.wing_meters.specs.declared.window.Window.{Window}
 use Rattle.wing_meters.proofs.Levels.{level-reading, reading-in}
 use Rattle.wing_meters.proofs.Rings.{last-all}
-use Rattle.wing_meters.proofs.Sound.{Placed, Sound, sound, is-sound, held-le, next-le, next-below}
+use Rattle.wing_meters.proofs.Soundness.{Placed, Sound, sound, is-sound, held-le, next-le, next-below}
 use Rattle.wing_meters.proofs.Windows.{levelsIn, kept-levels, kept-taking, sound-taking, length-levels, length-kept, length-map}
 use Rattle.wing_meters.proofs.Follows.{size-taking, reading-sound, still-sound, after-on}
 

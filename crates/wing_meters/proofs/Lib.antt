@@ -1,6 +1,6 @@
 pub mod Levels
 pub mod Sums
-pub mod Sound
+pub mod Soundness
 pub mod Rings
 pub mod Windows
 pub mod Follows

@@ -14,7 +14,7 @@ use Rattle.wing_meters.specs.Calls.{figuresAnswer, taken, readingOf, aft
 use Rattle.wing_meters.specs.Moving.{Readings, noReadings, readingThen, Width, Leaves, Left, Typed, afreshRows, Along, Moving}
 use Rattle.wing_meters.specs.declared.figures.Told.the-variants.{None}
 use Rattle.wing_meters.specs.declared.window.Window.{Window}
-use Rattle.wing_meters.proofs.Sound.{is-sound}
+use Rattle.wing_meters.proofs.Soundness.{is-sound}
 use Rattle.wing_meters.proofs.Follows.{reading-sound}
 use Rattle.wing_meters.proofs.Divided.{figures-say, figures-none}
 use Rattle.wing_meters.proofs.Left.{fresh-sound, fresh-size, fresh-kept, Ran, ran, after-ran, answered, answers-count}

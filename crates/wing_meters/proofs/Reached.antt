@@ -18,7 +18,7 @@ use Rattle.wing_meters.specs.declared.window.Control.{Control}
 use Rattle.wing_meters.specs.declared.window.Window.{Window}
 use Rattle.wing_meters.proofs.Levels.{level-reading, reading-in}
 use Rattle.wing_meters.proofs.Rings.{last-all, length-turned}
-use Rattle.wing_meters.proofs.Sound.{Sound, sound, is-sound, held-le, next-le}
+use Rattle.wing_meters.proofs.Soundness.{Sound, sound, is-sound, held-le, next-le}
 use Rattle.wing_meters.proofs.Windows.{levelsIn, kept-levels, length-levels, length-kept}
 use Rattle.wing_meters.proofs.Left.{fresh-sound, fresh-size, fresh-kept, Ran, ran, ran-next}
 

@@ -25,7 +25,7 @@ use Rattle.wing_meters.specs.declared.window.Window.{Window}
 use Rattle.wing_meters.proofs.Levels.{reading-level, total-lowered, quotient-lowered, largest-lowered}
 use Rattle.wing_meters.proofs.Sums.{kept-up, leaving-in, top-before, added-le, greatest-from, added-turned, greatest-turned, added-used, greatest-used}
 use Rattle.wing_meters.proofs.Rings.{length-turned, last-all, last-but, unfilled, full, Place, grown-below, grown-full, place-on}
-use Rattle.wing_meters.proofs.Sound.{Placed, Sound, held-le, next-le, next-below}
+use Rattle.wing_meters.proofs.Soundness.{Placed, Sound, held-le, next-le, next-below}
 
 -- ---- lists mapped
 

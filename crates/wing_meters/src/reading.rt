@@ -9,14 +9,14 @@ ghost use Rattle.wing_meters.specs.Level.{greatest as greatestOf};
 ghost use Rattle.wing_meters.specs.Window.{window as windowOf, taking, grown as grownOf, onward as onwardOf, soundWindow};
 ghost use Rattle.wing_meters.specs.Calls.{readingOf, afterAll, answers, rows, followed as followedBy, rowsEffect, readingsOf};
 use crate::figures::Told;
-use crate::figures::figures_in;
-use crate::figures::lay_row;
-use crate::figures::tell;
+use crate::kept::figures_in;
+use crate::kept::lay_row;
+use crate::kept::tell;
 use crate::level::level_of;
+use crate::sound::greatest;
+use crate::sound::is_sound_lent;
 use crate::window::Control;
 use crate::window::Window;
-use crate::window::greatest;
-use crate::window::is_sound_lent;
 
 // The answer, and the window with the reading in it; after a refusal the window as it was.
 pub struct Taken {

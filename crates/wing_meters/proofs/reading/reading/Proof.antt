@@ -10,7 +10,7 @@ use Rattle.wing_meters.specs.Kept.{toldIn}
 use Rattle.wing_meters.specs.Calls.{taken}
 use Rattle.wing_meters.specs.declared.figures.Told.{Told}
 use Rattle.wing_meters.specs.declared.window.Window.{Window}
-use Rattle.wing_meters.proofs.Sound.{sound}
+use Rattle.wing_meters.proofs.Soundness.{sound}
 use Rattle.wing_meters.proofs.Windows.{kept-told, sound-taking}
 use Rattle.wing_meters.proofs.Follows.{size-taking, reading-sound, reading-unsound}
 use borrow.Author.Needs.{needs}

@@ -7,7 +7,7 @@ use mir.Syntax.{w16}
 use mir.Val.{toZ, ofZ}
 use Rattle.wing_meters.specs.Level.{levelOf, greatest}
 use Rattle.wing_meters.specs.Window.{window, control, grown, onward, taking}
-use Rattle.wing_meters.proofs.Sound.{sound, next-below}
+use Rattle.wing_meters.proofs.Soundness.{sound, next-below}
 use Rattle.wing_meters.proofs.Windows.{next-in, sum-taking, leaving-le, top-taking, in-range, sound-taking}
 use Rattle.wing_meters.proofs.Sums.{set-le}
 use borrow.Author.Needs.{needs}

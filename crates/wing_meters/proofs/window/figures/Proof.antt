@@ -4,7 +4,7 @@ use mathlib.Core.Path.{_≡_, sym, _∙_}
 use lib.ListN.{length}
 use Rattle.wing_meters.specs.Window.{soundWindow}
 use Rattle.wing_meters.specs.Calls.{figuresAnswer}
-use Rattle.wing_meters.proofs.Sound.{sound}
+use Rattle.wing_meters.proofs.Soundness.{sound}
 use Rattle.wing_meters.proofs.Windows.{kept-told}
 use borrow.Author.Needs.{needs}
 use Rattle.wing_meters.proofs.window.figures.Statement.{statement}

@@ -7,11 +7,11 @@ use lib.ListN.{length, take, drop, length-drop}
 use lib.Seq.{take-all}
 use Rattle.wing_meters.specs.Level.{greatest}
 use Rattle.wing_meters.specs.Window.{window}
-use Rattle.wing_meters.proofs.Sound.{never, sound, placed, held-le, unused-tested, topped-wrong, summed-wrong, control-wrong}
+use Rattle.wing_meters.proofs.Soundness.{never, sound, placed, held-le, unused-tested, topped-wrong, summed-wrong, control-wrong}
 use borrow.Author.Needs.{needs}
 use Rattle.wing_meters.proofs.Windows.{in-range}
-use Rattle.wing_meters.proofs.window.is_sound_lent.Statement.{statement}
-use Rattle.wing_meters.proofs.window.is_sound_lent.Tie as tie
+use Rattle.wing_meters.proofs.sound.is_sound_lent.Statement.{statement}
+use Rattle.wing_meters.proofs.sound.is_sound_lent.Tie as tie
 
 sound-control-requires : tie.Need-sound-control-requires
 sound-control-requires c κs = search needs

@@ -10,8 +10,8 @@ use lib.ListN.{length-set}
 use mir.Syntax.{w16, w32}
 use mir.Val.{toZ, ofZ, SFits}
 use borrow.Author.Needs.{needs}
-use Rattle.wing_meters.proofs.figures.lay_row.Statement.{statement}
-use Rattle.wing_meters.proofs.figures.lay_row.Tie as tie
+use Rattle.wing_meters.proofs.kept.lay_row.Statement.{statement}
+use Rattle.wing_meters.proofs.kept.lay_row.Tie as tie
 
 cast-held : tie.Need-cast-held
 cast-held c = search needs

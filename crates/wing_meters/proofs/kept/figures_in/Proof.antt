@@ -7,8 +7,8 @@ use mir.Syntax.{w16, w32}
 use mir.Val.{toZ, ofZ}
 use Rattle.wing_meters.specs.Kept.{figuresIn}
 use borrow.Author.Needs.{needs}
-use Rattle.wing_meters.proofs.figures.figures_in.Statement.{statement}
-use Rattle.wing_meters.proofs.figures.figures_in.Tie as tie
+use Rattle.wing_meters.proofs.kept.figures_in.Statement.{statement}
+use Rattle.wing_meters.proofs.kept.figures_in.Tie as tie
 
 cast-n : tie.Need-cast-n
 cast-n c = search needs

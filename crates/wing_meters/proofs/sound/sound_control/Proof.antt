@@ -1,9 +1,9 @@
 use borrow.Author.Tests.{lt-ltb, le-ltb, ne-eqb}
 use mathlib.Core.Path.{sym}
-use Rattle.wing_meters.proofs.Sound.{place-unfilled, place-full}
+use Rattle.wing_meters.proofs.Soundness.{place-unfilled, place-full}
 use Rattle.wing_meters.specs.Window.{soundControl}
-use Rattle.wing_meters.proofs.window.sound_control.Statement.{statement}
-use Rattle.wing_meters.proofs.window.sound_control.Tie as tie
+use Rattle.wing_meters.proofs.sound.sound_control.Statement.{statement}
+use Rattle.wing_meters.proofs.sound.sound_control.Tie as tie
 
 returns : tie.Need-returns
 unfolding soundControl

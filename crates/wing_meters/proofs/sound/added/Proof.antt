@@ -6,8 +6,8 @@ use lib.ListN.{length, drop}
 use borrow.Author.Needs.{needs}
 use Rattle.wing_meters.specs.Level.{added}
 use Rattle.wing_meters.proofs.Sums.{added-from, added-end, added-le}
-use Rattle.wing_meters.proofs.window.added.Statement.{statement}
-use Rattle.wing_meters.proofs.window.added.Tie as tie
+use Rattle.wing_meters.proofs.sound.added.Statement.{statement}
+use Rattle.wing_meters.proofs.sound.added.Tie as tie
 
 abbrev Inv-loop : tie.InvT-loop
 Inv-loop levels sum₀ i₀ sum i = (i ≤ length levels) × (sum + added (drop i levels) ≡ added levels)

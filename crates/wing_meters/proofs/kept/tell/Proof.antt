@@ -1,8 +1,8 @@
 use borrow.Author.Needs.{needs}
 use borrow.Author.Tests.{eq-eqb, ne-eqb}
 use Rattle.wing_meters.specs.Kept.{toldIn}
-use Rattle.wing_meters.proofs.figures.tell.Statement.{statement}
-use Rattle.wing_meters.proofs.figures.tell.Tie as tie
+use Rattle.wing_meters.proofs.kept.tell.Statement.{statement}
+use Rattle.wing_meters.proofs.kept.tell.Tie as tie
 
 returns : tie.Need-returns
 unfolding toldIn

@@ -6,8 +6,8 @@ use lib.ListN.{length, drop}
 use borrow.Author.Needs.{needs}
 use Rattle.wing_meters.specs.Level.{greatest}
 use Rattle.wing_meters.proofs.Sums.{greatest-from, greatest-end}
-use Rattle.wing_meters.proofs.window.greatest.Statement.{statement}
-use Rattle.wing_meters.proofs.window.greatest.Tie as tie
+use Rattle.wing_meters.proofs.sound.greatest.Statement.{statement}
+use Rattle.wing_meters.proofs.sound.greatest.Tie as tie
 
 abbrev Inv-loop : tie.InvT-loop
 Inv-loop levels top₀ i₀ top i = (i ≤ length levels) × (max top (greatest (drop i levels)) ≡ greatest levels)
