@@ -51,7 +51,7 @@ int main(void)
     WingFigures told = wing_window_figures(window);
     check(told.status == 1 && is_row(told, rows + (READINGS - 1) * WING_ROW_FIGURES), "wing_window_figures");
 
-    /* A width that is none, an output that is one too short, and a window that no readings leave. */
+    /* A width that is none, an output that is one too short, and a window that no list of readings leaves. */
     check(wing_window_make(WING_WINDOW_MAX + 1).status == -WING_REFUSED_WIDTH, "a width of 257");
     memcpy(before, rows, sizeof rows);
     all = wing_window_readings(window, readings, READINGS, rows, READINGS * WING_ROW_FIGURES - 1);

@@ -127,7 +127,7 @@ extern "C" {
 #define WING_REFUSED_DEFINITION_STRING 5   /* a definition's string that is not UTF-8; its good stands beside it */
 #define WING_REFUSED_NO_PLACE 6            /* a new node, and no place left; a listing of more records than places */
 #define WING_REFUSED_TABLE 7               /* the table is not sound, or its places are not 1 to 1,024 */
-#define WING_REFUSED_STATE 8               /* no sound state, or an old one that cannot be carried over; a window that no readings leave */
+#define WING_REFUSED_STATE 8               /* no sound state, or an old one that cannot be carried over; a window that no list of readings leaves */
 #define WING_REFUSED_OUTPUT_SHORT 9        /* the output is too short for the whole */
 #define WING_REFUSED_STRING_LONG 10        /* a string over 256 bytes */
 #define WING_REFUSED_METERS 11             /* more than 64 meters */
@@ -268,7 +268,7 @@ typedef struct WingStep {
 } WingStep;
 
 /* A window over readings: the caller keeps it, and it crosses by value. A window that no list of readings leaves is refused with 8. Inside
- * it a reading is a level: the reading raised by 32,768. */
+ * it a reading is a level: the reading raised by 32,768. Its numbers are not the figures: wing_window_figures tells these. */
 typedef struct WingWindow {
     uint16_t width;       /* the most readings that it holds, 1 to WING_WINDOW_MAX */
     uint16_t held;        /* how many it holds */
@@ -284,14 +284,14 @@ typedef struct WingFigures {
     uint16_t held;  /* how many readings, 1 to the width */
     int32_t sum;    /* their sum */
     int16_t mean;   /* the sum divided by their number, rounded down */
-    uint16_t rest;  /* what that leaves of the sum, 0 to held - 1 */
+    uint16_t rest;  /* the remainder, sum - mean * held: 0 to held - 1 */
     int16_t top;    /* the largest */
 } WingFigures;
 
 /* A window made. */
 typedef struct WingMade {
     int32_t status;    /* 0, or a refusal */
-    WingWindow window; /* it holds none; refused: all 0, which every call refuses */
+    WingWindow window; /* it holds none; refused: of width 0, which every call refuses */
 } WingMade;
 
 /* A reading taken. */
@@ -493,7 +493,7 @@ WingFigures wing_window_figures(WingWindow w);
  * Refused (the figures' status): 8. */
 WingTaken wing_window_reading(WingWindow w, int16_t x);
 
-/* Readings one after the other, and what the window tells after each: a row of WING_ROW_FIGURES numbers, held, sum, mean, rest and top. The
+/* Readings one after the other (status 0), and what the window tells after each: a row of WING_ROW_FIGURES numbers, held, sum, mean, rest and top. The
  * window is tested once for all of them. Lent to be read: xs; to be written: out, with room for a row for each reading; what stands after
  * the rows is as it was.
  * Refused: 8, 9. */

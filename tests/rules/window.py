@@ -69,7 +69,8 @@ def is_left_by_some(s):
     """02: whether some list of readings leaves the state. Until the window is full the next place is after the last one used."""
     if not 1 <= s.width <= WIDEST or s.held > s.width:
         return False
-    if s.next != s.held if s.held < s.width else s.next >= s.width:
+    in_place = s.next == s.held if s.held < s.width else s.next < s.width
+    if not in_place:
         return False
     kept, unused = s.levels[:s.held], s.levels[s.held:]
     return not any(unused) and s.sum == sum(kept) and s.top == max(kept, default=0)

@@ -42,7 +42,7 @@ impl Refusal {
     pub const NO_PLACE: Refusal = Refusal::Other(6);
     /// 7: a table that is not sound, or whose places are not 1 to 1,024.
     pub const TABLE: Refusal = Refusal::Other(7);
-    /// 8: bytes that are no sound decoder state's, an old state that cannot be carried over, or a window that no readings leave.
+    /// 8: bytes that are no sound decoder state's, an old state that cannot be carried over, or a window that no list of readings leaves.
     pub const STATE: Refusal = Refusal::Other(8);
     /// 9: an output too short for the whole.
     pub const OUTPUT_SHORT: Refusal = Refusal::Other(9);

@@ -11,7 +11,7 @@ pub struct Figures {
     pub sum: i32,
     /// The sum divided by their number, rounded down.
     pub mean: i16,
-    /// What that leaves of the sum, 0 to `held - 1`.
+    /// The remainder, `sum - mean * held`: 0 to `held - 1`.
     pub rest: u16,
     /// The largest.
     pub top: i16,
@@ -35,10 +35,10 @@ pub struct Window {
     state: raw::WingWindow,
 }
 
-/// Of a call that is refused only for a window that no readings leave (8). The library made this one, so that it cannot be
-/// refused. An archive that does refuse is another library.
+/// Of a call that is refused only for a window that no list of readings leaves (8). The library made or tested this one, so that it
+/// cannot be refused. An archive that does refuse is another library.
 fn own<T>(answer: Result<T, Refusal>) -> T {
-    answer.unwrap_or_else(|why| panic!("libwing_c.a refuses a window that it made: {why}"))
+    answer.unwrap_or_else(|why| panic!("libwing_c.a refuses a window that it made or tested: {why}"))
 }
 
 fn told(told: raw::WingFigures) -> Result<Option<Figures>, Refusal> {
@@ -107,7 +107,7 @@ impl Window {
         &self.state
     }
 
-    /// The window of numbers that were kept. Refused: 8, for a window that no readings leave.
+    /// The window of numbers that were kept. Refused: 8, for a window that no list of readings leaves.
     pub fn from_state(state: &raw::WingWindow) -> Result<Window, Refusal> {
         Refusal::check(raw::window_figures(*state).status)?;
         Ok(Window { state: *state })
@@ -116,7 +116,7 @@ impl Window {
 
 impl fmt::Debug for Window {
     fn fmt(&self, f: &mut fmt::Formatter) -> fmt::Result {
-        write!(f, "Window of {} readings ", self.width())?;
+        write!(f, "Window of width {}, ", self.width())?;
         self.figures().fmt(f)
     }
 }

@@ -1,6 +1,7 @@
 // Columns of numbers, one for each packet or id. They have room for all that an input can hold: nothing past a column's end
 // is ever asked or put, and no number is over 32 bits.
 
+// By itself, so that it asks for the place alone where it is widened.
 fn wide(n: u32) -> usize {
     n as usize
 }

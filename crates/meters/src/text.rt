@@ -61,6 +61,7 @@ fn put_number(bytes: &mut Bytes, at: usize, x: i32, after: u8) -> usize {
     onward(to, 1, PAGE)
 }
 
+// By itself, so that the field's range is known where it is widened.
 fn wide(x: i16) -> i32 {
     x as i32
 }

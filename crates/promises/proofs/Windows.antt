@@ -27,7 +27,7 @@ use Rattle.wing_meters.specs.declared.window.MadeAnswer.the-variants.{Good, Ref
 use Rattle.wing_meters.specs.declared.reading.Taken.{Taken}
 use Rattle.wing_meters.specs.declared.reading.Followed.{Followed}
 use Rattle.wing_meters.specs.declared.reading.RowsAnswer.the-variants.{Rows, Refused as NotFollowed}
-use Rattle.wing_meters.proofs.Follows.{reading-sound, reading-unsound, length-rows, readings-unsound, readings-sound}
+use Rattle.wing_meters.proofs.Follows.{reading-sound, reading-unsound, length-rows, readings-unsound, readings-short, readings-sound}
 use Rattle.wing_meters.proofs.Moves.{left-sound, reading-left, figures-left, rows-left, after-left, never-left, unleft}
 use Rattle.promises.specs.Refusals.{stateUnsound, outputShort, widthWrong}
 use Rattle.promises.specs.Lines.{Answers}
@@ -142,6 +142,20 @@ module _ (w : Window) (xs out : List ℤ) where
             (branch Laid (ltb (length out) (5 * length xs)) _ _ (λ _. nothing-laid 9 w out) (λ _. all-laid s))
         go false s = subst Laid (sym (readings-unsound w xs out s)) (nothing-laid 8 w out)
 
+    -- sent back, all is as it was
+    Refused-kept : RowsEffect → Type 0
+    Refused-kept x = (why : Refusal) → came x ≡ refused why → Kept w out x
+
+    kept-refused : Refused-kept (readingsOf w xs out)
+    unfolding Refused-kept short whole
+    kept-refused = go (soundWindow w) refl
+      where
+        go : (s : Bool) → soundWindow w ≡ s → Refused-kept (readingsOf w xs out)
+        go true s =
+            subst Refused-kept (sym (readings-sound w xs out s))
+            (branch Refused-kept (ltb (length out) (5 * length xs)) _ _ (λ _ why e. (refl, refl)) (λ _ why e. absurd (given _ why e)))
+        go false s = subst Refused-kept (sym (readings-unsound w xs out s)) (λ why e. (refl, refl))
+
     given-rows : (width : ℕ) (before : List ℤ) → Leaves width before w → Readings xs → came whole ≡ ok (afreshRows width before xs)
     unfolding whole
     given-rows width before l r =
@@ -159,14 +173,13 @@ module _ (w : Window) (xs out : List ℤ) where
         (none-applies came (Kept w out) (afreshRows width before xs) whole (given-rows width before l r)))
 
     pub readings-call : ReadingsCall w xs out (readingsOf w xs out .reply .answer) (readingsOf w xs out .reply .window) (readingsOf w xs out .out)
-    unfolding Laid
+    unfolding Laid Refused-kept
     readings-call =
         record {
           answered = λ r width before l. lines-apply width before l r;
           taken = λ r width before l n e. let a = rows-laid n e in (a .0, a .1 ∙ after-left width before w xs l r);
-          rest = λ n e. rows-laid n e .2;
-          refusal =
-              λ never.
-              let e = readings-unsound w xs out (unleft w t never) in
-              (ap came e, ap (λ (x : RowsEffect). x .out) e, ap (λ (x : RowsEffect). x .reply .window) e);
+          short = λ l h. ap came (readings-short w xs out (left-sound w l) h);
+          past = λ n e. rows-laid n e .2;
+          refusal = λ never. ap came (readings-unsound w xs out (unleft w t never));
+          as-it-was = kept-refused;
         }

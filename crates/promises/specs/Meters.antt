@@ -1,12 +1,12 @@
 -- What is promised of a window over a strip's last readings (02, Job 6), by each call's arguments, its answer, and the window and the lent buffer after it.
-use Prim.Native.Nat.{ℕ, _*_}
+use Prim.Native.Nat.{ℕ, _*_, _<_}
 use mathlib.Core.Path.{_≡_}
 use mathlib.Core.List.{List, [], _∷_, _++_}
 use lib.Dec.{ltb}
 use lib.IntN.{ℤ}
 use lib.ListN.{length, drop}
 use Rattle.wing_node.specs.declared.refusal.Refusal.{Refusal}
-use Rattle.wing_node.specs.Result.{ok, refused}
+use Rattle.wing_node.specs.Result.{refused}
 use Rattle.wing_meters.specs.Afresh.{lastOf, figuresOf}
 use Rattle.wing_meters.specs.Window.{leaves}
 use Rattle.wing_meters.specs.Moving.{Readings, Leaves, Left, afreshRows}
@@ -27,7 +27,7 @@ widthLines width = (ltb width 1 gives widthWrong) ∷ (ltb 256 width gives width
 abbrev pub rowsLines : List ℤ → List ℤ → List Line
 rowsLines xs out = (ltb (length out) (5 * length xs) gives outputShort) ∷ []
 
--- a window made: 19; else the window that no readings leave. Beside 19 stands a window that every call refuses: no list of readings leaves it
+-- a window made: 19; else the window that the empty list leaves. Beside 19 stands a window that every call refuses: no list of readings leaves it
 pub record MakeCall (width : ℕ) (answer : MadeAnswer) (w : Window) : Type 0 where
   pub answered : Answers (widthLines width) (leaves width []) (madeResult answer w) (Left w → ⊥)
 
@@ -58,7 +58,11 @@ pub record ReadingsCall (w : Window) (xs out : List ℤ) (answer : RowsAnswer) (
   -- a row for each reading, and the window that all of them leave
   pub taken : Readings xs → (width : ℕ) (before : List ℤ) → Leaves width before w → (n : ℕ) → answer ≡ Rows n →
       (n ≡ length xs) × (after ≡ leaves width (before ++ xs))
+  -- 9 whatever the readings are
+  pub short : Left w → length out < 5 * length xs → rowsResult answer laid ≡ refused outputShort
   -- the output past the rows as it was
-  pub rest : (n : ℕ) → answer ≡ Rows n → drop (5 * n) laid ≡ drop (5 * n) out
-  -- 8 if no list of readings leaves it; as it was
-  pub refusal : (Left w → ⊥) → (rowsResult answer laid ≡ refused stateUnsound) × (laid ≡ out) × (after ≡ w)
+  pub past : (n : ℕ) → answer ≡ Rows n → drop (5 * n) laid ≡ drop (5 * n) out
+  -- 8 if no list of readings leaves it
+  pub refusal : (Left w → ⊥) → rowsResult answer laid ≡ refused stateUnsound
+  -- sent back, it leaves the output and the window as they were
+  pub as-it-was : (why : Refusal) → rowsResult answer laid ≡ refused why → (laid ≡ out) × (after ≡ w)

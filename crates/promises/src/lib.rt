@@ -15,6 +15,7 @@ ghost use Rattle.wing_saved.specs.Earlier.{EarlierLaws};
 ghost use Rattle.wing_listing.specs.BothWays.{BothWays as ListedBothWays};
 ghost use Rattle.wing_listing.specs.Cases.{Case as ListedCase, cases as listedCases};
 ghost use Rattle.wing_meters.specs.Moving.{Moving};
+ghost use Rattle.wing_meters.specs.Cases.{Case as WindowCase, cases as windowCases};
 ghost use Rattle.wing_mirror.specs.Record.{full};
 ghost use Rattle.wing_mirror.specs.HighEnd.{SearchReads};
 ghost use Rattle.wing_mirror.specs.History.{Agreement, Equality, Rebuilding, Histories};
@@ -143,7 +144,7 @@ pub fn listing_both_ways()
 {}
 
 // A window over a strip's last readings (02): for every width from 1 to 256 and every list of readings, each reading call is answered with the figures worked out afresh
-// from the last readings of the list so far, and so are the figures asked for after them, none of no readings; the sum is the quotient times the number plus the
+// from the last readings of the list so far (its end, as many as the width or all where it has fewer), and so are the figures asked for after them, none of no readings; the sum is the quotient times the number plus the
 // remainder, which is from 0 to number − 1, the largest is one of these readings and none of them is above it; and a state is taken exactly when some list of readings leaves it.
 pub fn moving_average()
     ensures { λ _. ⌜ Moving ⌝ }
@@ -163,4 +164,9 @@ pub fn marked_cases()
 // 01's example of a listing, and the boundary lines that 02 names: what the definitions give in each is what is wanted.
 pub fn listing_cases()
     ensures { λ _. ⌜ (map (λ (c : ListedCase). c .got) listedCases ≡ map (λ (c : ListedCase). c .wanted) listedCases) ⌝ }
+{}
+
+// Figures of some readings, written out: what the definitions give in each case is what is wanted.
+pub fn window_cases()
+    ensures { λ _. ⌜ (map (λ (c : WindowCase). c .got) windowCases ≡ map (λ (c : WindowCase). c .wanted) windowCases) ⌝ }
 {}

@@ -124,7 +124,7 @@ fn is_marked(out: &[i32], mut at: usize) -> bool {
     true
 }
 
-// A row has five values.
+// A row has five values. No line spells as many as 65,536 readings: the remainder keeps the product in range.
 fn followed(a: RowsAnswer) -> Said {
     match a {
         RowsAnswer::Rows(n) => show::three(b'Z', n, n % 0x1_0000 * 5, 0),

@@ -68,7 +68,7 @@ OfRows (NotFollowed n) = 1 ≤ n
 
 -- ---- what holds of them
 
--- where a window tells none, or the status is a refusal, the figures are 0, and so are the rows
+-- the numbers of this answer have five zeros for the figures
 pub record NoFiguresZero (a : Told) : Type 0 where
   pub held : toldNumbers a .held ≡ 0
   pub sum : toldNumbers a .sum ≡ pos 0
@@ -90,6 +90,7 @@ pub record WindowsSay : Type 0 where
   pub figures-call : (w : Window) → toldIn (toldNumbers (figuresAnswer w)) ≡ figuresAnswer w
   pub reading-call : (w : Window) (x : ℤ) → readingIn (readingNumbers (readingOf w x)) ≡ readingOf w x
   pub readings-call : (w : Window) (xs out : List ℤ) → let f = readingsOf w xs out .reply in followedIn (followedNumbers f) ≡ f
+  -- where a window tells none, or the status is a refusal, the figures are 0, and so are the rows
   pub none-zero : NoFiguresZero None
   pub refused-zero : (n : ℕ) → NoFiguresZero (Refused n)
   pub no-rows : (n : ℕ) (w : Window) → followedBy (NotFollowed n) w .rows ≡ 0

@@ -15,7 +15,7 @@ use borrow.Author.Tests.{lt-ltb, le-ltb, ne-eqb}
 use Rattle.wing_node.specs.Bool.{if}
 use Rattle.wing_meters.specs.Afresh.{figuresOf}
 use Rattle.wing_meters.specs.Window.{window, taking, grown, keptIn, soundWindow}
-use Rattle.wing_meters.specs.Kept.{figuresIn, toldIn}
+use Rattle.wing_meters.specs.Kept.{figuresKept, toldKept}
 use Rattle.wing_meters.specs.Calls.{taken, readingOf, afterAll, answers, rowOf, rowTold, rows, rowsEffect, followed, readingsOf}
 use Rattle.wing_meters.specs.declared.figures.Figures.{Figures}
 use Rattle.wing_meters.specs.declared.figures.Told.{Told}
@@ -53,8 +53,8 @@ module _ (w : Window) (x : ℤ) (e : soundWindow w ≡ true) (size : length (w .
       (s .placed .place)
 
   -- what is told of it is what is kept up
-  pub told-taking : figuresOf (keptIn (taking w x)) ≡ Told·Figures (figuresIn (taking w x .control))
-  unfolding toldIn
+  pub told-taking : figuresOf (keptIn (taking w x)) ≡ Told·Figures (figuresKept (taking w x .control))
+  unfolding toldKept
   told-taking =
       kept-told (taking w x) (sound-taking w (sound w e) size x) (size-taking w x size) ∙ simp (ne-eqb (taking w x .control .held) 0 (λ z. omega (arith, holds-one)))
 
@@ -62,7 +62,7 @@ module _ (w : Window) (x : ℤ) (e : soundWindow w ≡ true) (size : length (w .
   unfolding afterAll
   after-on xs = rw (reading-sound w x e)
 
-  pub rows-on : (xs : List ℤ) → rows (answers w (x ∷ xs)) ≡ rowOf (figuresIn (taking w x .control)) ++ rows (answers (taking w x) xs)
+  pub rows-on : (xs : List ℤ) → rows (answers w (x ∷ xs)) ≡ rowOf (figuresKept (taking w x .control)) ++ rows (answers (taking w x) xs)
   unfolding answers rows rowTold
   rows-on xs = rw (reading-sound w x e, told-taking)
 
@@ -75,10 +75,10 @@ pub length-rows : (w : Window) (xs : List ℤ) → soundWindow w ≡ true → le
 unfolding answers rows
 length-rows w [] e size = refl
 length-rows w (x ∷ xs) e size =
-    let row = rowOf (figuresIn (taking w x .control)) in
+    let row = rowOf (figuresKept (taking w x .control)) in
     ap length (rows-on w x e size xs) ∙
     (length-append row (rows (answers (taking w x) xs)) ∙
-    omega (arith, length-row (figuresIn (taking w x .control)), length-rows (taking w x) xs (still-sound w x e size) (size-taking w x size)))
+    omega (arith, length-row (figuresKept (taking w x .control)), length-rows (taking w x) xs (still-sound w x e size) (size-taking w x size)))
 
 -- ---- one row more in the output
 
@@ -131,7 +131,7 @@ onward-begins first xs out e size =
 
 module _ (first : Window) (xs out₀ : List ℤ) (here : Window) (out : List ℤ) (i : ℕ) (o : Onward first xs out₀ here out i) where
   pub onward-turns : (x : ℤ) → i < length xs → getD xs i (pos 0) ≡ x → 5 * length xs ≤ length out₀ →
-      Onward first xs out₀ (taking here x) (sets out (5 * i) (rowOf (figuresIn (taking here x .control)))) (i + 1)
+      Onward first xs out₀ (taking here x) (sets out (5 * i) (rowOf (figuresKept (taking here x .control)))) (i + 1)
   onward-turns x h e most =
       record {
         some = omega arith;
@@ -148,7 +148,7 @@ module _ (first : Window) (xs out₀ : List ℤ) (here : Window) (out : List ℤ
       }
     where
       row : List ℤ
-      row = rowOf (figuresIn (taking here x .control))
+      row = rowOf (figuresKept (taking here x .control))
 
       room : 5 * i + 5 ≤ length out
       room = omega (arith, o .room)

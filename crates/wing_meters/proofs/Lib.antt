@@ -9,3 +9,4 @@ pub mod Left
 pub mod Reached
 pub mod Moves
 pub mod Types
+pub mod Worked

@@ -1,17 +1,17 @@
 -- What specs/Moving states.
-use Prim.Native.Nat.{ℕ, zero, suc, _+_, _≤_, _<_}
+use Prim.Native.Nat.{ℕ, zero, suc, _+_, _-_, _≤_, _<_}
 use mathlib.Core.Bool.{Bool, true, false, true≢false}
 use mathlib.Core.Path.{_≡_, refl, sym, ap, _∙_, subst}
 use mathlib.Core.List.{List, [], _∷_, _++_, foldl, foldl-append}
 use native.Mathlib.Omega.{arith}
 use native.Mathlib.Numerals.{add-one}
 use lib.IntN.{ℤ}
-use lib.ListN.{length, take, getD}
+use lib.ListN.{length, take, drop, getD, take-append-drop, length-drop}
 use Rattle.wing_node.specs.Signed.{InBits}
 use Rattle.wing_meters.specs.Afresh.{lastOf, figuresOf}
 use Rattle.wing_meters.specs.Window.{freshWindow, taking, leaves, keptIn, soundWindow}
 use Rattle.wing_meters.specs.Calls.{figuresAnswer, taken, readingOf, afterAll, answers, rowTold, rows}
-use Rattle.wing_meters.specs.Moving.{Readings, noReadings, readingThen, Width, Leaves, Left, Typed, afreshRows, Along, Moving}
+use Rattle.wing_meters.specs.Moving.{Readings, noReadings, readingThen, Width, Last, Leaves, Left, Typed, afreshRows, Along, Moving}
 use Rattle.wing_meters.specs.declared.figures.Told.the-variants.{None}
 use Rattle.wing_meters.specs.declared.window.Window.{Window}
 use Rattle.wing_meters.proofs.Soundness.{is-sound}
@@ -118,10 +118,20 @@ unleft w t never = go (soundWindow w) refl
     go true e = absurd (never (reached w e t))
     go false e = refl
 
+-- the last readings of a list are its end
+last-in : (width : ℕ) (xs : List ℤ) → Last width xs (lastOf width xs)
+last-in width xs =
+    record {
+      before = take (length xs - width) xs;
+      joined = take-append-drop (length xs - width) xs;
+      count = length-drop (length xs - width) xs ∙ omega arith;
+    }
+
 pub moving : Moving
 moving =
     record {
       along = λ width xs v r. along width v xs r;
+      last = last-in;
       says = figures-say;
       none = figures-none;
       taken = λ w t e. reached w e t;

@@ -17,7 +17,7 @@ use Rattle.wing_node.proofs.Branches.{branch}
 use Rattle.wing_meters.specs.Afresh.{lastOf, total, quotient, remainder, largest, figures, figuresOf}
 use Rattle.wing_meters.specs.Level.{levelOf, readingAt, lowered, added, greatest}
 use Rattle.wing_meters.specs.Window.{window, control, around, grown, onward, taking, inOrder, keptIn, soundWindow}
-use Rattle.wing_meters.specs.Kept.{figuresIn, toldIn, InRange, TopBefore}
+use Rattle.wing_meters.specs.Kept.{figuresKept, toldKept, InRange, TopBefore}
 use Rattle.wing_meters.specs.declared.figures.Told.{Told}
 use Rattle.wing_meters.specs.declared.figures.Told.the-variants.{None, Figures as Told·Figures}
 use Rattle.wing_meters.specs.declared.window.Control.{Control}
@@ -50,8 +50,8 @@ unfolding keptIn levelsIn
 kept-levels w = refl
 
 -- the figures of readings, by the sum and the largest of their levels
-told-levels : (ls : List ℕ) (c : Control) → length ls ≡ c .held → added ls ≡ c .sum → greatest ls ≡ c .top → figuresOf (map readingAt ls) ≡ toldIn c
-unfolding figuresOf toldIn figuresIn
+told-levels : (ls : List ℕ) (c : Control) → length ls ≡ c .held → added ls ≡ c .sum → greatest ls ≡ c .top → figuresOf (map readingAt ls) ≡ toldKept c
+unfolding figuresOf toldKept figuresKept
 told-levels [] c n s t = sym (simp (eq-eqb (c .held) 0 (sym n)))
 told-levels (l ∷ ls) c n s t =
     let size : length (map readingAt (l ∷ ls)) ≡ c .held = length-map readingAt (l ∷ ls) ∙ n in
@@ -200,7 +200,7 @@ module _ (w : Window) (s : Sound w) (size : length (w .levels) ≡ 256) where
       }
 
   -- what is kept up gives the figures of the readings that are held
-  pub kept-told : figuresOf (keptIn w) ≡ toldIn (w .control)
+  pub kept-told : figuresOf (keptIn w) ≡ toldKept (w .control)
   unfolding levelsIn
   kept-told =
       let r = take (w .control .held) (w .levels) in

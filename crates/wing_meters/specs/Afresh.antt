@@ -18,12 +18,12 @@ unfoldable pub total : List ℤ → ℤ
 total [] = pos 0
 total (x ∷ xs) = x +ℤ total xs
 
--- 02: the sum divided by a number as a whole quotient, rounded down: of −(n + 1), one less than that of n with a minus sign
+-- 02: the sum divided by a number as a whole quotient, rounded down: −(n + 1) divided by d is −(n div d + 1)
 unfoldable pub quotient : ℤ → ℕ → ℤ
 quotient (pos n) d = pos (n / d)
 quotient (negsuc n) d = negsuc (n / d)
 
--- 02: its exact remainder, from 0 to d − 1
+-- 02: its exact remainder, from 0 to d − 1: −(n + 1) is −(n div d + 1) times d, and d − 1 − n mod d
 unfoldable pub remainder : ℤ → ℕ → ℕ
 remainder (pos n) d = n % d
 remainder (negsuc n) d = d - suc (n % d)

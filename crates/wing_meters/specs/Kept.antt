@@ -3,7 +3,6 @@ use Prim.Native.Nat.{ℕ, _*_, _/_, _%_, _≤_, _<_}
 use mathlib.Core.Path.{_≡_}
 use mathlib.Core.List.{List}
 use lib.Dec.{eqb}
-use lib.IntN.{ℤ}
 use Rattle.wing_node.specs.Bool.{if}
 use Rattle.wing_meters.specs.Afresh.{figures}
 use Rattle.wing_meters.specs.Level.{lowered, readingAt, greatest}
@@ -13,19 +12,19 @@ use Rattle.wing_meters.specs.declared.figures.Told.the-variants.{None, F
 use Rattle.wing_meters.specs.declared.window.Control.{Control}
 
 -- the figures of a window that holds any
-unfoldable pub figuresIn : Control → Figures
-figuresIn c = figures (c .held) (lowered (c .sum) (c .held)) (readingAt (c .sum / c .held)) (c .sum % c .held) (readingAt (c .top))
+unfoldable pub figuresKept : Control → Figures
+figuresKept c = figures (c .held) (lowered (c .sum) (c .held)) (readingAt (c .sum / c .held)) (c .sum % c .held) (readingAt (c .top))
 
 -- none where it holds none
-unfoldable pub toldIn : Control → Told
-toldIn c = if (eqb (c .held) 0) None (Told·Figures (figuresIn c))
+unfoldable pub toldKept : Control → Told
+toldKept c = if (eqb (c .held) 0) None (Told·Figures (figuresKept c))
 
 -- what the figures ask of the numbers that are kept up
 pub record InRange (c : Control) : Type 0 where
   pub few : c .held ≤ 256
   pub sum : c .sum ≤ 65535 * c .held
 
--- the largest before one level left and one came, in terms of the levels after it
+-- what the greatest level before says of the greatest of the levels after, where one left and one came
 pub record TopBefore (top left came : ℕ) (levels : List ℕ) : Type 0 where
   -- where the new one is at least as large it is the largest
   pub above : top ≤ came → came ≡ greatest levels

@@ -3,7 +3,7 @@ use Prim.Native.Nat.{ℕ, _+_, _*_, max}
 use mathlib.Core.List.{List, [], _∷_}
 use lib.IntN.{ℤ, pos, _+ℤ_, natAbs, subℕ}
 
--- the level of a reading
+-- the level of a reading of 16 bits
 abbrev pub levelOf : ℤ → ℕ
 levelOf x = natAbs (x +ℤ pos 32768)
 

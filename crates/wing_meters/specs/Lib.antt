@@ -5,3 +5,4 @@ pub mod Kept
 pub mod Calls
 pub mod Moving
 pub mod Answers
+pub mod Cases

@@ -1,5 +1,5 @@
 -- What holds of a window for every list of readings (02, Job 6).
-use Prim.Native.Nat.{ℕ, _+_, _≤_, _<_, _^_}
+use Prim.Native.Nat.{ℕ, _+_, _≤_, _<_, _^_, min}
 use mathlib.Core.Bool.{true}
 use mathlib.Core.Path.{_≡_}
 use mathlib.Core.List.{List, [], _∷_, _++_, List·Memᴰ}
@@ -33,6 +33,12 @@ pub record Say (xs : List ℤ) (f : Figures) : Type 0 where
   pub rest : f .rest < f .held
   pub top : List·Memᴰ (f .top) xs
   pub above : (x : ℤ) → List·Memᴰ x xs → x ≤ℤ f .top
+
+-- 02: the last readings of a list, in words: it ends with them, and they are as many as the width, or all where it has fewer
+pub record Last (width : ℕ) (xs ys : List ℤ) : Type 0 where
+  pub before : List ℤ
+  pub joined : before ++ ys ≡ xs
+  pub count : length ys ≡ min width (length xs)
 
 -- these readings leave that window in one of this width
 pub record Leaves (width : ℕ) (xs : List ℤ) (w : Window) : Type 0 where
@@ -72,6 +78,8 @@ pub record Along (width : ℕ) (xs : List ℤ) : Type 0 where
 pub record Moving : Type 0 where
   -- for every width and every list of readings
   pub along : (width : ℕ) (xs : List ℤ) → Width width → Readings xs → Along width xs
+  -- which readings are the last
+  pub last : (width : ℕ) (xs : List ℤ) → Last width xs (lastOf width xs)
   -- what the figures say
   pub says : (xs : List ℤ) (f : Figures) → figuresOf xs ≡ Told·Figures f → Say xs f
   -- and when there are none

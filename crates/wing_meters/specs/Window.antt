@@ -1,10 +1,10 @@
 -- A window's state: levels in a ring, what is kept up of them, and which states some list of readings leaves.
-use Prim.Native.Nat.{ℕ, _+_, _*_, _≤_, _<_}
-use mathlib.Core.Bool.{Bool, true, false}
+use Prim.Native.Nat.{ℕ, _+_}
+use mathlib.Core.Bool.{Bool, false}
 use mathlib.Core.List.{List, map, _++_, foldl}
-use lib.Dec.{ltb, leb, eqb}
+use lib.Dec.{ltb, eqb}
 use lib.IntN.{ℤ}
-use lib.ListN.{length, take, drop, set, replicate}
+use lib.ListN.{take, drop, set, replicate}
 use Rattle.wing_node.specs.Bool.{if, and}
 use Rattle.wing_meters.specs.Level.{levelOf, readingAt, added, greatest}
 use Rattle.wing_meters.specs.declared.window.Control.{Control}

@@ -3,11 +3,11 @@ ghost use mathlib.Core.Path.{_≡_};
 ghost use lib.ListN.{length};
 ghost use lib.Seq.{sets};
 ghost use Prim.Native.Nat.{_+_, _*_, _/_, _≤_};
-ghost use Rattle.wing_meters.specs.Kept.{InRange, figuresIn, toldIn};
+ghost use Rattle.wing_meters.specs.Kept.{InRange, figuresKept, toldKept};
 ghost use Rattle.wing_meters.specs.Calls.{rowOf};
 use crate::figures::Figures;
 use crate::figures::Told;
-use crate::level::reading_of;
+use crate::level::reading_at;
 use crate::level::sum_of;
 use crate::window::Control;
 
@@ -22,22 +22,22 @@ fn quotient(sum: u32, n: u32) -> u32
 // The figures of a window that holds any, by what it keeps up.
 pub(crate) fn figures_in(c: Control) -> Figures
     requires { ⌜ (1 ≤ c .held) × InRange c ⌝ }
-    ensures { λ r. ⌜ r ≡ figuresIn c ⌝ }
+    ensures { λ r. ⌜ r ≡ figuresKept c ⌝ }
 {
     let n = c.held as u32;
     Figures {
         held: c.held,
         sum: sum_of(c.sum, c.held),
-        mean: reading_of(quotient(c.sum, n) as u16),
+        mean: reading_at(quotient(c.sum, n) as u16),
         rest: (c.sum % n) as u16,
-        top: reading_of(c.top),
+        top: reading_at(c.top),
     }
 }
 
 // None where it holds none.
 pub(crate) fn tell(c: Control) -> Told
     requires { ⌜ InRange c ⌝ }
-    ensures { λ r. ⌜ r ≡ toldIn c ⌝ }
+    ensures { λ r. ⌜ r ≡ toldKept c ⌝ }
 {
     if c.held == 0 {
         return Told::None;

@@ -19,7 +19,7 @@ pub(crate) fn level_of(x: i16) -> u16
 }
 
 // The reading of a level; so too the mean, which is the quotient of levels.
-pub(crate) fn reading_of(level: u16) -> i16
+pub(crate) fn reading_at(level: u16) -> i16
     ensures { λ r. ⌜ r ≡ readingAt level ⌝ }
 {
     if level < 0x8000 {

@@ -7,7 +7,7 @@ ghost use lib.ListN.{length, drop};
 ghost use Rattle.wing_meters.specs.Kept.{InRange, TopBefore};
 ghost use Rattle.wing_meters.specs.Level.{greatest as greatestOf};
 ghost use Rattle.wing_meters.specs.Window.{window as windowOf, taking, grown as grownOf, onward as onwardOf, soundWindow};
-ghost use Rattle.wing_meters.specs.Calls.{readingOf, afterAll, answers, rows, followed as followedBy, rowsEffect, readingsOf};
+ghost use Rattle.wing_meters.specs.Calls.{readingOf, afterAll, answers, rows, followed as followedOf, rowsEffect, readingsOf};
 use crate::figures::Told;
 use crate::kept::figures_in;
 use crate::kept::lay_row;
@@ -130,7 +130,7 @@ fn follow(c: Control, levels: &mut [u16], xs: &[i16], out: &mut [i32]) -> Contro
 }
 
 fn refuse(why: u8, w: Window) -> Followed
-    ensures { λ r. ⌜ r ≡ followedBy (RowsAnswer.Refused why) w ⌝ }
+    ensures { λ r. ⌜ r ≡ followedOf (RowsAnswer.Refused why) w ⌝ }
 {
     Followed {
         answer: RowsAnswer::Refused(why),

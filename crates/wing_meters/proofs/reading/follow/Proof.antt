@@ -14,7 +14,7 @@ use Rattle.wing_meters.specs.declared.window.Window.{Window}
 use mir.Syntax.{w16}
 use mir.Val.{toZ, ofZ}
 use Rattle.wing_meters.specs.Window.{window, taking, soundWindow}
-use Rattle.wing_meters.specs.Kept.{figuresIn}
+use Rattle.wing_meters.specs.Kept.{figuresKept}
 use Rattle.wing_meters.specs.Calls.{afterAll, answers, rows, rowOf}
 use Rattle.wing_meters.proofs.Follows.{Onward, onward-begins, onward-turns, onward-after, onward-rows, holds-one}
 use Rattle.wing_meters.proofs.reading.follow.Statement.{statement}
@@ -71,13 +71,13 @@ loop-again c =
     let step = c .before .before .before .before .before .before .step in
     let k : toZ w16 (ofZ w16 x) ≡ x = search needs in
     let after : window (step .result) (step .last .1 .0) ≡ taking here x = step .ensures .0 ∙ ap (taking here) k in
-    let row : c .before .lay-row .last .0 ≡ sets (l .out) (5 * l .i) (rowOf (figuresIn (step .result))) =
+    let row : c .before .lay-row .last .0 ≡ sets (l .out) (5 * l .i) (rowOf (figuresKept (step .result))) =
     c .before .lay-row .ensures ∙ ap (λ (f : Figures). sets (l .out) (5 * l .i) (rowOf f)) (c .before .before .figures-in .ensures) in
-    let laid = row ∙ ap (λ (w : Window). sets (l .out) (5 * l .i) (rowOf (figuresIn (w .control)))) after in
+    let laid = row ∙ ap (λ (w : Window). sets (l .out) (5 * l .i) (rowOf (figuresKept (w .control)))) after in
     let first = window (a .c) (a .levels .now) in
     subst (λ (o : List ℤ). Onward first xs (a .out .now) (window (step .result) (step .last .1 .0)) o (l .i + 1)) (sym laid)
     (subst
-    (λ (w : Window). Onward first xs (a .out .now) w (sets (l .out) (5 * l .i) (rowOf (figuresIn (taking here x .control)))) (l .i + 1)) (sym after)
+    (λ (w : Window). Onward first xs (a .out .now) w (sets (l .out) (5 * l .i) (rowOf (figuresKept (taking here x .control)))) (l .i + 1)) (sym after)
     (onward-turns first xs (a .out .now) here (l .out) (l .i) (l .inv) x (c .before .before .before .before .before .before .before .before .before .loop-test .taken) refl (c .before .before .before .before .before .before .before .before .before .before .before .before .pre .2)))
 
 same-length : tie.Need-same-length Inv-loop μ-loop

@@ -6,7 +6,7 @@ use mir.Syntax.{w16}
 use mir.Val.{toZ, ofZ}
 use Rattle.wing_meters.specs.Afresh.{figuresOf}
 use Rattle.wing_meters.specs.Window.{window, taking, keptIn, soundWindow}
-use Rattle.wing_meters.specs.Kept.{toldIn}
+use Rattle.wing_meters.specs.Kept.{toldKept}
 use Rattle.wing_meters.specs.Calls.{taken}
 use Rattle.wing_meters.specs.declared.figures.Told.{Told}
 use Rattle.wing_meters.specs.declared.window.Window.{Window}
@@ -40,10 +40,10 @@ returns c =
     let e : soundWindow w ≡ true = sym (c .before .before .before .before .before .is-sound-lent .ensures .0) ∙ c .before .before .before .before .if1 .taken in
     let k : toZ w16 (ofZ w16 (a .x)) ≡ a .x = search needs in
     let after : window (c .before .before .step .result) (c .before .before .step .last .1 .0) ≡ taking w (a .x) = c .before .before .step .ensures .0 ∙ ap (taking w) k in
-    let told : toldIn (taking w (a .x) .control) ≡ figuresOf (keptIn (taking w (a .x))) =
+    let told : toldKept (taking w (a .x) .control) ≡ figuresOf (keptIn (taking w (a .x))) =
     sym (kept-told (taking w (a .x)) (sound-taking w (sound w e) size (a .x)) (size-taking w (a .x) size)) in
     ap (λ (t : Told). taken t (window (c .before .before .step .result) (c .before .before .step .last .1 .0))) (c .tell .ensures) ∙
-    (ap (λ (v : Window). taken (toldIn (v .control)) v) after ∙
+    (ap (λ (v : Window). taken (toldKept (v .control)) v) after ∙
     (ap (λ (t : Told). taken t (taking w (a .x))) told ∙ sym (reading-sound w (a .x) e)))
 
 returns-2 : tie.Need-returns-2

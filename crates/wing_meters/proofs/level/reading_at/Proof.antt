@@ -4,8 +4,8 @@ use native.Mathlib.Omega.{arith}
 use mir.Syntax.{w16}
 use mir.Val.{toZ, ofZ}
 use Rattle.wing_meters.proofs.Levels.{reading-low, reading-high}
-use Rattle.wing_meters.proofs.level.reading_of.Statement.{statement}
-use Rattle.wing_meters.proofs.level.reading_of.Tie as tie
+use Rattle.wing_meters.proofs.level.reading_at.Statement.{statement}
+use Rattle.wing_meters.proofs.level.reading_at.Tie as tie
 
 add-to-i16 : tie.Need-add-to-i16
 add-to-i16 c = search needs
@@ -26,6 +26,6 @@ returns-2 c =
     let k : toZ w16 (ofZ w16 (c .to-i162 .result)) ≡ c .to-i162 .result = search needs in
     k ∙ (c .to-i162 .ensures ∙ reading-high (c .before .before .args .level) (omega arith) (c .before .if1 .left))
 
-pub reading-of-spec : {M : Type 1} → statement M
-reading-of-spec =
+pub reading-at-spec : {M : Type 1} → statement M
+reading-at-spec =
     tie.close (tie.spec add-to-i16 to-i16-requires to-i16-requires-2 returns returns-2)
