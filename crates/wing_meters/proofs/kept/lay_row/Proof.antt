@@ -1,3 +1,4 @@
+-- The five stores are one row laid (`five-stores`); each number is stored as it is, since 16 bits fit 32.
 use lib.IntN.{pos}
 use borrow.Author.Tests.{lt-ltb}
 use mir.Facts.{toZ-ofZ}

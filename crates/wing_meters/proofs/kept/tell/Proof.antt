@@ -1,3 +1,4 @@
+-- The two sides of `toldKept`.
 use borrow.Author.Needs.{needs}
 use borrow.Author.Tests.{eq-eqb, ne-eqb}
 use Rattle.wing_meters.specs.Kept.{toldKept}

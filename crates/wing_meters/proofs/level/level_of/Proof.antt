@@ -1,3 +1,4 @@
+-- The bits of a reading below 32,768 are those of one not below 0 (`level-low`, `level-high`).
 use borrow.Author.Needs.{needs}
 use Prim.Native.Nat.{ℕ, _+_, _-_}
 use mathlib.Core.Path.{_≡_, sym, ap, _∙_}

@@ -1,3 +1,4 @@
+-- The two sides of `readingAt`, by the bits of a reading (`reading-low`, `reading-high`).
 use borrow.Author.Needs.{needs}
 use mathlib.Core.Path.{_≡_, _∙_}
 use native.Mathlib.Omega.{arith}

@@ -1,3 +1,4 @@
+-- The two sides of `lowered`, by the 32 bits of the sum (`lowered-below`, `lowered-above`).
 use borrow.Author.Needs.{needs}
 use mathlib.Core.Path.{_≡_, _∙_}
 use native.Mathlib.Omega.{arith}

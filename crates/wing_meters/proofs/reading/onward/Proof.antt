@@ -1,3 +1,4 @@
+-- The two sides of `onward`.
 use borrow.Author.Tests.{lt-leb, lt-ltb, le-leb, le-ltb}
 use borrow.Author.Needs.{needs}
 use Rattle.wing_meters.proofs.reading.onward.Statement.{statement}

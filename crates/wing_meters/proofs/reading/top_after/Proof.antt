@@ -1,3 +1,4 @@
+-- What `TopBefore` says at each end; where the largest has left, the contract of `greatest`.
 use borrow.Author.Needs.{needs}
 use Rattle.wing_meters.proofs.reading.top_after.Statement.{statement}
 use Rattle.wing_meters.proofs.reading.top_after.Tie as tie

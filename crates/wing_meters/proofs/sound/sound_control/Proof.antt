@@ -1,3 +1,4 @@
+-- Each return is a branch of `soundControl`, in the order of its tests.
 use borrow.Author.Tests.{lt-ltb, le-ltb, ne-eqb}
 use mathlib.Core.Path.{sym}
 use Rattle.wing_meters.proofs.Soundness.{place-unfilled, place-full}

@@ -1,3 +1,4 @@
+-- The three branches of `madeOf`.
 use borrow.Author.Tests.{lt-leb, lt-ltb, le-leb, le-ltb}
 use Rattle.wing_meters.specs.Calls.{madeOf}
 use borrow.Author.Needs.{needs}

@@ -1,3 +1,4 @@
+-- The first branch of `madeOf`, at width 0.
 use Rattle.wing_meters.specs.Calls.{madeOf}
 use borrow.Author.Needs.{needs}
 use Rattle.wing_meters.proofs.window.no_window.Statement.{statement}
