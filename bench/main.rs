@@ -216,6 +216,13 @@ fn printing() -> Part {
     }
 }
 
+// A table's bytes with the origin of each record 0, as a loaded listing has them.
+fn origins_cleared(table: &[u8]) -> Vec<u8> {
+    let mut cleared = table.to_vec();
+    cleared.chunks_mut(264).for_each(|record| record[5] = 0);
+    cleared
+}
+
 // Our own loader makes a BTreeMap anew, the archive's fills one table.
 fn loading_listing() -> Part {
     let text = listed().print().unwrap();
@@ -223,7 +230,7 @@ fn loading_listing() -> Part {
     let mut table = vec![0u8; 1024 * 264];
     raw::load(text.as_bytes(), &mut table);
     let map = listing::load(&text, 1024).unwrap();
-    assert!(table == listed().table() && listing::print(&map) == text, "load: the two sides load differently");
+    assert!(table == origins_cleared(listed().table()) && listing::print(&map) == text, "load: the two sides load differently");
     Part {
         wanted: None,
         name: "load a listing of 1,024 records",

@@ -4,8 +4,8 @@
  *
  * A child process on 127.0.0.1 plays the console and sends the capture in pieces of random length. The box (show) keeps what it reads,
  * sets some strips and recalls everything into a second box, a child too, over TCP. The second box sends its table back, and the first
- * compares. Status 1 if they are not equal, if the console did not get the strips as they were set, or if anything else fails. It ends
- * within 20 seconds, whatever happens.
+ * compares. Status 1 if the second has not the same values, all as the console's, if the first does not know the strips that were set
+ * there, if the console did not get them as they were set, or if anything else fails. It ends within 20 seconds, whatever happens.
  */
 #define _POSIX_C_SOURCE 200809L
 #include "wing.h"
@@ -243,8 +243,26 @@ static int ended_well(pid_t child)
     return waitpid(child, &status, 0) == child && WIFEXITED(status) && WEXITSTATUS(status) == 0;
 }
 
-/* Whether the records that the second box sends until it hangs up are those of the first. */
-static int is_equal(int second, const Mirror *m)
+/* How many records' values were set at the box, by set orders. */
+static size_t moved(const Mirror *m)
+{
+    size_t found = 0;
+    for (size_t number = 0; number < m->count; number++)
+        found += wing_record(m->table, sizeof m->table, m->count, number).origin == WING_ORIGIN_SET_ORDER;
+    return found;
+}
+
+/* Whether two records have the same node and value, the second as the console's: a recall does not say who gave a value. */
+static int is_rebuilt(const WingRecord *first, const WingRecord *second)
+{
+    check(first->status, "wing_record");
+    check(second->status, "wing_record");
+    return second->id == first->id && second->kind == first->kind && second->value == first->value && second->len == first->len &&
+           memcmp(second->string, first->string, sizeof first->string) == 0 && second->origin == WING_ORIGIN_CONSOLE;
+}
+
+/* Whether the records that the second box sends until it hangs up are those of the first, but for the origins. */
+static int has_values(int second, const Mirror *m)
 {
     static uint8_t table[PLACES * WING_PLACE_WIDTH];
     size_t len = 0;
@@ -255,9 +273,14 @@ static int is_equal(int second, const Mirror *m)
         fail("read");
     if (len % WING_PLACE_WIDTH != 0)
         stop("the second box", "it sent a part of a record");
-    int32_t same = wing_same(m->table, sizeof m->table, m->count, table, sizeof table, len / WING_PLACE_WIDTH);
-    check(same, "wing_same");
-    return same == 1;
+    size_t count = len / WING_PLACE_WIDTH;
+    int same = count == m->count;
+    for (size_t number = 0; same && number < count; number++) {
+        WingRecord ours = wing_record(m->table, sizeof m->table, m->count, number);
+        WingRecord theirs = wing_record(table, sizeof table, count, number);
+        same = is_rebuilt(&ours, &theirs);
+    }
+    return same;
 }
 
 /* The bytes of a file, 1 to so many. */
@@ -292,15 +315,17 @@ int main(int argc, char **argv)
     pid_t console = serve(&console_at, capture, len, argc > 2 ? (unsigned)atoi(argv[2]) : 1);
     pid_t second = serve(&second_at, NULL, 0, 0);
     int answers = show(&mirror, console_at, second_at);
-    int equal = is_equal(answers, &mirror);
+    int rebuilt = has_values(answers, &mirror);
     close_it(answers);
     int heard = ended_well(console);
     int held = ended_well(second);
-    if (!equal || !heard || !held) {
-        fprintf(stderr, "the boxes are %s, the console %s the strips\n", equal && held ? "equal" : "not equal",
+    if (!rebuilt || !heard || !held) {
+        fprintf(stderr, "the second box has %s values, the console %s the strips\n", rebuilt && held ? "the same" : "other",
                 heard ? "heard" : "did not hear");
         return 1;
     }
-    printf("%zu records, and the second box is equal to the first\n", mirror.count);
+    if (moved(&mirror) != 3)
+        stop("the box", "it does not know which strips were set there");
+    printf("%zu records, %zu of them set at the box, and the second box has the same values\n", mirror.count, moved(&mirror));
     return 0;
 }

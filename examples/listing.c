@@ -2,7 +2,8 @@
  *
  *     gcc -std=c99 -Wall -Wextra -Iinclude examples/listing.c target/staticlib/libwing_c.a -o target/listing
  *
- * Prints the records and the bad line. Status 1 where the second mirror is not equal or a refused text has changed it.
+ * Prints the records and the bad line. Status 1 where the second mirror has not the first one's records, each as the console's, or a
+ * refused text has changed it.
  */
 #include "wing.h"
 
@@ -25,6 +26,15 @@ static WingLoaded load(const char *text, uint8_t *table)
     return wing_load((const uint8_t *)text, strlen(text), table, PLACES * WING_PLACE_WIDTH);
 }
 
+/* Whether a record of the second table is the first's: the same node and value, but the console's, since no listing says who gave it. */
+static bool is_loaded(const uint8_t *table, const uint8_t *second, size_t count, size_t number)
+{
+    WingRecord a = wing_record(table, PLACES * WING_PLACE_WIDTH, count, number);
+    WingRecord b = wing_record(second, PLACES * WING_PLACE_WIDTH, count, number);
+    return a.status == 0 && b.status == 0 && b.id == a.id && b.kind == a.kind && b.value == a.value && b.len == a.len &&
+           memcmp(b.string, a.string, sizeof a.string) == 0 && a.origin == WING_ORIGIN_SET_ORDER && b.origin == WING_ORIGIN_CONSOLE;
+}
+
 int main(void)
 {
     static uint8_t table[PLACES * WING_PLACE_WIDTH], second[sizeof table], before[sizeof table], state[WING_STATE_SIZE];
@@ -40,7 +50,11 @@ int main(void)
     WingLoaded loaded = wing_load(text, printed.len, second, sizeof second);
     check(loaded.status == 0 && loaded.count == count, "wing_load");
     check(wing_state_fresh(state, sizeof state).status == 0, "wing_state_fresh");
-    check(wing_same(table, sizeof table, count, second, sizeof second, loaded.count) == 1, "wing_same");
+    for (size_t number = 0; number < count; number++)
+        check(is_loaded(table, second, count, number), "a record that was loaded");
+    check(wing_same(table, sizeof table, count, second, sizeof second, count) == 0, "wing_same of set orders and a listing");
+    wing_load(text, printed.len, table, sizeof table);
+    check(wing_same(table, sizeof table, count, second, sizeof second, count) == 1, "wing_same of two that were loaded");
 
     memcpy(before, second, sizeof second);
     WingLoaded refused = load("id,kind,value\n7,i,1\n7,i,2\n", second);

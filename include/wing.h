@@ -36,7 +36,8 @@ extern "C" {
 /* The bytes of a decoder state: the fields, the first of which is the version of their form (2), then the store of a string or body that
  * is not yet whole. */
 #define WING_STATE_SIZE 4123
-/* The bytes of a place: id (4, signed), kind (1), 00, length (2), payload (256, filled up with 0). Numbers are big-endian. */
+/* The bytes of a place: id (4, signed), kind (1), origin (1), length (2), payload (256, filled up with 0). Numbers are big-endian. A
+ * table that was kept before there were origins has 0 there, and its values read as the console's. */
 #define WING_PLACE_WIDTH 264
 /* The most places of a table. */
 #define WING_PLACES_MAX 1024
@@ -76,6 +77,10 @@ extern "C" {
 #define WING_KIND_STRING 2
 #define WING_KIND_BODY 3
 #define WING_KIND_END 4
+
+/* Origins of a record's value: the console sent it, or a set order gave it. A table with any other is not sound (7). */
+#define WING_ORIGIN_CONSOLE 0
+#define WING_ORIGIN_SET_ORDER 1
 
 /* Kinds of an item. */
 #define WING_ITEM_STRINGS 0
@@ -182,6 +187,7 @@ typedef struct WingRecord {
     uint32_t value;      /* the 32 bits of an integer (two's complement) or a float; 0 for a string */
     uint16_t len;        /* a string's bytes; 0 for numbers */
     uint8_t kind;        /* WING_KIND_INTEGER, WING_KIND_FLOAT or WING_KIND_STRING */
+    uint8_t origin;      /* WING_ORIGIN_CONSOLE or WING_ORIGIN_SET_ORDER: who gave the last value */
     uint8_t string[256]; /* the string, then bytes of 0 */
 } WingRecord;
 
@@ -353,13 +359,14 @@ WingEvent wing_next(uint8_t *state, size_t state_len, const uint8_t *bytes, size
  * Refused: 7. */
 int32_t wing_table_check(const uint8_t *table, size_t table_len, size_t count);
 
-/* Takes the console's bytes, at most WING_FEED_MAX at a time, broken off anywhere, and stores the last value of each node. Lent to be
- * read: bytes; to be written: state, table. Go on with the count that comes back.
+/* Takes the console's bytes, at most WING_FEED_MAX at a time, broken off anywhere, and stores the last value of each node, with origin
+ * WING_ORIGIN_CONSOLE. Lent to be read: bytes; to be written: state, table. Go on with the count that comes back.
  * Refused: 8, 7, 14. */
 WingFed wing_feed(uint8_t *state, size_t state_len, uint8_t *table, size_t table_len, size_t count, const uint8_t *bytes,
                   size_t bytes_len);
 
-/* Sets a node: stores the value and writes the order to send (at most WING_SET_NUMBER_MAX bytes). Lent to be written: table, out.
+/* Sets a node: stores the value, with origin WING_ORIGIN_SET_ORDER, and writes the order to send (at most WING_SET_NUMBER_MAX bytes). Lent
+ * to be written: table, out.
  * Refused: 7, 6, 9. */
 WingSet wing_set_int(uint8_t *table, size_t table_len, size_t count, uint8_t *out, size_t out_len, int32_t id, int32_t value);
 
@@ -373,8 +380,9 @@ WingSet wing_set_float(uint8_t *table, size_t table_len, size_t count, uint8_t *
 WingSet wing_set_string(uint8_t *table, size_t table_len, size_t count, uint8_t *out, size_t out_len, int32_t id,
                         const uint8_t *value, size_t value_len);
 
-/* Writes what sets a console to every record: df d1, then the set order of each in order (at most WING_RECALL_MAX(count) bytes). Lent
- * to be read: table; to be written: out.
+/* Writes what sets a console to every record: df d1, then the set order of each in order (at most WING_RECALL_MAX(count) bytes). Origins
+ * are not carried: a fresh mirror that is fed these bytes, in places enough, has the same records with origin WING_ORIGIN_CONSOLE each.
+ * Lent to be read: table; to be written: out.
  * Refused: 7, 9. */
 WingWritten wing_recall(const uint8_t *table, size_t table_len, size_t count, uint8_t *out, size_t out_len);
 
@@ -382,24 +390,26 @@ WingWritten wing_recall(const uint8_t *table, size_t table_len, size_t count, ui
  * Refused: 7. */
 WingLookup wing_lookup(const uint8_t *table, size_t table_len, size_t count, int32_t id);
 
-/* A record by its number, from 0; they stand in rising order of their signed ids. Lent to be read: table.
+/* A record by its number, from 0, with its origin; they stand in rising order of their signed ids. Lent to be read: table.
  * Refused: 7, 14. */
 WingRecord wing_record(const uint8_t *table, size_t table_len, size_t count, size_t number);
 
-/* 1 if two mirrors are equal, count and records, else 0; the places and the decoders do not matter. Lent to be read: a, b.
+/* 1 if two mirrors are equal, count and records, origins included, else 0; the places and the decoders do not matter.
+ * Lent to be read: a, b.
  * Refused: 7 (for either). */
 int32_t wing_same(const uint8_t *a, size_t a_len, size_t count_a, const uint8_t *b, size_t b_len, size_t count_b);
 
 /* ---- Listings ---- */
 
 /* Prints the records: a line `id,kind,value`, then one for each in order, its id in decimal, its kind (i, f or s) and its value in decimal,
- * in eight hex digits or in hex pairs (at most WING_PRINT_MAX(count) bytes, all ASCII). Lent to be read: table; to be written: out.
+ * in eight hex digits or in hex pairs (at most WING_PRINT_MAX(count) bytes, all ASCII). Origins are not listed. Lent to be read: table; to
+ * be written: out.
  * Refused: 7, 9. */
 WingWritten wing_print(const uint8_t *table, size_t table_len, size_t count, uint8_t *out, size_t out_len);
 
-/* Loads such a listing of at most WING_LISTING_MAX bytes into the places of a table, whatever they hold; the bytes after its records stay as
- * they were. Go on with the count that comes back and with a fresh decoder state (wing_state_fresh). Printed, the table gives the text
- * again. Lent to be read: text; to be written: table.
+/* Loads such a listing of at most WING_LISTING_MAX bytes into the places of a table, whatever they hold, each record with origin
+ * WING_ORIGIN_CONSOLE; the bytes after its records stay as they were. Go on with the count that comes back and with a fresh decoder state
+ * (wing_state_fresh). Printed, the table gives the text again. Lent to be read: text; to be written: table.
  * Refused: 7 (by the places alone), 14; then by the first bad line 17, 18, 10, 1 (with the good); then 6. */
 WingLoaded wing_load(const uint8_t *text, size_t text_len, uint8_t *table, size_t table_len);
 

@@ -80,9 +80,14 @@ class MirrorOrders:
     def found(number):
         return "none" if number is None else "at %d" % number
 
+    @staticmethod
+    def with_origin(record):
+        """As mirror lists it, and 02's origin."""
+        return "%s origin %d" % (record_text(record), record.origin)
+
     def record(self, number):
         number = count(number, UINT32)
-        return or_refused(lambda: record_text(self.mirror.record(number)))
+        return or_refused(lambda: self.with_origin(self.mirror.record(number)))
 
     def poke(self, at, word):
         at, data = count(at, MEMORY), hex_of(word)

@@ -9,12 +9,14 @@ from randoms.source import IDS, LINE_BYTES
 from rules.command import set_bytes
 from rules.decoder import State
 from rules.listing import TEXT_LIMIT, listing, records_of
-from rules.mirror import WIDTH, record_bytes
+from rules.mirror import CONSOLE, SET_ORDER, WIDTH, Record, from_console, record_bytes
 from rules.numbers import signed_bytes, unsigned_bytes
 from rules.utf8 import is_utf8
 
 PLACES = (0, 1, 1, 1, 2, 2, 2, 3, 3, 4, 5, 8, 16, 40, 128, 1024, 1025, 1026)
 MOST_FED = 8150         # the most bytes that a feed order can spell, about
+ORIGINS = (CONSOLE, SET_ORDER, SET_ORDER, 2, 2, 2, 3, 127, 128, 254, 255)
+ORIGIN_AT = 5           # of a record's bytes
 
 
 class History:
@@ -90,6 +92,14 @@ class History:
                              "record %d" % self.s.pick(0, 1, max(records - 1, 0), records, records + 1, UINT32),
                              "recall %d" % self.s.pick(RECALL_ROOM, 2, self.r.randrange(RECALL_ROOM))))
 
+    def look(self, most=3):
+        """Some records by their numbers, with the bytes that are their origins."""
+        records = min(self.mirror.count, self.mirror.places())
+        for number in self.r.sample(range(records), min(records, most)):
+            self.say("record %d" % number)
+            if self.s.chance(0.3):
+                self.say("peek %d 1" % (number * WIDTH + ORIGIN_AT))
+
     def peek(self):
         size = len(self.mirror.table)
         at = self.s.pick(0, size, max(size - WIDTH, 0), self.r.randrange(size + 1), min(WIDTH * self.r.randrange(5), size))
@@ -109,7 +119,7 @@ class History:
         tail = self.s.pick(0, 1, 4, 255, self.r.randrange(256))
         return self.poke(*self.s.pick(
             (at, self.s.field(4)), (at, signed_bytes(self.s.node(), 4)), (at + 4, bytes([self.s.pick(0, 1, 2, 3, 255)])),
-            (at + 5, b"\x01"), (at + 6, unsigned_bytes(self.s.pick(0, 3, 4, 5, 255, 256, 257, 0x400), 2)),
+            (at + ORIGIN_AT, bytes([self.r.choice(ORIGINS)])), (at + 6, unsigned_bytes(self.s.pick(0, 3, 4, 5, 255, 256, 257, 0x400), 2)),
             (at + 8 + tail, self.s.pick(b"\x01", b"\xff", b"\x00")), (at + 8, self.s.field(4)), (at + 8, b"\x80"),
             (at + WIDTH, bytes(self.mirror.table[at:at + 4])), (at + WIDTH, self.s.field(4))))
 
@@ -125,7 +135,8 @@ class History:
     def poke_record(self):
         """A record after the last one, written by hand, and the count one more."""
         value = self.s.pick(("i", self.s.int32()), ("f", self.s.field(4)), ("s", self.s.text(256)))
-        self.poke(self.mirror.count * WIDTH, record_bytes(self.s.pick(2**31 - 1, self.s.node()), value))
+        record = Record(self.s.pick(2**31 - 1, self.s.node()), value, self.s.pick(CONSOLE, SET_ORDER))
+        self.poke(self.mirror.count * WIDTH, record_bytes(record))
         return self.hand_over(self.mirror.count + 1)
 
     def load(self):
@@ -133,7 +144,7 @@ class History:
         if self.s.chance(0.3):
             self.say("feed " + self.s.pick("d70000", "8241", "d5", "df", "dfd1", "df0010", "d700000001d3", "dfd500"))
         self.say(self.listings.loads() if self.s.chance(0.05) else self.listings.load(min(self.mirror.places(), 1024)))
-        self.s.pick(self.feed, self.dump, self.dump, self.print, self.peek, self.query)()
+        self.s.pick(self.feed, self.dump, self.dump, self.print, self.peek, self.query, self.look)()
 
     def print(self):
         """With room for the whole, exact or one byte less, of a table that is usable or not."""
@@ -149,8 +160,9 @@ class History:
         self.dump()
 
     def reload(self):
-        """What is printed is loaded, over other records and into other places; 02 wants an equal mirror with a fresh decoder."""
-        before = self.mirror.usable_records()
+        """What is printed is loaded, over other records and into other places; 02 wants an equal mirror with a fresh decoder, "the
+        origin is set aside"."""
+        before = from_console(self.mirror.usable_records())
         text = listing(before)
         if len(text) <= TEXT_LIMIT:
             assert records_of(text) == before, "the model breaks 02: a printed table is loaded as another"
@@ -168,11 +180,12 @@ class History:
             assert self.mirror.records() == before, "the model breaks 02: a printed table is loaded as another"
             assert vars(self.mirror.state) == vars(State()), "the model breaks 02: a decoder that is not fresh"
         self.dump()
+        self.look()
 
     def damage(self):
         """A table poked, then each kind of call, then mostly made good again."""
         undo = self.s.pick(self.poke_field, self.poke_field, self.poke_count, self.poke_record)()
-        for call in self.r.sample((self.feed, self.set, self.set, self.query, self.query, self.query, self.peek, self.print), 4):
+        for call in self.r.sample((self.feed, self.set, self.set, self.query, self.query, self.query, self.peek, self.print, self.look), 4):
             call()
         if self.s.chance(0.95):
             self.say(undo)
@@ -199,8 +212,8 @@ class History:
             self.say("feed " + pairs(data[a:b]))
 
     def rebuild(self):
-        """Recalls of the mirror, and a mirror made anew of what they write; 01 wants it equal."""
-        before = self.mirror.usable_records()
+        """Recalls of the mirror, and a mirror made anew of what they write; 01 wants it equal, 02 "the origin is set aside"."""
+        before = from_console(self.mirror.usable_records())
         data = self.mirror.recall(10**7)
         for room in (len(data), len(data) - 1, len(data) + 1, self.s.pick(0, 1, RECALL_ROOM, self.r.randrange(len(data)))):
             self.say("recall %d" % min(room, RECALL_ROOM))
@@ -209,6 +222,7 @@ class History:
         self.say("new %d %d %d" % (places, self.s.pick(0, 1, 263), self.s.pick(0, 0xDF, self.r.randrange(256))))
         self.pieces(data)
         self.say("dump")
+        self.look()
         assert self.mirror.records() == before, "the model breaks 01: a recall fed to a fresh mirror made another one"
 
     def is_usable(self):
@@ -228,10 +242,10 @@ class History:
             self.pick_rare()
 
     def pick_rare(self):
-        self.r.choice((self.damage, self.damage, self.peek, self.peek, self.repeat, self.print, self.mend))()
+        self.r.choice((self.damage, self.damage, self.peek, self.peek, self.repeat, self.print, self.mend, self.look, self.look))()
 
     def whole(self):
-        """A history from a fresh mirror to a dump."""
+        """A history from a fresh mirror to a dump and some records."""
         places = self.r.choice(PLACES)
         self.new(places)
         if places == 1024 and self.s.chance(0.2):
@@ -245,6 +259,7 @@ class History:
         if self.is_usable() and self.s.chance(0.5):
             self.reload()
         self.say("dump")
+        self.look()
         return self.lines
 
     def listed(self):

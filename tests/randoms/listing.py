@@ -4,6 +4,7 @@ from orders.words import pairs
 from randoms.listing_faults import Faults
 from randoms.source import LINE_BYTES
 from rules.listing import HEADER, TEXT_LIMIT, listing, record_text, records_of
+from rules.mirror import CONSOLE, Record
 from rules.refusal import Refusal
 
 ENDS = (0, 1, -1, 9, 10, -9, -10, 99, 100, 2**31 - 1, 2**31 - 2, -2**31, -2**31 + 1)
@@ -29,7 +30,7 @@ def check_back(records):
 
 def short_records(number):
     """So many, each in the fewest bytes."""
-    return [(node, ("s", b"")) for node in range(-99, number - 99)]
+    return [Record(node, ("s", b""), CONSOLE) for node in range(-99, number - 99)]
 
 
 def lines_of(records):
@@ -62,7 +63,8 @@ class Listings:
 
     def records(self, number):
         """So many, or fewer where a node came twice."""
-        return sorted({self.node(): self.value() for _ in range(number)}.items())
+        values = {self.node(): self.value() for _ in range(number)}
+        return [Record(node, values[node], CONSOLE) for node in sorted(values)]
 
     def good(self, places):
         """Of as many records as there are places, about, or of a few. It fits an order."""

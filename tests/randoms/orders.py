@@ -2,6 +2,7 @@
 from randoms.held import held
 from randoms.histories import history, listed
 from randoms.odd import ODD, at_limit, changed, limits
+from randoms.origins import origins
 from randoms.single import Single
 from randoms.window import windows
 
@@ -9,8 +10,10 @@ from randoms.window import windows
 def block(source):
     """Some lines that belong together, or one."""
     single, kind = Single(source), source.r.random()
-    if kind < 0.83:
+    if kind < 0.82:
         return [single.order()]
+    if kind < 0.83:
+        return origins(source)
     if kind < 0.84:
         return windows(source)
     if kind < 0.85:

@@ -3,6 +3,7 @@ import re
 
 from rules.command import check_value, into
 from rules.decoder import State
+from rules.mirror import CONSOLE, Record
 from rules.refusal import Refusal, Why, refuse_if
 
 HEADER = b"id,kind,value"
@@ -22,9 +23,9 @@ class BadLine(Refusal):
 
 
 def record_text(record):
-    """01: "with commas between, id in decimal, kind letter i, f or s, and the value"."""
-    node, (kind, content) = record
-    return "%d,%s,%s" % (node, kind, content if kind == "i" else content.hex())
+    """01: "with commas between, id in decimal, kind letter i, f or s, and the value". A line has no origin."""
+    kind, content = record.value
+    return "%d,%s,%s" % (record.node, kind, content if kind == "i" else content.hex())
 
 
 def listing(records):
@@ -55,13 +56,13 @@ def value_of(kind, field):
 
 
 def record_of(line, before):
-    """02: within a line "17, 18, 10, 1". The record, which comes after those before it."""
+    """02: within a line "17, 18, 10, 1". The record, which comes after those before it; "its origins are 0"."""
     fields = line.split(b",")
     refuse_if(len(fields) != 3, 17)
     node, value = integer_of(fields[0]), value_of(*fields[1:])
-    refuse_if(before and node <= before[-1][0], 18)
+    refuse_if(before and node <= before[-1].node, 18)
     check_value(value)
-    return node, value
+    return Record(node, value, CONSOLE)
 
 
 def records_of(text):

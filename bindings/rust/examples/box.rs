@@ -1,15 +1,16 @@
 //! A recall box in small: `cargo run --example box [SEED]`.
 //!
 //! A thread on 127.0.0.1 plays the console and sends samples/capture.bin in pieces of random length. The box (`show`) keeps
-//! what it reads, sets some strips and recalls everything into a second box, over TCP too. Status 1 if the two are not equal,
-//! or if the console did not get the strips.
+//! what it reads, sets some strips and recalls everything into a second box, over TCP too. Status 1 if the second box has not the
+//! first one's values, all as the console's, if the first does not know the strips that were set there, or if the console did not get
+//! them.
 use std::error::Error;
 use std::io::{Read, Write};
 use std::net::{SocketAddr, TcpListener, TcpStream};
 use std::path::Path;
 use std::thread;
 use std::time::Duration;
-use whistleloam::{request_node_data, Mirror, Value};
+use whistleloam::{request_node_data, Mirror, Origin, Value};
 
 type Fault = Box<dyn Error + Send + Sync>;
 
@@ -90,6 +91,11 @@ fn serve<T: Send + 'static>(
     Ok((address, thread::spawn(move || answer(listener.accept()?.0))))
 }
 
+/// The nodes whose value was set at this box.
+fn moved(mirror: &Mirror) -> Vec<i32> {
+    mirror.entries().filter(|e| e.origin == Origin::SetOrder).map(|e| e.id).collect()
+}
+
 fn main() -> Result<(), Fault> {
     let seed = std::env::args().nth(1).map_or(Ok(1), |word| word.parse())?;
     let capture = std::fs::read(Path::new(env!("CARGO_MANIFEST_DIR")).join("../../samples/capture.bin"))?;
@@ -104,9 +110,14 @@ fn main() -> Result<(), Fault> {
     if heard != [(1000, "Sprecherin".into()), (2000, Value::float(-6.5)), (3000, 1.into())] {
         return Err(format!("the console heard {heard:?}").into());
     }
-    if mirror != second {
-        return Err(format!("the two boxes are not equal: {mirror:?}, {second:?}").into());
+    if moved(&mirror) != [1000, 2000, 3000] {
+        return Err(format!("set at the box were {:?}", moved(&mirror)).into());
     }
-    println!("{} records, and the second box is equal to the first (seed {seed})", mirror.len());
+    // A recall does not say who gave a value: it comes to the second box as a console's.
+    if !second.records().eq(mirror.records()) || !moved(&second).is_empty() {
+        return Err(format!("the second box has not the first one's values: {mirror:?}, {second:?}").into());
+    }
+    let (records, moved) = (mirror.len(), moved(&mirror).len());
+    println!("{records} records, {moved} of them set at the box, and the second box has the same values (seed {seed})");
     Ok(())
 }

@@ -162,6 +162,11 @@ impl Pool {
         for places in [1, 2, 3, 5, 70] {
             let mut mirror = Mirror::new(places).unwrap_or_else(|e| fault("new", &e.to_string()));
             self.totals.of("feed", mirror.feed(&self.capture), &[]);
+            // Every second value was set at the box.
+            let values: Vec<(i32, Value)> = mirror.records().step_by(2).collect();
+            for (id, value) in values {
+                self.totals.of("set", mirror.set(id, value), &[]);
+            }
             self.mirrors.push(mirror);
         }
     }
@@ -235,10 +240,18 @@ impl Pool {
         let unsound = self.totals.note("table_check", raw::table_check(&table, count), &[7]);
         let looked = raw::lookup(&table, count, id);
         self.totals.note("lookup", looked.status, &[7]);
-        let read = raw::record(&table, count, self.dice.below(80));
-        self.totals.note("record", read.status, &[7, 14]);
+        let number = self.dice.below(80);
+        let read = raw::record(&table, count, number);
+        let origin =
+            if self.totals.note("record", read.status, &[7, 14]) { 0 } else { table[number * PLACE_WIDTH + 5] };
+        must("record", read.origin == origin && origin <= 1);
         let same = raw::same(&table, count, mirror.table(), mirror.count());
-        self.totals.note("same", same, &[7]);
+        if !self.totals.note("same", same, &[7]) {
+            // Every byte of the records counts, the origins too.
+            let equal = count == mirror.count()
+                && table[..count * PLACE_WIDTH] == mirror.table()[..mirror.count() * PLACE_WIDTH];
+            must("same", (same == 1) == equal);
+        }
         let mut out = vec![0xaa; self.dice.below(1500)].into_boxed_slice();
         let sent = raw::recall(&table, count, &mut out);
         if self.totals.with_good("recall", (sent.status, sent.good), &[7, 9]) {
@@ -254,7 +267,7 @@ impl Pool {
         self.set(&mut table, count, id);
         let parts = Mirror::from_parts(mirror.state(), before.into_vec(), count);
         if let Some(mirror) = self.totals.of("from_parts", parts, &[7]) {
-            must("records", mirror.records().count() == count && mirror == mirror.clone());
+            must("records", mirror.entries().count() == count && mirror == mirror.clone());
         }
     }
 
@@ -405,6 +418,7 @@ impl Pool {
         }
         let records = loaded.count * PLACE_WIDTH;
         must("load", loaded.line == 0 && table[records..] == before[records..]);
+        must("load", table[..records].chunks(PLACE_WIDTH).all(|place| place[5] == 0));
         let mut out = vec![0xaa; text.len()].into_boxed_slice();
         let printed = raw::print(&table, loaded.count, &mut out);
         self.totals.note("print after a load", printed.status, &[]);

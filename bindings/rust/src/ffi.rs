@@ -83,6 +83,8 @@ pub struct WingRecord {
     pub len: u16,
     /// 0 an integer, 1 a float, 2 a string.
     pub kind: u8,
+    /// Who gave the last value: 0 the console, 1 a set order, as in [`Origin`](crate::Origin).
+    pub origin: u8,
     /// The string, then bytes of 0.
     pub string: [u8; 256],
 }
@@ -519,8 +521,8 @@ pub fn table_check(table: &[u8], count: usize) -> i32 {
 }
 
 /// Takes the console's bytes, at most 65,536 at a time, broken off anywhere, and stores the
-/// last value of each node. Lent to be read: bytes; to be written: state, table. Go on with the
-/// count that comes back.
+/// last value of each node, with origin 0. Lent to be read: bytes; to be written: state, table. Go
+/// on with the count that comes back.
 ///
 /// Refused: 8, 7, 14.
 pub fn feed(state: &mut [u8], table: &mut [u8], count: usize, bytes: &[u8]) -> WingFed {
@@ -539,7 +541,7 @@ pub fn feed(state: &mut [u8], table: &mut [u8], count: usize, bytes: &[u8]) -> W
     }
 }
 
-/// Sets a node: stores the value and writes the order to send (at most 18 bytes).
+/// Sets a node: stores the value, with origin 1, and writes the order to send (at most 18 bytes).
 /// Lent to be written: table, out.
 ///
 /// Refused: 7, 6, 9.
@@ -580,7 +582,9 @@ pub fn set_string(table: &mut [u8], count: usize, out: &mut [u8], id: i32, value
 }
 
 /// Writes what sets a console to every record: df d1, then the set order of each in order (at most
-/// 2 bytes, and 395 for each record). Lent to be read: table; to be written: out.
+/// 2 bytes, and 395 for each record). Origins are not carried: a fresh mirror that is fed these
+/// bytes, in places enough, has the same records with origin 0 each. Lent to be read: table; to be
+/// written: out.
 ///
 /// Refused: 7, 9.
 pub fn recall(table: &[u8], count: usize, out: &mut [u8]) -> WingWritten {
@@ -598,8 +602,8 @@ pub fn lookup(table: &[u8], count: usize, id: i32) -> WingLookup {
     unsafe { library::wing_lookup(table.as_ptr(), table.len(), count, id) }
 }
 
-/// A record by its number, from 0; they stand in rising order of their signed ids. Lent to be read:
-/// table.
+/// A record by its number, from 0, with its origin; they stand in rising order of their signed ids.
+/// Lent to be read: table.
 ///
 /// Refused: 7, 14.
 pub fn record(table: &[u8], count: usize, number: usize) -> WingRecord {
@@ -608,8 +612,8 @@ pub fn record(table: &[u8], count: usize, number: usize) -> WingRecord {
     unsafe { library::wing_record(table.as_ptr(), table.len(), count, number) }
 }
 
-/// 1 if two mirrors are equal, count and records, else 0; the places and the decoders do not
-/// matter. Lent to be read: a, b.
+/// 1 if two mirrors are equal, count and records, origins included, else 0; the places and the
+/// decoders do not matter. Lent to be read: a, b.
 ///
 /// Refused: 7 (for either).
 pub fn same(a: &[u8], count_a: usize, b: &[u8], count_b: usize) -> i32 {
@@ -620,7 +624,7 @@ pub fn same(a: &[u8], count_a: usize, b: &[u8], count_b: usize) -> i32 {
 
 /// Prints the records: a line `id,kind,value`, then one for each in order, its id in decimal, its kind (i, f or s)
 /// and its value in decimal, in eight hex digits or in hex pairs (at most 14 bytes, and 527 for each record, all
-/// ASCII). Lent to be read: table; to be written: out.
+/// ASCII). Origins are not listed. Lent to be read: table; to be written: out.
 ///
 /// Refused: 7, 9.
 pub fn print(table: &[u8], count: usize, out: &mut [u8]) -> WingWritten {
@@ -629,9 +633,10 @@ pub fn print(table: &[u8], count: usize, out: &mut [u8]) -> WingWritten {
     unsafe { library::wing_print(table.as_ptr(), table.len(), count, out.as_mut_ptr(), out.len()) }
 }
 
-/// Loads such a listing of at most 65,536 bytes into the places of a table, whatever they hold; the bytes after its
-/// records stay as they were. Go on with the count that comes back and with a fresh decoder state ([`state_fresh`]).
-/// Printed, the table gives the text again. Lent to be read: text; to be written: table.
+/// Loads such a listing of at most 65,536 bytes into the places of a table, whatever they hold, each record with
+/// origin 0; the bytes after its records stay as they were. Go on with the count that comes back and with a fresh
+/// decoder state ([`state_fresh`]). Printed, the table gives the text again. Lent to be read: text; to be written:
+/// table.
 ///
 /// Refused: 7 (by the places alone), 14; then by the first bad line 17, 18, 10, 1 (with the good); then 6.
 pub fn load(text: &[u8], table: &mut [u8]) -> WingLoaded {

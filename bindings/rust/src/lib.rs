@@ -2,13 +2,14 @@
 //!
 //! A console sends node readings down one connection. A [`Mirror`] takes these bytes as they come, broken off
 //! anywhere, and keeps the last value of each node; [`Mirror::set`] stores a value and gives the bytes to send;
-//! [`Mirror::recall`] gives the bytes that set a console to everything the mirror holds; [`Mirror::print`] lists it as a
-//! text, and [`Mirror::load`] takes such a text. The work is done by calls of a library that is proved against rules a
-//! person can read (README.md of the repository says what is proved); this crate hands slices over and turns the answers
-//! into Rust's types. Sockets, timers and threads are the box's.
+//! [`Mirror::origin`] tells whether the console or a set order gave a node its value; [`Mirror::recall`] gives the bytes
+//! that set a console to everything the mirror holds; [`Mirror::print`] lists it as a text, and [`Mirror::load`] takes
+//! such a text. The work is done by calls of a library that is proved against rules a person can read (README.md of the
+//! repository says what is proved); this crate hands slices over and turns the answers into Rust's types. Sockets, timers
+//! and threads are the box's.
 //!
 //! ```
-//! use whistleloam::{Mirror, Value};
+//! use whistleloam::{Mirror, Origin, Value};
 //!
 //! # fn main() -> Result<(), whistleloam::Refusal> {
 //! let mut mirror = Mirror::new(128)?;
@@ -22,10 +23,15 @@
 //! let order = mirror.set(7, 63)?;
 //! assert_eq!(order, [0xd7, 0, 0, 0, 7, 0x3f]);
 //!
-//! // Between two shows everything goes back. Another mirror that is fed it is equal.
+//! // Who gave a value stands beside it.
+//! assert_eq!(mirror.origin(1), Some(Origin::Console));
+//! assert_eq!(mirror.origin(7), Some(Origin::SetOrder));
+//!
+//! // Between two shows everything goes back. Another mirror that is fed it has the same values, all from the console.
 //! let mut other = Mirror::new(128)?;
 //! other.feed(&mirror.recall()?)?;
-//! assert!(mirror == other);
+//! assert!(other.records().eq(mirror.records()));
+//! assert_eq!(other.origin(7), Some(Origin::Console));
 //! # Ok(())
 //! # }
 //! ```
@@ -45,6 +51,7 @@ mod decoder;
 mod definition;
 mod fields;
 mod mirror;
+mod origin;
 #[path = "ffi.rs"]
 pub mod raw;
 mod refusal;
@@ -58,7 +65,8 @@ pub use commands::{
 pub use decoder::{Decoder, Event, Events};
 pub use definition::{Definition, Details, Item, Items, NodeType, NodeUnit};
 pub use fields::Fields;
-pub use mirror::{Counts, Mirror, Records};
+pub use mirror::{Counts, Entries, Mirror, Records};
+pub use origin::{Entry, Origin};
 pub use refusal::{LoadRefusal, Refusal};
 pub use value::Value;
 pub use window::{Figures, Window};

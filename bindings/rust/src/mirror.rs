@@ -1,11 +1,13 @@
+use crate::origin::origin_of;
 use crate::raw;
-use crate::{LoadRefusal, Refusal, Value, LINE_MAX, PLACES_MAX, PLACE_WIDTH, SET_MAX, STATE_SIZE};
+use crate::{Entry, LoadRefusal, Origin, Refusal, Value, LINE_MAX, PLACES_MAX, PLACE_WIDTH, SET_MAX, STATE_SIZE};
 use std::fmt;
 
 /// The last value of each node: a decoder state, a table of places and the number of records in it.
 ///
-/// Two mirrors are equal if their records are; places and decoders do not matter. Every call but [`Mirror::state`] and
-/// the like tests the whole table first, some 8 µs for 1,024 records, so bytes are best fed in large pieces.
+/// Two mirrors are equal if their records are, origins included; places and decoders do not matter. To set the origins
+/// aside, compare `a.records().eq(b.records())`. Every call but [`Mirror::state`] and the like tests the whole table
+/// first, some 8 µs for 1,024 records, so bytes are best fed in large pieces.
 #[derive(Clone)]
 pub struct Mirror {
     state: Box<[u8]>,
@@ -86,7 +88,8 @@ impl Mirror {
         Ok(Mirror { state: fresh_state(), table, count: 0 })
     }
 
-    /// Takes the console's bytes, broken off anywhere, and stores the last value of each node. It allocates nothing.
+    /// Takes the console's bytes, broken off anywhere, and stores the last value of each node, with [`Origin::Console`]. It
+    /// allocates nothing.
     ///
     /// What the console sends is never a reason to refuse: what cannot be stored is counted. Refused: 14, over 65,536
     /// bytes.
@@ -104,7 +107,7 @@ impl Mirror {
         })
     }
 
-    /// Stores a value and gives the bytes to send to the console. Refused: 10, 6.
+    /// Stores a value, with [`Origin::SetOrder`], and gives the bytes to send to the console. Refused: 10, 6.
     ///
     /// ```
     /// let mut mirror = whistleloam::Mirror::new(2)?;
@@ -132,7 +135,8 @@ impl Mirror {
         Ok(set.len)
     }
 
-    /// The bytes that set a console, or another mirror, to every value held here.
+    /// The bytes that set a console, or another mirror, to every value held here. They do not say who gave a value: a fresh
+    /// mirror that is fed them has the same records, each with [`Origin::Console`].
     pub fn recall(&self) -> Result<Vec<u8>, Refusal> {
         let mut out = vec![0; 2 + SET_MAX * self.count];
         let len = self.recall_into(&mut out)?;
@@ -148,7 +152,7 @@ impl Mirror {
     }
 
     /// The listing of the mirror, to be kept, read or mailed: a line `id,kind,value`, then one for each record in order.
-    /// [`load`](Mirror::load) makes an equal mirror of one of at most 65,536 bytes.
+    /// [`load`](Mirror::load) makes a mirror with the same records of one of at most 65,536 bytes. Origins are not listed.
     ///
     /// ```
     /// use whistleloam::{Mirror, Refusal};
@@ -162,12 +166,12 @@ impl Mirror {
     ///
     /// let mut other = Mirror::new(3)?;
     /// assert_eq!(other.load(&text)?, 3);
-    /// assert!(other == mirror && other.print()? == text);
+    /// assert!(other.records().eq(mirror.records()) && other.print()? == text);
     ///
     /// // The third line is not after the second.
     /// let why = other.load("id,kind,value\n7,i,1\n7,i,2\n").unwrap_err();
     /// assert_eq!((why.refusal(), why.line()), (Refusal::ID_ORDER, Some(3)));
-    /// assert!(other == mirror);
+    /// assert_eq!(other.print()?, text);
     /// # Ok::<(), Refusal>(())
     /// ```
     pub fn print(&self) -> Result<String, Refusal> {
@@ -186,8 +190,9 @@ impl Mirror {
         Ok(written.len)
     }
 
-    /// Loads a listing of at most 65,536 bytes, as [`print`](Mirror::print) gives it: its records take the place of all that
-    /// were here, and the decoder is a fresh one. How many records there are. It allocates nothing.
+    /// Loads a listing of at most 65,536 bytes, as [`print`](Mirror::print) gives it: its records, each with
+    /// [`Origin::Console`], take the place of all that were here, and the decoder is a fresh one. How many records there are.
+    /// It allocates nothing.
     ///
     /// A text that is refused changes nothing, and says which line decided. Refused: 14; then by the first bad line 17, a
     /// header or line out of form, 18, an id not above the one before, 10, 1 with what is good of the string; then 6, more
@@ -212,17 +217,57 @@ impl Mirror {
         Some(value)
     }
 
+    /// Who gave a node its last value, if there is one.
+    ///
+    /// ```
+    /// use whistleloam::{Mirror, Origin};
+    ///
+    /// let mut mirror = Mirror::new(128)?;
+    /// mirror.set(7, 63)?;
+    /// assert_eq!((mirror.origin(7), mirror.origin(8)), (Some(Origin::SetOrder), None));
+    /// // The console says the same value: now it is the console's.
+    /// mirror.feed(&[0xd7, 0, 0, 0, 7, 0x3f])?;
+    /// assert_eq!(mirror.origin(7), Some(Origin::Console));
+    /// # Ok::<(), whistleloam::Refusal>(())
+    /// ```
+    pub fn origin(&self, id: i32) -> Option<Origin> {
+        let record = raw::record(&self.table, self.count, self.lookup(id)?);
+        (record.status == 0).then(|| origin_of(record.origin))
+    }
+
     /// The record of a number, from 0: its node and value. Refused: 14.
     pub fn record(&self, number: usize) -> Result<(i32, Value), Refusal> {
+        let Entry { id, value, .. } = self.entry(number)?;
+        Ok((id, value))
+    }
+
+    /// The same with its origin. Refused: 14.
+    pub fn entry(&self, number: usize) -> Result<Entry, Refusal> {
         let record = raw::record(&self.table, self.count, number);
         Refusal::check(record.status)?;
         let value = value_of(record.kind, record.value, record.len, &record.string)?;
-        Ok((record.id, value))
+        Ok(Entry { id: record.id, value, origin: origin_of(record.origin) })
     }
 
     /// Every record, in rising order of the signed ids. Each step tests the table: a page of strips, not a hot loop.
     pub fn records(&self) -> Records<'_> {
-        Records { mirror: self, number: 0 }
+        Records(self.entries())
+    }
+
+    /// The same with the origins, as to see which strips were moved at the box.
+    ///
+    /// ```
+    /// use whistleloam::{Mirror, Origin};
+    ///
+    /// let mut mirror = Mirror::new(128)?;
+    /// mirror.feed(&[0xd7, 0, 0, 0, 1, 5])?;
+    /// mirror.set(7, 63)?;
+    /// let moved: Vec<i32> = mirror.entries().filter(|e| e.origin == Origin::SetOrder).map(|e| e.id).collect();
+    /// assert_eq!(moved, [7]);
+    /// # Ok::<(), whistleloam::Refusal>(())
+    /// ```
+    pub fn entries(&self) -> Entries<'_> {
+        Entries { mirror: self, number: 0 }
     }
 
     /// How many nodes have a value.
@@ -241,7 +286,7 @@ impl Mirror {
     }
 
     /// Everything as plain bytes, to be kept in a file: the decoder state (4,123 bytes, a half-read token in it), the
-    /// count and the places (4 bytes each, big-endian), then the records (264 bytes each: id 4, kind 1, a byte 0, length
+    /// count and the places (4 bytes each, big-endian), then the records (264 bytes each: id 4, kind 1, origin 1, length
     /// 2, payload 256).
     pub fn save(&self) -> Vec<u8> {
         let mut out = self.state.to_vec();
@@ -251,8 +296,9 @@ impl Mirror {
         out
     }
 
-    /// The mirror that was saved. Refused: 8, if the bytes do not begin with a sound state; 7, if there are too few or
-    /// too many after it or they are no sound table.
+    /// The mirror that was saved, origins included; what was saved before there were any, with a byte 0 in their place, is
+    /// the console's. Refused: 8, if the bytes do not begin with a sound state; 7, if there are too few or too many after it
+    /// or they are no sound table.
     pub fn restore(saved: &[u8]) -> Result<Mirror, Refusal> {
         let state = saved.get(..STATE_SIZE).ok_or(Refusal::STATE)?;
         Refusal::check(raw::state_check(state))?;
@@ -308,7 +354,7 @@ fn number_at(bytes: &[u8], at: usize) -> Result<usize, Refusal> {
     Ok(field.iter().fold(0, |n, &b| n << 8 | usize::from(b)))
 }
 
-/// By the library's own call: count and records.
+/// By the library's own call: count and records, origins included.
 impl PartialEq for Mirror {
     fn eq(&self, other: &Mirror) -> bool {
         raw::same(&self.table, self.count, &other.table, other.count) == 1
@@ -320,7 +366,19 @@ impl Eq for Mirror {}
 impl fmt::Debug for Mirror {
     fn fmt(&self, f: &mut fmt::Formatter) -> fmt::Result {
         write!(f, "Mirror of {} places ", self.places())?;
-        f.debug_map().entries(self.records()).finish()
+        f.debug_map().entries(self.entries().map(|e| (e.id, Told(e)))).finish()
+    }
+}
+
+/// A value in a mirror's text: two mirrors that are not equal differ there, so what a set order gave is marked.
+struct Told(Entry);
+
+impl fmt::Debug for Told {
+    fn fmt(&self, f: &mut fmt::Formatter) -> fmt::Result {
+        match self.0.origin {
+            Origin::Console => write!(f, "{:?}", self.0.value),
+            Origin::SetOrder => write!(f, "{:?} by a set order", self.0.value),
+        }
     }
 }
 
@@ -335,18 +393,36 @@ impl<'a> IntoIterator for &'a Mirror {
 
 /// The records of a mirror, one by one.
 #[derive(Clone)]
-pub struct Records<'a> {
-    mirror: &'a Mirror,
-    number: usize,
-}
+pub struct Records<'a>(Entries<'a>);
 
 impl Iterator for Records<'_> {
     type Item = (i32, Value);
 
     fn next(&mut self) -> Option<(i32, Value)> {
-        let record = self.mirror.record(self.number).ok()?;
+        self.0.next().map(|e| (e.id, e.value))
+    }
+
+    fn size_hint(&self) -> (usize, Option<usize>) {
+        self.0.size_hint()
+    }
+}
+
+impl ExactSizeIterator for Records<'_> {}
+
+/// The same with their origins.
+#[derive(Clone)]
+pub struct Entries<'a> {
+    mirror: &'a Mirror,
+    number: usize,
+}
+
+impl Iterator for Entries<'_> {
+    type Item = Entry;
+
+    fn next(&mut self) -> Option<Entry> {
+        let entry = self.mirror.entry(self.number).ok()?;
         self.number += 1;
-        Some(record)
+        Some(entry)
     }
 
     fn size_hint(&self) -> (usize, Option<usize>) {
@@ -355,4 +431,4 @@ impl Iterator for Records<'_> {
     }
 }
 
-impl ExactSizeIterator for Records<'_> {}
+impl ExactSizeIterator for Entries<'_> {}

@@ -42,6 +42,7 @@ use Rattle.wing_mirror.specs.declared.answer.Counts.{Counts}
 use Rattle.wing_mirror.specs.declared.answer.Lookup.the-variants.{Refused as LookupRefused}
 use Rattle.wing_mirror.specs.declared.answer.RecordRead.{RecordRead}
 use Rattle.wing_mirror.specs.declared.answer.Same.the-variants.{Yes, No, Refused as SameRefused}
+use Rattle.wing_mirror.specs.declared.origin.Origin.the-variants.{SetOrder}
 use Rattle.wing_mirror.proofs.Records.Full.{full-laws}
 use Rattle.wing_mirror.proofs.Records.Equals.{same-decides}
 use Rattle.wing_mirror.proofs.Records.Lookups.{read-row, lookups}
@@ -102,8 +103,8 @@ module _ (id : ℤ) (v : NodeValue) (t : Table) (out : List ℕ) where
       line sets W bytes (not (usable full t)) (alone 7) _ _ _ refl (refl, refl)
       (line sets W bytes (tooLong v) (alone 10) _ _ _ refl (refl, refl)
       (line sets W bytes (notText v) (stringNotUtf8 (textIn v)) _ _ _ refl (refl, refl)
-      (line sets W bytes (not (fits full (entry id v) t)) (alone 6) _ _ _ refl (refl, refl)
-      (line sets W bytes (ltb (length out) (length bytes)) (alone 9) _ _ _ refl (refl, refl) (taken sets W bytes (record { answer = Bytes (length bytes); out = bytes ++ drop (length bytes) out; table = put full (entry id v) t }) (ap ok (at-front bytes out)))))))
+      (line sets W bytes (not (fits full (entry id v SetOrder) t)) (alone 6) _ _ _ refl (refl, refl)
+      (line sets W bytes (ltb (length out) (length bytes)) (alone 9) _ _ _ refl (refl, refl) (taken sets W bytes (record { answer = Bytes (length bytes); out = bytes ++ drop (length bytes) out; table = put full (entry id v SetOrder) t }) (ap ok (at-front bytes out)))))))
     where
       sets : SetEffect → Result (List ℕ)
       sets x = writtenResult (x .answer) (x .out)

@@ -230,6 +230,7 @@ load-call text memory = record {
   fresh = load-fresh memory text;
   sound = λ n e. both-ways .again text memory n e .sound;
   rest = loaded-rest text memory;
+  origins = λ n e. both-ways .again text memory n e .origins;
   prints = load-prints memory text;
   same = refl;
 }

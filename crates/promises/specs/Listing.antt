@@ -3,7 +3,7 @@ use Prim.Native.Nat.{ℕ, _*_, _/_, _≤_}
 use mathlib.Core.Bool.{true, not}
 use mathlib.Core.Path.{_≡_}
 use mathlib.Core.Logic.{_⊎_, _↔_}
-use mathlib.Core.List.{List, [], _∷_, _++_}
+use mathlib.Core.List.{List, [], _∷_, _++_, map}
 use lib.Dec.{leb}
 use lib.ListN.{length, take, drop}
 use Rattle.wing_node.specs.Refusal.{goodBeside, noFault, because}
@@ -13,9 +13,11 @@ use Rattle.wing_wire.specs.State.{freshState}
 use Rattle.wing_wire.specs.Write.{writeEffect}
 use Rattle.wing_wire.specs.declared.write.Written.{Written}
 use Rattle.wing_wire.specs.declared.write.Written.the-variants.{Bytes}
-use Rattle.wing_mirror.specs.Rows.{Table, In}
-use Rattle.wing_mirror.specs.Record.{width, full}
-use Rattle.wing_mirror.specs.Table.{table, placesAllowed, usable}
+use Rattle.wing_mirror.specs.Rows.{Table, All, In}
+use Rattle.wing_mirror.specs.Entry.{Entry}
+use Rattle.wing_mirror.specs.Record.{width, entryIn, full}
+use Rattle.wing_mirror.specs.Table.{table, rows, placesAllowed, usable}
+use Rattle.wing_mirror.specs.declared.origin.Origin.the-variants.{Console}
 use Rattle.wing_listing.specs.Listing.{printed}
 use Rattle.wing_listing.specs.Reading.{Reading, good, bad, readingOf, entriesIn}
 use Rattle.wing_listing.specs.FirstBad.{FirstBad}
@@ -50,8 +52,8 @@ pub record PrintCall (t : Table) (out : List ℕ) (answer : Written) (after : Li
   -- demand 1: 7, 9; else the listing, n bytes, and the output past it as it was
   pub writes : Writes (printLines t out) (printed t) out answer after (Unit {0})
   pub counted : (n : ℕ) → answer ≡ Bytes n → n ≡ length (printed t)
-  -- 02: loading what was printed in at most 65,536 bytes, into 1 to 1,024 places and at least as many as it has records, gives an equal mirror with a
-  -- fresh decoder, whatever the memory held
+  -- 02: loading what was printed in at most 65,536 bytes, into 1 to 1,024 places and at least as many as it has records, gives an equal mirror, the
+  -- origin set aside, with a fresh decoder, whatever the memory held
   pub loads : (n : ℕ) → answer ≡ Bytes n → n ≤ 65536 → (memory : List ℕ) → placesAllowed (length memory / width) ≡ true → t .count ≤ length memory / width →
       EqualMirror t memory (loadOf (take n after) memory)
   -- it is the call that BothWays of wing_listing's specs/ speaks of
@@ -74,6 +76,8 @@ pub record LoadCall (text memory : List ℕ) (reply : LoadReply) (after : List �
   -- the table is sound, and the bytes past its last record are as they were
   pub sound : (n : ℕ) → reply .answer ≡ Records n → usable full (table after n) ≡ true
   pub rest : (n : ℕ) → reply .answer ≡ Records n → drop (width * n) after ≡ drop (width * n) memory
+  -- 02: its origins are 0
+  pub origins : (n : ℕ) → reply .answer ≡ Records n → All (λ (e : Entry). e .origin ≡ Console) (map entryIn (rows full (table after n)))
   -- 02: printing a loaded text gives its bytes again
   pub prints : (n : ℕ) → reply .answer ≡ Records n → (out : List ℕ) → length text ≤ length out →
       printOf (table after n) out ≡ writeEffect (Bytes (length text)) (text ++ drop (length text) out)

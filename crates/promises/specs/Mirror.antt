@@ -34,6 +34,7 @@ use Rattle.wing_mirror.specs.declared.answer.FeedAnswer.{FeedAnswer}
 use Rattle.wing_mirror.specs.declared.answer.Lookup.{Lookup}
 use Rattle.wing_mirror.specs.declared.answer.RecordRead.{RecordRead}
 use Rattle.wing_mirror.specs.declared.answer.Same.{Same}
+use Rattle.wing_mirror.specs.declared.origin.Origin.the-variants.{Console, SetOrder}
 use Rattle.promises.specs.Refusals.{stringWrong, noPlace, tableUnsound, stateUnsound, stringLong, numberOver}
 use Rattle.promises.specs.Lines.{Line, _gives_, by, Answers}
 use Rattle.promises.specs.Wire.{Writes, commandLines}
@@ -52,7 +53,7 @@ feedLines m bytes =
 -- a set through the mirror: the table, the string's length, its UTF-8 (02: with its good), no place, too short an output
 abbrev pub setLines : ℤ → NodeValue → Table → List ℕ → List Line
 setLines id v t out =
-    (not (usable full t) gives tableUnsound) ∷ (tooLong v gives stringLong) ∷ (notText v gives stringWrong (good (textIn v))) ∷ (not (fits full (entry id v) t) gives noPlace) ∷ commandLines (setBytes id v) out
+    (not (usable full t) gives tableUnsound) ∷ (tooLong v gives stringLong) ∷ (notText v gives stringWrong (good (textIn v))) ∷ (not (fits full (entry id v SetOrder) t) gives noPlace) ∷ commandLines (setBytes id v) out
 
 -- recall: the table, too short an output
 abbrev pub recallLines : Table → List ℕ → List Line
@@ -97,7 +98,7 @@ pub record SetCall (id : ℤ) (v : NodeValue) (t : Table) (out : List ℕ) (answ
 pub record RecallCall (t : Table) (out : List ℕ) (answer : Written) (written : List ℕ) : Type 0 where
   -- demand 1: 7, 9; else df d1 and the set bytes of each record
   pub writes : Writes (recallLines t out) (recallBytes full t) out answer written (Unit {0})
-  -- demand 3: what was written, in any split, rebuilds an equal mirror
+  -- demand 3: what was written, in any split, rebuilds an equal mirror; 02: the origin set aside
   pub rebuilds : Rebuilt full answer written t
 
 -- lookup
@@ -111,16 +112,16 @@ pub record LookupCall (t : Table) (id : ℤ) (answer : Lookup) : Type 0 where
 
 -- a record by number
 pub record RecordCall (t : Table) (number : ℕ) (reply : RecordRead) : Type 0 where
-  -- demand 1: 7, 14; else the node and value of that record
+  -- demand 1: 7, 14; else the node and value of that record; 02: and its origin
   pub result : recordResult reply ≡ by (recordLines t number) (entryIn (getD (rows full t) number []))
   -- sent back, the string's bytes are all 0
   pub zeros : (n : ℕ) → recordResult reply ≡ refused (alone n) → reply ≡ refusedRecord n
 
--- two tables: 7; else whether count and records are equal
+-- two tables: 7; else whether count and records are equal; 02: origins included
 pub record SameCall (t u : Table) (answer : Same) : Type 0 where
   pub result : sameResult answer ≡ by (sameLines t u) (sameTables full t u)
   pub equal : usable full t ≡ true → usable full u ≡ true → (sameResult answer ≡ ok true ↔ Equal full t u)
 
 -- within a feed: a value for which there is no place leaves the table as it was
 abbrev pub UnplacedStays : Type 0
-UnplacedStays = (node : ℤ) (v : NodeValue) (k : TableTally) → fits full (entry node v) (k .table) ≡ false → keepEvent full node (value v) k .table ≡ k .table
+UnplacedStays = (node : ℤ) (v : NodeValue) (k : TableTally) → fits full (entry node v Console) (k .table) ≡ false → keepEvent full node (value v) k .table ≡ k .table

@@ -19,6 +19,8 @@ ghost use Rattle.wing_meters.specs.Cases.{Case as WindowCase, cases as windowCa
 ghost use Rattle.wing_mirror.specs.Record.{full};
 ghost use Rattle.wing_mirror.specs.HighEnd.{SearchReads};
 ghost use Rattle.wing_mirror.specs.History.{Agreement, Equality, Rebuilding, Histories};
+ghost use Rattle.wing_mirror.specs.Origins.{WhoSetIt};
+ghost use Rattle.wing_mirror.specs.OlderTables.{OriginForms};
 ghost use Rattle.promises.specs.Refusals.{Numbered};
 ghost use Rattle.promises.specs.Node.{Walks, Goods};
 ghost use Rattle.promises.specs.Wire.{withEvent, listed, PiecesJoin};
@@ -96,7 +98,7 @@ pub fn demand_3_until_more()
 {}
 
 // Demand 3. After any list of feed and set calls, refused ones included, a mirror has answered each call as the plain
-// machine does and holds exactly the machine's nodes with their last values.
+// machine does and holds exactly the machine's nodes with their last values and, by 02, who gave them.
 pub fn demand_3_histories()
     ensures { λ _. ⌜ Agreement full ⌝ }
 {}
@@ -106,7 +108,7 @@ pub fn demand_3_equality()
     ensures { λ _. ⌜ Equality full ⌝ }
 {}
 
-// Demand 3. What a recall says that it wrote of a mirror, in any split, rebuilds an equal mirror.
+// Demand 3. What a recall says that it wrote of a mirror, in any split, rebuilds an equal mirror, the origin set aside (02): all other bytes agree and its origins are 0.
 pub fn demand_3_recall()
     ensures { λ _. ⌜ Rebuilding full ⌝ }
 {}
@@ -115,6 +117,19 @@ pub fn demand_3_recall()
 // the bounds of the counts.
 pub fn demand_3_whole()
     ensures { λ _. ⌜ Histories full ⌝ }
+{}
+
+// Who set it (02): after any history an accepted set leaves its node with its value and origin 1; an accepted feed leaves each node that its bytes give values, and that has a record after it, with the
+// last of them and origin 0, whatever it had, and such a node has one if it had before or if a place is free after it; both leave the others as they were. A byte of each record is its origin's number; two
+// tables compare with origins included; recall sends the same of two that differ in their origins alone; and one that equals another but for origins equals it whole exactly if the other's are all 0.
+pub fn who_set_it()
+    ensures { λ _. ⌜ WhoSetIt full ⌝ }
+{}
+
+// Older tables (02): a table that was sound by 01, with 00 where the origin stands now, is sound and reads as console values, and one that was usable is taken; one with an origin over 1 gets 7; and nothing
+// else of a record's form has altered.
+pub fn origin_forms()
+    ensures { λ _. ⌜ OriginForms ⌝ }
 {}
 
 // An old decoder state carried over (02): whatever bytes a fresh old decoder and a fresh new one were fed alike, none of whose units is one of the four after a
@@ -137,8 +152,8 @@ pub fn saved_earlier()
 
 // Listings both ways (02): a text is taken exactly if it is the listing of entries that a table takes, else it is sent back for its first bad line: the header, or the
 // first line that is not printed of any entry or whose entry is wrong there; loading a table printed in at most 65,536 bytes, into 1 to 1,024 places and
-// at least as many as it has records, gives an equal mirror with a fresh decoder, whatever the memory held; and printing what was loaded gives the text again,
-// for every text that loads.
+// at least as many as it has records, gives an equal mirror, its origins 0, with a fresh decoder, whatever the memory held and whatever the origins were, which are not printed; and printing what was loaded gives the text
+// again, for every text that loads.
 pub fn listing_both_ways()
     ensures { λ _. ⌜ ListedBothWays ⌝ }
 {}

@@ -1,6 +1,8 @@
 // The calls of the mirror, each with what is promised of it as its contract. There is nothing here but the call.
+ghost use mathlib.Core.Path.{_≡_};
 ghost use Rattle.wing_node.specs.Value.{integer as integerOf, float as floatOf, string as stringOf};
 ghost use Rattle.wing_wire.specs.State.{stateOf};
+ghost use Rattle.wing_mirror.specs.Origin.{originNumber};
 ghost use Rattle.wing_mirror.specs.Table.{table as tableOf};
 ghost use Rattle.promises.specs.Mirror.{mirror as mirrorOf, FeedCall, LentFeedCall, SetCall, RecallCall, LookupCall, RecordCall, SameCall};
 use wing_mirror::answer::FeedReply;
@@ -9,6 +11,7 @@ use wing_mirror::answer::Lookup;
 use wing_mirror::answer::RecordRead;
 use wing_mirror::answer::Same;
 use wing_mirror::answer::SetReply;
+use wing_mirror::origin::Origin;
 use wing_wire::state::Control;
 use wing_wire::state::State;
 use wing_wire::write::Written;
@@ -71,4 +74,11 @@ pub fn same(a: &[u8], count_a: usize, b: &[u8], count_b: usize) -> Same
     ensures { λ r. ⌜ SameCall (tableOf (now (a .entry)) «count_a») (tableOf (now (b .entry)) «count_b») r ⌝ }
 {
     wing_mirror::query::same(a, count_a, b, count_b)
+}
+
+// 02: an origin's number, 0 for the console and 1 for a set order.
+pub fn origin_number(origin: Origin) -> u8
+    ensures { λ r. ⌜ r ≡ originNumber origin ⌝ }
+{
+    wing_mirror::origin::number(origin)
 }

@@ -9,6 +9,7 @@ use crate::show;
 use crate::show::Log;
 use crate::show::Said;
 use wing_mirror::answer;
+use wing_mirror::origin;
 use wing_mirror::query;
 use wing_mirror::recall;
 use wing_mirror::set;
@@ -137,17 +138,22 @@ pub fn send(k: Kept, memory: &mut Memory, a: Asked, s: &[u8], log: &mut Log) -> 
     into(k, memory, a, s, &mut out, log)
 }
 
-fn value(id: usize, v: Value) -> Said {
+// The origin is the last number, which the text of a record does not show.
+fn value(id: usize, v: Value, origin: usize) -> Said {
     match v {
-        Value::Integer(x) => show::three(b'I', id, show::bits(x), 0),
-        Value::Float(bits) => show::three(b'B', id, bits as usize, 0),
-        Value::String(n) => show::three(b'G', id, n as usize, 0),
+        Value::Integer(x) => show::three(b'I', id, show::bits(x), origin),
+        Value::Float(bits) => show::three(b'B', id, bits as usize, origin),
+        Value::String(n) => show::three(b'G', id, n as usize, origin),
     }
 }
 
 fn record(a: answer::RecordAnswer) -> Said {
     match a {
-        answer::RecordAnswer::Record { id, value: v } => value(show::bits(id), v),
+        answer::RecordAnswer::Record {
+            id,
+            value: v,
+            origin: o,
+        } => value(show::bits(id), v, origin::number(o) as usize),
         answer::RecordAnswer::Refused(why) => show::one(b'?', why as usize),
     }
 }
@@ -156,6 +162,17 @@ fn record(a: answer::RecordAnswer) -> Said {
 fn entry(log: &mut Log, at: usize, r: answer::RecordRead) -> usize {
     let a = r.answer;
     show::say(log, at, record(a), &r.string)
+}
+
+// The same with its origin; a refusal has none.
+fn entry_origin(log: &mut Log, at: usize, r: answer::RecordRead) -> usize {
+    let a = r.answer;
+    let s = record(a);
+    let to = show::say(log, at, s, &r.string);
+    if s.letter == b'?' {
+        return to;
+    }
+    show::tell(log, to, b'z', s.third, 0, 0, &r.string)
 }
 
 // The record of a number by itself, as the table of one place that it is: so the places of the whole are no matter.
@@ -215,7 +232,7 @@ pub fn query(letter: u8, k: Kept, memory: &[u8], a: Asked, log: &mut Log) -> usi
             let n = query::lookup(records, k.count, int(a.first));
             show::say(log, 0, found(n), records)
         }
-        b'R' => entry(log, 0, query::record(records, k.count, a.first)),
+        b'R' => entry_origin(log, 0, query::record(records, k.count, a.first)),
         _ => peek(k, memory, a.first, a.second, log),
     }
 }

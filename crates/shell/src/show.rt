@@ -219,7 +219,7 @@ pub fn say(log: &mut Log, at: usize, s: Said, source: &[u8]) -> usize {
 p pending=B|n pending=none|t token=between|c token=number T left=U value=H|\
 j token=string left=U of U|k token=body left=U of U stored=U|o store=Q|wDXZ|qRZ|mDH:|vH-Y|yHsXY|\
 Ffed U U U U U U|Nplaces U|Ccount U|Hheld U|Ppoked|Tsent NQ V|RP V|DU records T|IS,i,S|BS,f,H|\
-GS,s,X|Aat U|LQ|Wwrote NQ V|Oother NQ|Kloaded U|JP line U|Vprinted NQ V|\
+GS,s,X|z origin U|Aat U|LQ|Wwrote NQ V|Oother NQ|Kloaded U|JP line U|Vprinted NQ V|\
 Mwindow U|Yheld U sum S mean S rest U top S|Zrows U |Q T|Swidth U held U next U top U sum U levels |hheld|E?|#W|X? W",
         s.letter,
     );

@@ -3,11 +3,14 @@ use Prim.Native.Nat.{ℕ, suc, _-_, _≤_}
 use mathlib.Core.Path.{_≡_, refl, ap}
 use mathlib.Core.List.{List}
 use native.Mathlib.Omega.{arith}
+use lib.Dec.{eqb}
 use lib.IntN.{ℤ, negsuc}
 use borrow.Author.Tests.{ne-eqb}
+use Rattle.wing_node.specs.Bool.{if}
 use Rattle.wing_node.specs.declared.refusal.Refusal.{Refusal}
 use Rattle.wing_node.specs.declared.refusal.Refusal.the-variants.{Number, StringNotUtf8, DefinitionNotUtf8}
 use Rattle.wing_node.proofs.Numerals.Signs.{signed-unsigned}
+use Rattle.wing_node.specs.declared.value.Value.{Value}
 use Rattle.wing_node.specs.declared.value.Value.the-variants.{Integer, Float, String}
 use Rattle.wing_node.specs.declared.writer.BodyWritten.{BodyWritten}
 use Rattle.wing_node.specs.declared.writer.BodyWritten.the-variants.{Bytes as BodyBytes, Refused as BodyRefused}
@@ -28,11 +31,14 @@ use Rattle.wing_mirror.specs.declared.answer.RecordAnswer.{RecordAnswer}
 use Rattle.wing_mirror.specs.declared.answer.RecordAnswer.the-variants.{Record, Refused as RecordRefused}
 use Rattle.wing_mirror.specs.declared.answer.Same.{Same}
 use Rattle.wing_mirror.specs.declared.answer.Same.the-variants.{Yes, No, Refused as SameRefused}
+use Rattle.wing_mirror.specs.declared.origin.Origin.{Origin}
+use Rattle.wing_mirror.specs.declared.origin.Origin.the-variants.{Console, SetOrder}
+use Rattle.wing_mirror.specs.Origin.{originNumber}
 use Rattle.wing_listing.specs.Calls.{loadOf}
 use Rattle.wing_listing.specs.declared.answer.Loaded.{Loaded}
 use Rattle.wing_listing.specs.declared.answer.Loaded.the-variants.{Records, Refused as LoadRefused}
 use Rattle.wing_c.specs.Numbers.{minus, sentBack, writtenNumbers, bodyNumbers, setNumbers, feedStatus, fedNumbers, lookupNumbers, sameNumber, recordNumbers, eventNumbers, requestedNumbers, metersNumbers, loadedNumbers}
-use Rattle.wing_c.specs.Meanings.{byStatusAndGood, writtenIn, bodyIn, setIn, feedAnswerIn, countsIn, lookupIn, sameIn, valueIn, recordIn, kindIn, answerIn, requestedIn, metersIn, loadedIn}
+use Rattle.wing_c.specs.Meanings.{byStatusAndGood, writtenIn, bodyIn, setIn, feedAnswerIn, countsIn, lookupIn, sameIn, valueIn, originIn, recordIn, kindIn, answerIn, requestedIn, metersIn, loadedIn}
 use Rattle.wing_c.specs.Meanings.{OfRefusal, OfWritten, OfBody, OfFeed, OfLookup, OfSame, OfRecord, OfNext, OfRequested, OfMeters, OfLoaded, NextBeside, NumbersSay}
 use Rattle.wing_c.proofs.Listed.{load-told}
 
@@ -92,18 +98,30 @@ same Yes h = refl
 same No h = refl
 same (SameRefused n) h = rw (below n h) (ap SameRefused (again n h))
 
+-- an origin's number says it
+origin : (o : Origin) → if (eqb (originNumber o) 0) Console SetOrder ≡ o
+unfolding originNumber
+origin Console = refl
+origin SetOrder = refl
+
 read : (a : RecordAnswer) (s : List ℕ) → OfRecord a → recordIn (recordNumbers a s) ≡ a
-unfolding recordIn valueIn
-read (Record id (Integer x)) s h = ap (λ (y : ℤ). Record id (Integer y)) (signed-unsigned 31 x h)
-read (Record id (Float bits)) s h = refl
-read (Record id (String n)) s h = refl
+unfolding recordIn valueIn originIn
+read (Record id (Integer x) o) s h = rw (origin o) (ap (λ (y : ℤ). Record id (Integer y) o) (signed-unsigned 31 x h))
+read (Record id (Float bits) o) s h = ap (Record id (Float bits)) (origin o)
+read (Record id (String n) o) s h = ap (Record id (String n)) (origin o)
 read (RecordRefused n) s h = rw (below n h) (ap RecordRefused (again n h))
 
 read-beside : (a : RecordAnswer) (s : List ℕ) → recordNumbers a s .string ≡ s
-read-beside (Record id (Integer x)) s = refl
-read-beside (Record id (Float bits)) s = refl
-read-beside (Record id (String n)) s = refl
+read-beside (Record id (Integer x) o) s = refl
+read-beside (Record id (Float bits) o) s = refl
+read-beside (Record id (String n) o) s = refl
 read-beside (RecordRefused n) s = refl
+
+read-origin : (id : ℤ) (v : Value) (s : List ℕ) → (recordNumbers (Record id v Console) s .origin ≡ 0) × (recordNumbers (Record id v SetOrder) s .origin ≡ 1)
+unfolding originNumber
+read-origin id (Integer x) s = (refl, refl)
+read-origin id (Float bits) s = (refl, refl)
+read-origin id (String n) s = (refl, refl)
 
 next : (a : Answer) (node : ℤ) (taken : ℕ) → OfNext a → answerIn (eventNumbers a node taken) ≡ a
 unfolding answerIn kindIn
@@ -152,6 +170,7 @@ numbers-say =
       lookup = lookup;
       same = same;
       read = read;
+      read-origin = read-origin;
       read-beside = read-beside;
       next = next;
       next-beside = next-beside;
@@ -166,7 +185,7 @@ numbers-say =
         body = refl;
         set = λ count. refl;
         lookup = refl;
-        read = λ s. (refl, refl, refl, refl);
+        read = λ s. (refl, refl, refl, refl, refl);
         next = λ node taken. (refl, refl, refl);
         requested = (refl, refl);
         meters = (refl, refl);
@@ -177,9 +196,9 @@ numbers-say =
         body = λ n. refl;
         set = λ n count. refl;
         none = refl;
-        integer = λ id x s. refl;
-        float = λ id bits s. refl;
-        string = λ id n s. refl;
+        integer = λ id x o s. refl;
+        float = λ id bits o s. refl;
+        string = λ id n o s. refl;
         next-more = λ node taken. (refl, refl, refl, refl);
         next-integer = λ x node taken. (refl, refl);
         next-float = λ bits node taken. (refl, refl);

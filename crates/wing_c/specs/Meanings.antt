@@ -31,6 +31,8 @@ use Rattle.wing_mirror.specs.declared.answer.RecordAnswer.{RecordAnswer}
 use Rattle.wing_mirror.specs.declared.answer.RecordAnswer.the-variants.{Record, Refused as RecordRefused}
 use Rattle.wing_mirror.specs.declared.answer.Same.{Same}
 use Rattle.wing_mirror.specs.declared.answer.Same.the-variants.{Yes, No, Refused as SameRefused}
+use Rattle.wing_mirror.specs.declared.origin.Origin.{Origin}
+use Rattle.wing_mirror.specs.declared.origin.Origin.the-variants.{Console, SetOrder}
 use Rattle.wing_listing.specs.Calls.{loadOf}
 use Rattle.wing_listing.specs.declared.answer.Loaded.{Loaded}
 use Rattle.wing_listing.specs.declared.answer.Loaded.the-variants.{Records, Refused as LoadRefused}
@@ -100,9 +102,13 @@ sameIn z = byStatus z SameRefused (λ s. if (eqb s 1) Yes No)
 unfoldable pub valueIn : WingRecord → Value
 valueIn r = if (eqb (r .kind) 0) (Integer (signed 31 (r .value))) (if (eqb (r .kind) 1) (Float (r .value)) (String (r .len)))
 
--- a record: its node and its value
+-- who gave it its value: 0 the console, 1 a set order; no other number comes (`read-origin`)
+unfoldable pub originIn : WingRecord → Origin
+originIn r = if (eqb (r .origin) 0) Console SetOrder
+
+-- a record: its node, its value and its origin
 unfoldable pub recordIn : WingRecord → RecordAnswer
-recordIn r = byStatus (r .status) RecordRefused (λ _. Record (r .id) (valueIn r))
+recordIn r = byStatus (r .status) RecordRefused (λ _. Record (r .id) (valueIn r) (originIn r))
 
 -- an event by its kind: 0 an integer, 1 a float, 2 a string, 3 a body, 4 the end of an answer
 unfoldable pub kindIn : WingEvent → Answer
@@ -170,7 +176,7 @@ OfValue (String n) = Unit {0}
 
 -- of a record
 abbrev pub OfRecord : RecordAnswer → Type 0
-OfRecord (Record id v) = OfValue v
+OfRecord (Record id v origin) = OfValue v
 OfRecord (RecordRefused n) = 1 ≤ n
 
 -- of a next call
@@ -225,7 +231,7 @@ pub record RefusedZero (n : ℕ) (why : Refusal) : Type 0 where
   pub body : bodyNumbers (BodyRefused why) .len ≡ 0
   pub set : (count : ℕ) → setNumbers (Refused why) count .len ≡ 0
   pub lookup : lookupNumbers (LookupRefused n) .number ≡ 0
-  pub read : (s : List ℕ) → let r = recordNumbers (RecordRefused n) s in (r .id ≡ pos 0) × (r .value ≡ 0) × (r .len ≡ 0) × (r .kind ≡ 0)
+  pub read : (s : List ℕ) → let r = recordNumbers (RecordRefused n) s in (r .id ≡ pos 0) × (r .value ≡ 0) × (r .len ≡ 0) × (r .kind ≡ 0) × (r .origin ≡ 0)
   pub next : (node : ℤ) (taken : ℕ) → let r = eventNumbers (NextRefused why) node taken in (r .value ≡ 0) × (r .len ≡ 0) × (r .kind ≡ 0)
   pub requested : (requestedNumbers (RequestRefused n) .id ≡ 0) × (requestedNumbers (RequestRefused n) .len ≡ 0)
   pub meters : (metersNumbers (ReadRefused n) .id ≡ 0) × (metersNumbers (ReadRefused n) .count ≡ 0)
@@ -238,9 +244,9 @@ pub record OtherZero : Type 0 where
   pub body : (n : ℕ) → bodyNumbers (BodyBytes n) .good ≡ 0
   pub set : (n count : ℕ) → setNumbers (Bytes n) count .good ≡ 0
   pub none : lookupNumbers None .number ≡ 0
-  pub integer : (id x : ℤ) (s : List ℕ) → recordNumbers (Record id (Integer x)) s .len ≡ 0
-  pub float : (id : ℤ) (bits : ℕ) (s : List ℕ) → recordNumbers (Record id (Float bits)) s .len ≡ 0
-  pub string : (id : ℤ) (n : ℕ) (s : List ℕ) → recordNumbers (Record id (String n)) s .value ≡ 0
+  pub integer : (id x : ℤ) (origin : Origin) (s : List ℕ) → recordNumbers (Record id (Integer x) origin) s .len ≡ 0
+  pub float : (id : ℤ) (bits : ℕ) (origin : Origin) (s : List ℕ) → recordNumbers (Record id (Float bits) origin) s .len ≡ 0
+  pub string : (id : ℤ) (n : ℕ) (origin : Origin) (s : List ℕ) → recordNumbers (Record id (String n) origin) s .value ≡ 0
   pub next-more : (node : ℤ) (taken : ℕ) → let r = eventNumbers More node taken in (r .good ≡ 0) × (r .value ≡ 0) × (r .len ≡ 0) × (r .kind ≡ 0)
   pub next-integer : (x node : ℤ) (taken : ℕ) → let r = eventNumbers (IntegerAt x) node taken in (r .good ≡ 0) × (r .len ≡ 0)
   pub next-float : (bits : ℕ) (node : ℤ) (taken : ℕ) → let r = eventNumbers (FloatAt bits) node taken in (r .good ≡ 0) × (r .len ≡ 0)
@@ -261,6 +267,8 @@ pub record NumbersSay : Type 0 where
   pub lookup : (l : Lookup) → OfLookup l → lookupIn (lookupNumbers l) ≡ l
   pub same : (s : Same) → OfSame s → sameIn (sameNumber s) ≡ s
   pub read : (a : RecordAnswer) (s : List ℕ) → OfRecord a → recordIn (recordNumbers a s) ≡ a
+  -- 02: an origin is 0 for the console and 1 for a set order, and no other number
+  pub read-origin : (id : ℤ) (v : Value) (s : List ℕ) → (recordNumbers (Record id v Console) s .origin ≡ 0) × (recordNumbers (Record id v SetOrder) s .origin ≡ 1)
   -- whatever is read, the bytes of a string stand beside it
   pub read-beside : (a : RecordAnswer) (s : List ℕ) → recordNumbers a s .string ≡ s
   pub next : (a : Answer) (node : ℤ) (taken : ℕ) → OfNext a → answerIn (eventNumbers a node taken) ≡ a

@@ -29,6 +29,7 @@ use Rattle.wing_mirror.specs.declared.answer.RecordAnswer.{RecordAnswer}
 use Rattle.wing_mirror.specs.declared.answer.RecordAnswer.the-variants.{Record, Refused as RecordRefused}
 use Rattle.wing_mirror.specs.declared.answer.Same.{Same}
 use Rattle.wing_mirror.specs.declared.answer.Same.the-variants.{Yes, No, Refused as SameRefused}
+use Rattle.wing_mirror.specs.Origin.{originNumber}
 use Rattle.wing_listing.specs.declared.answer.Loaded.{Loaded}
 use Rattle.wing_listing.specs.declared.answer.Loaded.the-variants.{Records, Refused as LoadRefused}
 use Rattle.wing_c.specs.declared.answers.Outcome.{Outcome}
@@ -108,16 +109,16 @@ sameNumber Yes = pos 1
 sameNumber No = pos 0
 sameNumber (SameRefused n) = minus n
 
--- a record that holds an integer, float bits or a string. 01's kinds: 0 integer, 1 float, 2 string
-abbrev pub heldNumbers : ℤ → Value → List ℕ → WingRecord
-heldNumbers id (Integer x) s = record { status = pos 0; id = id; value = unsigned 31 x; len = 0; kind = 0; string = s }
-heldNumbers id (Float bits) s = record { status = pos 0; id = id; value = bits; len = 0; kind = 1; string = s }
-heldNumbers id (String n) s = record { status = pos 0; id = id; value = 0; len = n; kind = 2; string = s }
+-- a record that holds an integer, float bits or a string, and its origin by number. 01's kinds: 0 integer, 1 float, 2 string
+abbrev pub heldNumbers : ℤ → Value → ℕ → List ℕ → WingRecord
+heldNumbers id (Integer x) o s = record { status = pos 0; id = id; value = unsigned 31 x; len = 0; kind = 0; origin = o; string = s }
+heldNumbers id (Float bits) o s = record { status = pos 0; id = id; value = bits; len = 0; kind = 1; origin = o; string = s }
+heldNumbers id (String n) o s = record { status = pos 0; id = id; value = 0; len = n; kind = 2; origin = o; string = s }
 
--- a record read: 0, its id, its value and the bytes of a string, zero-filled
+-- a record read: 0, its id, its value, its origin and the bytes of a string, zero-filled. 02's origins: 0 console, 1 set order
 abbrev pub recordNumbers : RecordAnswer → List ℕ → WingRecord
-recordNumbers (Record id v) s = heldNumbers id v s
-recordNumbers (RecordRefused n) s = record { status = minus n; id = pos 0; value = 0; len = 0; kind = 0; string = s }
+recordNumbers (Record id v origin) s = heldNumbers id v (originNumber origin) s
+recordNumbers (RecordRefused n) s = record { status = minus n; id = pos 0; value = 0; len = 0; kind = 0; origin = 0; string = s }
 
 -- an event that was read, at the current node: 1, its kind, the 32 bits of a number or how many bytes a string or a body has
 abbrev pub eventAs : ℕ → ℕ → ℕ → ℤ → ℕ → WingEvent

@@ -12,6 +12,7 @@ use wing_mirror::answer::Lookup;
 use wing_mirror::answer::RecordAnswer;
 use wing_mirror::answer::RecordRead;
 use wing_mirror::answer::Same;
+use wing_mirror::origin;
 use wing_node::field::of_i32;
 use wing_node::refusal::Refusal;
 use wing_node::refusal::number;
@@ -65,7 +66,8 @@ pub struct WingLookup {
     pub number: usize,
 }
 
-// A record: 0, its id, its kind (0 integer, 1 float, 2 string), the 32 bits of a number, or a string's length and bytes.
+// A record: 0, its id, its kind (0 integer, 1 float, 2 string), the 32 bits of a number, or a string's length and bytes; 02: and its
+// origin (0 console, 1 set order).
 #[repr(C)]
 pub struct WingRecord {
     pub status: i32,
@@ -73,6 +75,7 @@ pub struct WingRecord {
     pub value: u32,
     pub len: u16,
     pub kind: u8,
+    pub origin: u8,
     pub string: [u8; 256],
 }
 
@@ -268,8 +271,8 @@ pub(crate) fn same(s: Same) -> i32
     }
 }
 
-fn record_of(id: i32, value: Value, string: [u8; 256]) -> WingRecord
-    ensures { λ r. ⌜ r ≡ heldNumbers id value string ⌝ }
+fn record_of(id: i32, value: Value, origin: u8, string: [u8; 256]) -> WingRecord
+    ensures { λ r. ⌜ r ≡ heldNumbers id value origin string ⌝ }
 {
     match value {
         Value::Integer(x) => WingRecord {
@@ -278,6 +281,7 @@ fn record_of(id: i32, value: Value, string: [u8; 256]) -> WingRecord
             value: of_i32(x),
             len: 0,
             kind: 0,
+            origin: origin,
             string: string,
         },
         Value::Float(bits) => WingRecord {
@@ -286,6 +290,7 @@ fn record_of(id: i32, value: Value, string: [u8; 256]) -> WingRecord
             value: bits,
             len: 0,
             kind: 1,
+            origin: origin,
             string: string,
         },
         Value::String(n) => WingRecord {
@@ -294,6 +299,7 @@ fn record_of(id: i32, value: Value, string: [u8; 256]) -> WingRecord
             value: 0,
             len: n,
             kind: 2,
+            origin: origin,
             string: string,
         },
     }
@@ -305,13 +311,16 @@ pub(crate) fn record(r: RecordRead) -> WingRecord
     let a = r.answer;
     let string = r.string;
     match a {
-        RecordAnswer::Record { id, value } => record_of(id, value, string),
+        RecordAnswer::Record { id, value, origin } => {
+            record_of(id, value, origin::number(origin), string)
+        }
         RecordAnswer::Refused(why) => WingRecord {
             status: minus(why),
             id: 0,
             value: 0,
             len: 0,
             kind: 0,
+            origin: 0,
             string: string,
         },
     }

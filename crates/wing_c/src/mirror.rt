@@ -157,7 +157,7 @@ pub extern "C" fn wing_lookup(table: &[u8], count: usize, id: i32) -> WingLookup
     answers::found(query::lookup(table, count, id))
 }
 
-// 01: a record is read by number, from 0. 7, 14.
+// 01: a record is read by number, from 0; 02: with its origin. 7, 14.
 #[no_mangle]
 pub extern "C" fn wing_record(table: &[u8], count: usize, number: usize) -> WingRecord
     ensures { λ r. ⌜ r ≡ recordNumbers (recordAnswer full (tableOf (now (table .entry)) count) number .answer) (recordAnswer full (tableOf (now (table .entry)) count) number .string) ⌝ }
@@ -165,7 +165,7 @@ pub extern "C" fn wing_record(table: &[u8], count: usize, number: usize) -> Wing
     answers::record(query::record(table, count, number))
 }
 
-// 01: 1 if count and records are equal, else 0. 7.
+// 01: 1 if count and records are equal, 02: origins included, else 0. 7.
 #[no_mangle]
 pub extern "C" fn wing_same(a: &[u8], count_a: usize, b: &[u8], count_b: usize) -> i32
     ensures { λ r. ⌜ r ≡ sameNumber (sameAnswer full (tableOf (now (a .entry)) «count_a») (tableOf (now (b .entry)) «count_b»)) ⌝ }

@@ -8,6 +8,7 @@ use Rattle.wing_node.specs.Refusal.{refusalNumber, goodBeside}
 use Rattle.wing_node.specs.Value.{integer, float, string}
 use Rattle.wing_mirror.specs.Rows.{Found, found, nothing}
 use Rattle.wing_mirror.specs.Entry.{Entry, entry}
+use Rattle.wing_mirror.specs.declared.origin.Origin.the-variants.{Console, SetOrder}
 use Rattle.wing_listing.specs.Listing.{listingOf}
 use Rattle.wing_listing.specs.Reading.{lineFault}
 
@@ -36,8 +37,8 @@ wrong before line why g = record { got = faultNumbers (lineFault before line); w
 -- each text in ASCII
 unfoldable pub cases : List Case
 cases =
-    -- 01: id,kind,value; -2,f,3f800000; 1,i,5; 2,s,4142
-    lists (entry (negsuc 1) (float 0x3f800000) ∷ entry (pos 1) (integer (pos 5)) ∷ entry (pos 2) (string (0x41 ∷ 0x42 ∷ [])) ∷ [])
+    -- 01: id,kind,value; -2,f,3f800000; 1,i,5; 2,s,4142. 02: an origin is not listed
+    lists (entry (negsuc 1) (float 0x3f800000) Console ∷ entry (pos 1) (integer (pos 5)) SetOrder ∷ entry (pos 2) (string (0x41 ∷ 0x42 ∷ [])) Console ∷ [])
     (0x69 ∷ 0x64 ∷ 0x2c ∷ 0x6b ∷ 0x69 ∷ 0x6e ∷ 0x64 ∷ 0x2c ∷ 0x76 ∷ 0x61 ∷ 0x6c ∷ 0x75 ∷ 0x65 ∷ 0x0a ∷ 0x2d ∷ 0x32 ∷ 0x2c ∷ 0x66 ∷ 0x2c ∷ 0x33 ∷ 0x66 ∷ 0x38 ∷ 0x30 ∷ 0x30 ∷ 0x30 ∷ 0x30 ∷ 0x30 ∷ 0x0a ∷ 0x31 ∷ 0x2c ∷ 0x69 ∷ 0x2c ∷ 0x35 ∷ 0x0a ∷ 0x32 ∷ 0x2c ∷ 0x73 ∷ 0x2c ∷ 0x34 ∷ 0x31 ∷ 0x34 ∷ 0x32 ∷ 0x0a ∷ []) ∷
     -- 1,i,2147483647: the largest integer
     fine nothing (0x31 ∷ 0x2c ∷ 0x69 ∷ 0x2c ∷ 0x32 ∷ 0x31 ∷ 0x34 ∷ 0x37 ∷ 0x34 ∷ 0x38 ∷ 0x33 ∷ 0x36 ∷ 0x34 ∷ 0x37 ∷ []) ∷

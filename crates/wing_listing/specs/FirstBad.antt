@@ -17,6 +17,7 @@ use Rattle.wing_mirror.specs.Rows.{Found, found, nothing, All}
 use Rattle.wing_mirror.specs.Entry.{Entry, Typed, ids, risingIds}
 use Rattle.wing_mirror.specs.Layout.{ValidEntry}
 use Rattle.wing_mirror.specs.Record.{full}
+use Rattle.wing_mirror.specs.declared.origin.Origin.the-variants.{Console}
 use Rattle.wing_listing.specs.Parts.{ended}
 use Rattle.wing_listing.specs.Listing.{header, lineOf, listingOf}
 use Rattle.wing_listing.specs.Reading.{above, valueFault}
@@ -39,11 +40,12 @@ pub record PrintedLine (line : List ℕ) : Type 0 where
   pub printable : Printable e
   pub prints : lineOf e ≡ line
 
--- entries that a table takes, in rising order of their ids
+-- entries that a table takes, in rising order of their ids, all with origin 0
 pub record TakenEntries (es : List Entry) : Type 0 where
   pub valid : All (ValidEntry full) es
   pub bytes : All (λ (e : Entry). Bytewise (e .value)) es
   pub rises : risingIds (ids es) ≡ true
+  pub origins : All (λ (e : Entry). e .origin ≡ Console) es
 
 -- the last id of entries, or one before them
 unfoldable pub lastId : Found ℤ → List Entry → Found ℤ

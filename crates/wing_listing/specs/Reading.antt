@@ -18,6 +18,7 @@ use Rattle.wing_mirror.specs.Rows.{Found, found, nothing}
 use Rattle.wing_mirror.specs.Entry.{Entry, entry}
 use Rattle.wing_mirror.specs.Call.{textIn, tooLong, notText}
 use Rattle.wing_mirror.specs.Query.{sameBytes}
+use Rattle.wing_mirror.specs.declared.origin.Origin.the-variants.{Console}
 use Rattle.wing_listing.specs.Parts.{newline, comma, parted, part}
 use Rattle.wing_listing.specs.Integers.{isInteger, first}
 use Rattle.wing_listing.specs.Hex.{arePairs, fromPairs}
@@ -44,9 +45,9 @@ isLine line =
 abbrev pub idSaid : List ℕ → ℤ
 idSaid line = integerOf (part comma 0 line)
 
--- the entry that it says
+-- the entry that it says; 02: a loaded listing's origins are 0
 unfoldable pub entrySaid : List ℕ → Entry
-entrySaid line = entry (idSaid line) (valueSaid (first (part comma 1 line)) (part comma 2 line))
+entrySaid line = entry (idSaid line) (valueSaid (first (part comma 1 line)) (part comma 2 line)) Console
 
 -- 02: above the id before, if there is one
 unfoldable pub above : Found ℤ → ℤ → Bool

@@ -46,7 +46,7 @@ fn lay_said(out: &mut [u8], kind: u8, s: &[u8])
     }
 }
 
-// A line as a record.
+// A line as a record. 02: its origin is one of the zeros, the console's.
 pub(crate) fn lay_line(out: &mut [u8], s: &[u8])
     requires { ⌜ (length (now out) ≡ width) × (isLine (now s) ≡ true) × (valueFault (entrySaid (now s) .value) ≡ noFault) ⌝ }
     ensures { λ _. ⌜ now (out .exit) ≡ recordOf (entrySaid (now (s .entry))) ⌝ }

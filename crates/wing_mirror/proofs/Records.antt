@@ -10,6 +10,7 @@ pub mod Equals
 pub mod Trips
 pub mod Ids
 pub mod Full
+pub mod Before
 pub mod Entries
 pub mod Lookups
 pub mod Searches

@@ -24,9 +24,9 @@ lookupResult (At n) = ok (found n)
 lookupResult None = ok nothing
 lookupResult (LookupRefused n) = refused (alone n)
 
--- 01: a record is read by number: its node and value, with the bytes of a string beside the answer
+-- 01: a record is read by number: its node, value and (02) origin, with the bytes of a string beside the answer
 unfoldable pub entryResult : RecordAnswer → List ℕ → Result Entry
-entryResult (Record id v) string = ok (entry id (nodeValue v string))
+entryResult (Record id v origin) string = ok (entry id (nodeValue v string) origin)
 entryResult (RecordRefused n) string = refused (alone n)
 
 -- the same of the whole reply

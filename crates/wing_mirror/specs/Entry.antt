@@ -1,4 +1,4 @@
--- An entry: a node and its value; and where it stands in the order of signed ids.
+-- An entry: a node, its value and who gave it; and where it stands in the order of signed ids.
 use Prim.Native.Nat.{ℕ, _+_, _-_, _^_, _<_}
 use mathlib.Core.Bool.{Bool, true, false}
 use mathlib.Core.List.{List, [], _∷_, map}
@@ -10,15 +10,22 @@ use Rattle.wing_node.specs.Bool.{if}
 use Rattle.wing_node.specs.Signed.{unsigned, InBits}
 use Rattle.wing_node.specs.Utf8.{utf8}
 use Rattle.wing_node.specs.Value.{NodeValue, integer, float, string}
+use Rattle.wing_mirror.specs.declared.origin.Origin.{Origin}
+use Rattle.wing_mirror.specs.declared.origin.Origin.the-variants.{Console}
 
--- a node and its value
+-- a node, its value and, by 02, who gave it
 pub record Entry : Type 0 where
   pub id : ℤ
   pub value : NodeValue
+  pub origin : Origin
 
--- an entry by its node and value
-abbrev pub entry : ℤ → NodeValue → Entry
-entry id value = record { id = id; value = value }
+-- an entry by its node, value and origin
+abbrev pub entry : ℤ → NodeValue → Origin → Entry
+entry id value origin = record { id = id; value = value; origin = origin }
+
+-- 02: the origin set aside: the same node and value, from the console
+abbrev pub fromConsole : Entry → Entry
+fromConsole e = entry (e .id) (e .value) Console
 
 -- 01: a string of at most 256 bytes, UTF-8; every number
 unfoldable pub storable : NodeValue → Bool

@@ -15,7 +15,7 @@ use Rattle.wing_node.specs.Refusal.{alone}
 use Rattle.wing_node.specs.Bytes.{joined}
 use Rattle.wing_mirror.specs.Rows.{Table, All, places, insert, In}
 use Rattle.wing_mirror.specs.Entry.{Entry, risingIds, ids, rankOf}
-use Rattle.wing_mirror.specs.Layout.{Layout}
+use Rattle.wing_mirror.specs.Layout.{Layout, originCleared}
 use Rattle.wing_mirror.specs.Table.{table, rows, every, soundTable, placesAllowed}
 use Rattle.wing_mirror.specs.Recall.{recallBytes, recallOf}
 use Rattle.wing_mirror.specs.Query.{sameAnswer}
@@ -56,7 +56,7 @@ unfoldable pub inOrder : List Entry → List Entry
 inOrder [] = []
 inOrder (e ∷ m) = insert rank e (inOrder m)
 
--- two maps hold the same nodes with the same values
+-- two maps hold the same nodes with the same values and, by 02, the same origins
 abbrev pub SameMap : List Entry → List Entry → Type 0
 SameMap m n = (e : Entry) → (In e m ↔ In e n)
 
@@ -104,7 +104,7 @@ module _ (L : Layout) where
 
   -- ---- what is said of it
 
-  -- the same outcomes in order (acceptance, numbers, counts, written bytes); the machine's nodes in rising id order with their last values
+  -- the same outcomes in order (acceptance, numbers, counts, written bytes); the machine's nodes in rising id order with their last values and origins
   -- as records; and all bytes after the last record as they were at first
   pub record Agree (buffer : List ℕ) (x : History Mirror) (y : History Machine) : Type 0 where
     pub outcomes : x .outcomes ≡ y .outcomes
@@ -115,10 +115,15 @@ module _ (L : Layout) where
     pub rest : drop (width * length (y .state .map)) (x .state .table .buffer) ≡ drop (width * length (y .state .map)) buffer
     pub size : length (x .state .table .buffer) ≡ length buffer
 
-  -- 01: two mirrors are equal if count and records are
+  -- 01: two mirrors are equal if count and records are; 02: origins included
   pub record Equal (t u : Table) : Type 0 where
     pub counts : t .count ≡ u .count
     pub records : rows L t ≡ rows L u
+
+  -- 02: the origin is set aside: t's origins are 0, and all other bytes of its records are u's
+  pub record EqualButOrigins (t u : Table) : Type 0 where
+    pub counts : t .count ≡ u .count
+    pub records : rows L t ≡ map (originCleared L) (rows L u)
 
   -- ---- demand 3
 
@@ -156,11 +161,11 @@ module _ (L : Layout) where
       recallOf L t out ≡ writeOf (recallBytes L t) out
 
   -- feeds of at most 65,536 bytes each, to a fresh mirror with 1 to 1,024 places and at least as many as t has records, whose bytes join
-  -- to these, make it equal to t
+  -- to these, make it equal to t, the origin set aside
   abbrev pub RebuiltBy : List ℕ → Table → Type 0
   RebuiltBy bytes t = (buffer : List ℕ) → placesAllowed (placesIn buffer) ≡ true → t .count ≤ placesIn buffer →
       (pieces : List (List ℕ)) → All TypedCall (map feed pieces) → All (λ (p : List ℕ). length p ≤ 65536) pieces → joined pieces ≡ bytes →
-      Equal (mirrorRun buffer (map feed pieces) .state .table) t
+      EqualButOrigins (mirrorRun buffer (map feed pieces) .state .table) t
 
   -- an answer that n bytes were written, and the output after it: these n bytes do that
   abbrev pub Rebuilt : Written → List ℕ → Table → Type 0

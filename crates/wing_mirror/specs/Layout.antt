@@ -3,11 +3,12 @@ use Prim.Native.Nat.{ℕ}
 use mathlib.Core.Bool.{Bool, true}
 use mathlib.Core.Path.{_≡_}
 use mathlib.Core.List.{List}
-use lib.ListN.{length}
+use lib.ListN.{length, getD, set}
 use Rattle.wing_node.specs.Signed.{InBits}
 use Rattle.wing_node.specs.Value.{NodeValue}
 use Rattle.wing_wire.specs.Range.{AreBytes}
-use Rattle.wing_mirror.specs.Entry.{Entry, storable, Typed, rankOf}
+use Rattle.wing_mirror.specs.Origin.{originNumber}
+use Rattle.wing_mirror.specs.Entry.{Entry, fromConsole, storable, Typed, rankOf}
 use Rattle.wing_mirror.specs.declared.counts.Mark.{Mark}
 
 -- a value is kept; or it is not, and then a feed counts it by a mark and a set of it is refused by a number
@@ -28,13 +29,19 @@ pub record Layout : Type 0 where
   -- the record of an entry, and what a record says
   pub recordOf : Entry → List ℕ
   pub entryIn : List ℕ → Entry
+  -- 02: which byte of a record is its origin
+  pub originAt : ℕ
   -- a record has the form
   pub wellFormed : List ℕ → Bool
   -- which values are kept
   pub keeping : NodeValue → Keeping
 
 module _ (L : Layout) where
-  open Layout L using (width, keyOf, recordOf, entryIn, wellFormed, keeping)
+  open Layout L using (width, keyOf, recordOf, entryIn, originAt, wellFormed, keeping)
+
+  -- 02: a record with its origin 0, and all other bytes the same
+  abbrev pub originCleared : List ℕ → List ℕ
+  originCleared r = set r originAt 0
 
   -- an entry that a table takes: its value is kept; a string has at most 256 bytes and is UTF-8; id and numbers have 32 bits, as the types
   -- of the code have them
@@ -64,3 +71,7 @@ module _ (L : Layout) where
     pub valid : (r : List ℕ) → Row r → ValidEntry (entryIn r)
     -- and is the record of it
     pub back : (r : List ℕ) → Row r → recordOf (entryIn r) ≡ r
+    -- its origin is a byte of the record
+    pub origin : (e : Entry) → getD (recordOf e) originAt 0 ≡ originNumber (e .origin)
+    -- and with that byte 0 the record is that of the same node and value, from the console
+    pub cleared : (e : Entry) → originCleared (recordOf e) ≡ recordOf (fromConsole e)

@@ -1,4 +1,5 @@
 pub mod Rows
+pub mod Origin
 pub mod Entry
 pub mod Layout
 pub mod Record
@@ -20,3 +21,5 @@ pub mod Machine
 pub mod Recall
 pub mod Sending
 pub mod History
+pub mod Origins
+pub mod OlderTables

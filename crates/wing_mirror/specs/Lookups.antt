@@ -14,12 +14,14 @@ use Rattle.wing_mirror.specs.Layout.{Layout}
 use Rattle.wing_mirror.specs.Table.{usable}
 use Rattle.wing_mirror.specs.Query.{lookupAnswer, recordAnswer}
 use Rattle.wing_mirror.specs.Answers.{lookupResult, recordResult}
+use Rattle.wing_mirror.specs.declared.origin.Origin.{Origin}
 
 module _ (L : Layout) where
   -- the record of this number is there and has this id
   pub record RecordOf (t : Table) (number : ℕ) (id : ℤ) : Type 0 where
     pub value : NodeValue
-    pub read : recordResult (recordAnswer L t number) ≡ ok (entry id value)
+    pub origin : Origin
+    pub read : recordResult (recordAnswer L t number) ≡ ok (entry id value origin)
 
   -- of any table, sound or not; bytes are below 256 and ids have 32 bits, as their types say
   pub record Lookups : Type 0 where

@@ -22,6 +22,7 @@ use Rattle.wing_mirror.specs.Counts.{zeroCounts, tick, refusalMark, body
 use Rattle.wing_mirror.specs.Call.{Call, feed, set, textIn, tooLong, notText, fed, sent, Step, refuse}
 use Rattle.wing_mirror.specs.declared.answer.Counts.{Counts}
 use Rattle.wing_mirror.specs.declared.counts.Mark.the-variants.{Stored, Unplaced, Ended}
+use Rattle.wing_mirror.specs.declared.origin.Origin.the-variants.{Console, SetOrder}
 
 -- ---- the decoder
 
@@ -64,7 +65,7 @@ unfoldable pub has : ℤ → List Entry → Bool
 has id [] = false
 has id (e ∷ m) = if (sameId (e .id) id) true (has id m)
 
--- 01: puts (node, value), the newer replacing the older
+-- 01: puts (node, value), the newer replacing the older; 02: with its origin
 unfoldable pub putIn : Entry → List Entry → List Entry
 putIn e [] = e ∷ []
 putIn e (x ∷ m) = if (sameId (x .id) (e .id)) (e ∷ m) (x ∷ putIn e m)
@@ -96,12 +97,12 @@ mapTally m c = record { map = m; counts = c }
 -- which values are kept: all, by 01
 module _ (keeping : NodeValue → Keeping) where
   -- 01: counts value events put, value events not put, refusals 1, bodies the parser takes, refusals 2 to 5, ends; a value that is not kept
-  -- is only counted
+  -- is only counted. 02: origin 0 for a put by a feed
   unfoldable pub machineEvent : ℕ → ℤ → Event → MapTally → MapTally
   machineEvent places node more h = h
   machineEvent places node (value v) h =
       unlessKept (keeping v) (λ mark number. mapTally (h .map) (tick mark (h .counts)))
-      (if (room places node (h .map)) (mapTally (putIn (entry node v) (h .map)) (tick Stored (h .counts)))
+      (if (room places node (h .map)) (mapTally (putIn (entry node v Console) (h .map)) (tick Stored (h .counts)))
       (mapTally (h .map) (tick Unplaced (h .counts))))
   machineEvent places node (body b) h = mapTally (h .map) (tick (bodyMark (definitionOf b)) (h .counts))
   machineEvent places node end h = mapTally (h .map) (tick Ended (h .counts))
@@ -116,7 +117,8 @@ module _ (keeping : NodeValue → Keeping) where
   abbrev pub machineFeed : ℕ → Machine → List ℕ → MapTally
   machineFeed places s bytes = machineEvents places (events (s .decoder) bytes) (mapTally (s .map) zeroCounts)
 
-  -- 01: a feed meets 7 by the places alone, then 14; a set 7, the number of a value that is not kept, 10, 1, 6 by the map, 9, else puts
+  -- 01: a feed meets 7 by the places alone, then 14; a set 7, the number of a value that is not kept, 10, 1, 6 by the map, 9, else puts. 02: origin 1 for
+  -- a put by a set
   unfoldable pub machineStep : ℕ → Machine → Call → Step Machine
   machineStep places s (feed bytes) =
       if (not (placesAllowed places)) (refuse s (alone 7))
@@ -132,4 +134,4 @@ module _ (keeping : NodeValue → Keeping) where
       (if (notText v) (refuse s (stringNotUtf8 (textIn v)))
       (if (not (room places id (s .map))) (refuse s (alone 6))
       (if (ltb (length out) (length (setBytes id v))) (refuse s (alone 9))
-      (record { state = record { decoder = s .decoder; map = putIn (entry id v) (s .map) }; outcome = sent (setBytes id v) }))))))
+      (record { state = record { decoder = s .decoder; map = putIn (entry id v SetOrder) (s .map) }; outcome = sent (setBytes id v) }))))))

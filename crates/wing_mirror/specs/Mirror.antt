@@ -26,6 +26,7 @@ use Rattle.wing_mirror.specs.Call.{textIn, tooLong, notText}
 use Rattle.wing_mirror.specs.Counts.{zeroCounts, tick, refusalMark, bodyMark}
 use Rattle.wing_mirror.specs.declared.answer.Counts.{Counts}
 use Rattle.wing_mirror.specs.declared.counts.Mark.the-variants.{Stored, Unplaced, Ended}
+use Rattle.wing_mirror.specs.declared.origin.Origin.the-variants.{Console, SetOrder}
 use Rattle.wing_mirror.specs.declared.answer.FeedAnswer.{FeedAnswer}
 use Rattle.wing_mirror.specs.declared.answer.FeedAnswer.the-variants.{Taken, Refused as FeedRefused}
 use Rattle.wing_mirror.specs.declared.answer.FeedReply.{FeedReply}
@@ -81,12 +82,13 @@ setEffect r out buffer = record { answer = r .answer; out = out; table = table b
 module _ (L : Layout) where
   open Layout L using (keeping)
 
-  -- 01: a value is stored at its node, or has no place; a definition leaves the table alone. A value that is not kept is only counted
+  -- 01: a value is stored at its node, or has no place; a definition leaves the table alone. A value that is not kept is only counted.
+  -- 02: its origin is the console
   unfoldable pub keepEvent : ℤ → Event → TableTally → TableTally
   keepEvent node more k = k
   keepEvent node (value v) k =
       unlessKept (keeping v) (λ mark number. tableTally (k .table) (tick mark (k .counts)))
-      (if (fits L (entry node v) (k .table)) (tableTally (put L (entry node v) (k .table)) (tick Stored (k .counts)))
+      (if (fits L (entry node v Console) (k .table)) (tableTally (put L (entry node v Console) (k .table)) (tick Stored (k .counts)))
       (tableTally (k .table) (tick Unplaced (k .counts))))
   keepEvent node (body b) k = tableTally (k .table) (tick (bodyMark (definitionOf b)) (k .counts))
   keepEvent node end k = tableTally (k .table) (tick Ended (k .counts))
@@ -113,13 +115,14 @@ module _ (L : Layout) where
   unfoldable pub lentFeed : State → Table → List ℕ → FeedEffect
   lentFeed s t bytes = if (eqb (length (s .store)) bodyLimit) (mirrorFeed s t bytes) (refusedFeed 8 s t)
 
-  -- 01: set through the mirror writes the command and stores the value; 7, the number of a value that is not kept, 10, 1, 6, 9
+  -- 01: set through the mirror writes the command and stores the value; 7, the number of a value that is not kept, 10, 1, 6, 9. 02: its
+  -- origin is the set order
   unfoldable pub mirrorSet : ℤ → NodeValue → Table → List ℕ → SetEffect
   mirrorSet id v t out =
       if (not (usable L t)) (refusedSet (alone 7) t out)
       (unlessKept (keeping v) (λ mark number. refusedSet (alone number) t out)
       (if (tooLong v) (refusedSet (alone 10) t out)
       (if (notText v) (refusedSet (stringNotUtf8 (textIn v)) t out)
-      (if (not (fits L (entry id v) t)) (refusedSet (alone 6) t out)
+      (if (not (fits L (entry id v SetOrder) t)) (refusedSet (alone 6) t out)
       (if (ltb (length out) (length (setBytes id v))) (refusedSet (alone 9) t out)
-      (record { answer = Bytes (length (setBytes id v)); out = setBytes id v ++ drop (length (setBytes id v)) out; table = put L (entry id v) t }))))))
+      (record { answer = Bytes (length (setBytes id v)); out = setBytes id v ++ drop (length (setBytes id v)) out; table = put L (entry id v SetOrder) t }))))))

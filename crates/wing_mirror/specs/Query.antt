@@ -19,6 +19,7 @@ use Rattle.wing_mirror.specs.declared.answer.Lookup.the-variants.{At, No
 use Rattle.wing_mirror.specs.declared.answer.RecordAnswer.the-variants.{Record, Refused as RecordRefused}
 use Rattle.wing_mirror.specs.declared.answer.RecordRead.{RecordRead}
 use Rattle.wing_mirror.specs.declared.answer.Same.{Same}
+use Rattle.wing_mirror.specs.declared.origin.Origin.{Origin}
 use Rattle.wing_mirror.specs.declared.answer.Same.the-variants.{Yes, No, Refused as SameRefused}
 
 -- 01: an id's record number, or none
@@ -39,12 +40,12 @@ bytesBeside (float bits) = replicate 256 0
 bytesBeside (string s) = filled 256 s
 
 -- a value that is no string, with the bytes beside it all 0
-abbrev pub besideZeros : ℤ → Value → RecordRead
-besideZeros id value = record { answer = Record id value; string = replicate 256 0 }
+abbrev pub besideZeros : ℤ → Value → Origin → RecordRead
+besideZeros id value origin = record { answer = Record id value origin; string = replicate 256 0 }
 
--- 01: a record read gives id, value and string
+-- 01, 02: a record read gives id, value, origin and string
 unfoldable pub readOf : Entry → RecordRead
-readOf e = record { answer = Record (e .id) (valueOf (e .value)); string = bytesBeside (e .value) }
+readOf e = record { answer = Record (e .id) (valueOf (e .value)) (e .origin); string = bytesBeside (e .value) }
 
 -- a refused read, with the bytes beside it all 0
 abbrev pub refusedRecord : ℕ → RecordRead
@@ -75,7 +76,7 @@ module _ (L : Layout) where
   unfoldable pub recordAnswer : Table → ℕ → RecordRead
   recordAnswer t number = if (usable L t) (if (ltb number (t .count)) (readOf (entryIn (getD (rows L t) number []))) (refusedRecord 14)) (refusedRecord 7)
 
-  -- 01: two are equal if count and records are
+  -- 01: two are equal if count and records are; 02: origins included
   unfoldable pub sameTables : Table → Table → Bool
   sameTables s t = if (eqb (s .count) (t .count)) (sameRows (rows L s) (rows L t)) false
 

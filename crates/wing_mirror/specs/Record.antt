@@ -1,4 +1,5 @@
--- 01: a place is 264 bytes: id (4, signed), kind (1: 0 integer, 1 float, 2 string), 00, length (2: 4 for numbers, 0 to 256 for strings), payload (256, zero-filled).
+-- 01, 02: a place is 264 bytes: id (4, signed), kind (1: 0 integer, 1 float, 2 string), origin (1: 0 console, 1 set order), length (2: 4 for numbers,
+-- 0 to 256 for strings), payload (256, zero-filled).
 use Prim.Native.Nat.{ℕ}
 use mathlib.Core.Bool.{Bool, false}
 use mathlib.Core.List.{List, _∷_, _++_}
@@ -13,8 +14,10 @@ use Rattle.wing_node.specs.Utf8.{utf8}
 use Rattle.wing_node.specs.Value.{NodeValue, integer, float, string}
 use Rattle.wing_wire.specs.State.{zeros}
 use Rattle.wing_wire.specs.Reader.{filled}
+use Rattle.wing_mirror.specs.Origin.{originNumber, originOf}
 use Rattle.wing_mirror.specs.Entry.{Entry, entry, flipped}
 use Rattle.wing_mirror.specs.Layout.{Layout, kept}
+use Rattle.wing_mirror.specs.declared.origin.Origin.{Origin}
 
 -- 01: a place is 264 bytes
 abbrev pub width : ℕ
@@ -36,7 +39,11 @@ payloadOf (string s) = s
 unfoldable pub recordOf : Entry → List ℕ
 recordOf e =
     let p = payloadOf (e .value) in
-    bytesOf 4 (unsigned 31 (e .id)) ++ (kindOf (e .value) ∷ 0 ∷ (bytesOf 2 (length p) ++ filled 256 p))
+    bytesOf 4 (unsigned 31 (e .id)) ++ (kindOf (e .value) ∷ originNumber (e .origin) ∷ (bytesOf 2 (length p) ++ filled 256 p))
+
+-- id and origin laid over the bytes of a record
+abbrev pub headFrom : List ℕ → ℤ → Origin → List ℕ
+headFrom out id origin = set (sets out 0 (bytesOf 4 (unsigned 31 id))) 5 (originNumber origin)
 
 -- kind, length and payload laid over the bytes of a record
 abbrev pub laidFrom : List ℕ → ℕ → List ℕ → List ℕ
@@ -54,6 +61,10 @@ idIn r = signed 31 (big (take 4 r))
 abbrev pub kindIn : List ℕ → ℕ
 kindIn r = getD r 4 0
 
+-- 02: the byte after the kind is the origin
+abbrev pub originByte : List ℕ → ℕ
+originByte r = getD r 5 0
+
 -- 01: the length, two bytes
 abbrev pub lengthIn : List ℕ → ℕ
 lengthIn r = big (take 2 (drop 6 r))
@@ -70,7 +81,7 @@ valueIn r =
 
 -- what a record says
 unfoldable pub entryIn : List ℕ → Entry
-entryIn r = entry (idIn r) (valueIn r)
+entryIn r = entry (idIn r) (valueIn r) (originOf (originByte r))
 
 -- a string's length is 0 to 256, its bytes are UTF-8, and 0 stands after them
 unfoldable pub stringKept : ℕ → List ℕ → Bool
@@ -80,10 +91,10 @@ stringKept n p = if (leb n 256) (if (zeros (drop n p)) (utf8 (take n p)) false) 
 unfoldable pub wellKept : ℕ → ℕ → List ℕ → Bool
 wellKept kind n p = if (leb kind 1) (if (eqb n 4) (zeros (drop 4 p)) false) (if (eqb kind 2) (stringKept n p) false)
 
--- a record has 01's form
+-- a record has 01's form, with 02's origin: 0 or 1
 unfoldable pub wellFormed : List ℕ → Bool
-wellFormed r = if (eqb (getD r 5 0) 0) (wellKept (kindIn r) (lengthIn r) (payloadIn r)) false
+wellFormed r = if (leb (originByte r) 1) (wellKept (kindIn r) (lengthIn r) (payloadIn r)) false
 
 -- this record as a layout: every value is kept
 abbrev pub full : Layout
-full = record { width = width; keyOf = keyOf; recordOf = recordOf; entryIn = entryIn; wellFormed = wellFormed; keeping = λ v. kept }
+full = record { width = width; keyOf = keyOf; recordOf = recordOf; entryIn = entryIn; originAt = 5; wellFormed = wellFormed; keeping = λ v. kept }

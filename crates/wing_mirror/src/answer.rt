@@ -1,4 +1,5 @@
 // What the queries of a table, a feed and a set answer.
+use crate::origin::Origin;
 use wing_node::value::Value;
 use wing_wire::state::Control;
 use wing_wire::state::State;
@@ -13,7 +14,11 @@ pub enum Lookup {
 
 // A record, or a refusal.
 pub enum RecordAnswer {
-    Record { id: i32, value: Value },
+    Record {
+        id: i32,
+        value: Value,
+        origin: Origin,
+    },
     Refused(u8),
 }
 

@@ -18,6 +18,7 @@ use crate::counts::Mark;
 use crate::counts::body_mark;
 use crate::counts::refusal_mark;
 use crate::counts::tick;
+use crate::origin::Origin;
 use crate::record::lay_record;
 use crate::store::put;
 use wing_node::value::Value;
@@ -41,13 +42,13 @@ fn mark(count: usize, counts: Counts, m: Mark) -> Tally
     }
 }
 
-// 01: a value is stored at its node, or has no place.
+// 01: a value is stored at its node, or has no place. 02: it came from the console.
 fn keep_value(table: &mut [u8], t: Tally, node: i32, value: Value, string: &[u8]) -> Tally
     requires { ⌜ (usable full (tableOf (now table) (t .count)) ≡ true) × (total (t .counts) < 4294967295) × (tooLong (nodeValue value (now string)) ≡ false) ⌝ }
     ensures { λ r. ⌜ tallyOf r (now (table .exit)) ≡ keepEvent full node (valueEvent (nodeValue value (now (string .entry)))) (tallyOf t (now (table .entry))) ⌝ }
 {
     let mut rec = [0u8; State::PLACE_WIDTH];
-    lay_record(&mut rec, node, value, string);
+    lay_record(&mut rec, node, value, string, Origin::Console);
     let counts = t.counts;
     let k = put(table, State::PLACE_WIDTH, t.count, &rec);
     if k.taken {

@@ -6,6 +6,7 @@ pub mod feed;
 mod form;
 mod keep;
 mod order;
+pub mod origin;
 pub mod query;
 pub mod recall;
 mod record;

@@ -16,7 +16,9 @@ use crate::answer::Same;
 use crate::bytes::lay;
 use crate::order::row;
 use crate::order::search;
+use crate::origin::Origin;
 use crate::record::id_in;
+use crate::record::origin_in;
 use crate::record::payload;
 use crate::record::rank;
 use crate::record::value_in;
@@ -56,9 +58,9 @@ fn refused(why: u8) -> RecordRead
 }
 
 // The first n of a payload's bytes.
-fn string_read(id: i32, n: u16, payload: &[u8]) -> RecordRead
+fn string_read(id: i32, n: u16, payload: &[u8], origin: Origin) -> RecordRead
     requires { ⌜ length (now payload) ≡ 256 ⌝ }
-    ensures { λ r. ⌜ r ≡ readOf (entry id (stringOf (take n (now (payload .entry))))) ⌝ }
+    ensures { λ r. ⌜ r ≡ readOf (entry id (stringOf (take n (now (payload .entry)))) origin) ⌝ }
 {
     let len = least(n as usize, 256);
     let mut string = [0u8; 256];
@@ -68,19 +70,21 @@ fn string_read(id: i32, n: u16, payload: &[u8]) -> RecordRead
         answer: RecordAnswer::Record {
             id: id,
             value: value,
+            origin: origin,
         },
         string: string,
     }
 }
 
 // A value with no bytes beside it.
-fn number_read(id: i32, value: Value) -> RecordRead
-    ensures { λ r. ⌜ r ≡ besideZeros id value ⌝ }
+fn number_read(id: i32, value: Value, origin: Origin) -> RecordRead
+    ensures { λ r. ⌜ r ≡ besideZeros id value origin ⌝ }
 {
     RecordRead {
         answer: RecordAnswer::Record {
             id: id,
             value: value,
+            origin: origin,
         },
         string: [0u8; 256],
     }
@@ -93,14 +97,15 @@ fn read_record(rec: &[u8]) -> RecordRead
 {
     let id = id_in(rec);
     let value = value_in(rec);
+    let origin = origin_in(rec);
     match value {
-        Value::Integer(_) => number_read(id, value),
-        Value::Float(_) => number_read(id, value),
-        Value::String(n) => string_read(id, n, payload(rec)),
+        Value::Integer(_) => number_read(id, value, origin),
+        Value::Float(_) => number_read(id, value, origin),
+        Value::String(n) => string_read(id, n, payload(rec), origin),
     }
 }
 
-// 01: a record is read by number, from 0: its id and value, the bytes of a string beside it. 7, 14.
+// 01: a record is read by number, from 0: its id and value, the bytes of a string beside it; 02: and its origin. 7, 14.
 pub fn record(table: &[u8], count: usize, number: usize) -> RecordRead
     ensures { λ r. ⌜ r ≡ recordAnswer full (tableOf (now (table .entry)) count) number ⌝ }
 {
@@ -138,7 +143,7 @@ fn same_records(a: &[u8], count_a: usize, b: &[u8], count_b: usize) -> bool
     false
 }
 
-// 01: two mirrors are equal if count and records are. 7 for either table.
+// 01: two mirrors are equal if count and records are, 02: origins included. 7 for either table.
 pub fn same(a: &[u8], count_a: usize, b: &[u8], count_b: usize) -> Same
     ensures { λ r. ⌜ r ≡ sameAnswer full (tableOf (now (a .entry)) «count_a») (tableOf (now (b .entry)) «count_b») ⌝ }
 {

@@ -7,8 +7,11 @@ ghost use Rattle.wing_node.specs.Field.{bytesOf};
 ghost use Rattle.wing_node.specs.Value.{nodeValue};
 ghost use Rattle.wing_mirror.specs.Entry.{flipped, rankOf, entry};
 ghost use Rattle.wing_mirror.specs.Call.{tooLong};
-ghost use Rattle.wing_mirror.specs.Record.{width, keyOf, stringKept, wellKept, wellFormed, idIn, payloadIn, valueIn, recordOf, laidFrom};
+ghost use Rattle.wing_mirror.specs.Origin.{originOf};
+ghost use Rattle.wing_mirror.specs.Record.{width, keyOf, stringKept, wellKept, wellFormed, idIn, payloadIn, valueIn, originByte, recordOf, headFrom, laidFrom};
 use crate::bytes;
+use crate::origin;
+use crate::origin::Origin;
 use wing_node::field;
 use wing_node::utf8::is_utf8;
 use wing_node::value::Value;
@@ -82,7 +85,7 @@ pub(crate) fn well_formed(rec: &[u8]) -> bool
     requires { ⌜ length (now rec) ≡ width ⌝ }
     ensures { λ r. ⌜ r ≡ wellFormed (now (rec .entry)) ⌝ }
 {
-    if rec[5] == 0 {
+    if rec[5] <= 1 {
         return well_kept(rec[4], field::u16_at(rec, 6), payload(rec));
     }
     false
@@ -109,6 +112,17 @@ pub(crate) fn value_in(rec: &[u8]) -> Value
     Value::String(field::u16_at(rec, 6))
 }
 
+// 02: who gave its value.
+pub(crate) fn origin_in(rec: &[u8]) -> Origin
+    requires { ⌜ length (now rec) ≡ width ⌝ }
+    ensures { λ r. ⌜ r ≡ originOf (originByte (now (rec .entry))) ⌝ }
+{
+    if rec[5] == 0 {
+        return Origin::Console;
+    }
+    Origin::SetOrder
+}
+
 // Kind, length and payload of a number.
 fn lay_number(out: &mut [u8], kind: u8, bits: u32)
     requires { ⌜ length (now out) ≡ width ⌝ }
@@ -130,12 +144,21 @@ fn lay_string(out: &mut [u8], string: &[u8], n: u16)
     bytes::lay(out, 8, &string[..len]);
 }
 
-// The record of an id and a value, laid over zeros; a string's bytes stand beside its length.
-pub(crate) fn lay_record(out: &mut [u8], id: i32, value: Value, string: &[u8])
-    requires { ⌜ (now out ≡ replicate width 0) × (tooLong (nodeValue value (now string)) ≡ false) ⌝ }
-    ensures { λ _. ⌜ now (out .exit) ≡ recordOf (entry id (nodeValue value (now (string .entry)))) ⌝ }
+// The id and, by 02, the origin.
+fn lay_head(out: &mut [u8], id: i32, origin: Origin)
+    requires { ⌜ length (now out) ≡ width ⌝ }
+    ensures { λ _. ⌜ now (out .exit) ≡ headFrom (now (out .entry)) id origin ⌝ }
 {
     field::put_i32(out, 0, id);
+    out[5] = origin::number(origin);
+}
+
+// The record of an id, a value and its origin, laid over zeros; a string's bytes stand beside its length.
+pub(crate) fn lay_record(out: &mut [u8], id: i32, value: Value, string: &[u8], origin: Origin)
+    requires { ⌜ (now out ≡ replicate width 0) × (tooLong (nodeValue value (now string)) ≡ false) ⌝ }
+    ensures { λ _. ⌜ now (out .exit) ≡ recordOf (entry id (nodeValue value (now (string .entry))) origin) ⌝ }
+{
+    lay_head(out, id, origin);
     match value {
         Value::Integer(x) => lay_number(out, 0, field::of_i32(x)),
         Value::Float(bits) => lay_number(out, 1, bits),

@@ -11,6 +11,7 @@ ghost use Rattle.wing_mirror.specs.Table.{table as tableOf, usable};
 ghost use Rattle.wing_mirror.specs.Mirror.{mirrorSet, setEffect};
 ghost use Rattle.wing_mirror.specs.Sets.{replied, keptOf, refusedSetReply};
 use crate::answer::SetReply;
+use crate::origin::Origin;
 use crate::record::lay_record;
 use crate::send::send;
 use crate::store::has_room;
@@ -49,7 +50,7 @@ fn keep_written(table: &mut [u8], count: usize, rec: &[u8], written: Written) ->
     }
 }
 
-// A value that may be stored. 01: 7, 6, 9.
+// A value that may be stored. 01: 7, 6, 9. 02: a set order gave it.
 fn set_value(
     table: &mut [u8],
     count: usize,
@@ -63,7 +64,7 @@ fn set_value(
 {
     if is_usable(table, count) {
         let mut rec = [0u8; State::PLACE_WIDTH];
-        lay_record(&mut rec, id, value, string);
+        lay_record(&mut rec, id, value, string, Origin::SetOrder);
         let laid: &[u8] = &rec;
         if has_room(table, State::PLACE_WIDTH, count, laid) {
             let written = send(out, id, value, string);

@@ -1,6 +1,6 @@
 //! Listings printed and loaded. A load takes a table whatever it holds: it goes straight to the library, and through a mirror too
 //! where the parts make one.
-use crate::mirrors::{only_7, output, refused, Held, BEFORE};
+use crate::mirrors::{cleared, only_7, output, refused, Held, BEFORE};
 use crate::words::{count, hex};
 use whistleloam::{raw, LoadRefusal, Mirror, LISTING_MAX};
 
@@ -86,9 +86,10 @@ impl Held {
     }
 }
 
-/// 02: a listing of at most 65,536 bytes, loaded into as many places as it has records, gives an equal mirror.
+/// 02: a listing of at most 65,536 bytes, loaded into as many places as it has records, gives an equal mirror but for the origins,
+/// which are 0.
 fn listed(mirror: &Mirror) -> bool {
     let text = mirror.print().expect("an output long enough");
     let mut other = Mirror::new(mirror.len().max(1)).expect("1 to 1,024 places");
-    text.len() > LISTING_MAX || (other.load(&text) == Ok(mirror.len()) && other == *mirror)
+    text.len() > LISTING_MAX || (other.load(&text) == Ok(mirror.len()) && other == cleared(mirror))
 }

@@ -1,7 +1,7 @@
 //! The part 'Mirror': one mirror in parts, so that its table can be poked. Where the parts make a mirror, the calls go through it;
 //! where they do not, straight to the library, which must refuse them with the same number.
 use crate::words::{bits, count, hex, int32, pairs};
-use whistleloam::{raw, Counts, Decoder, Mirror, Refusal, Value, PLACE_WIDTH};
+use whistleloam::{raw, Counts, Decoder, Entry, Mirror, Origin, Refusal, Value, PLACE_WIDTH};
 
 const MEMORY: u64 = 1026 * PLACE_WIDTH as u64;
 const UINT32: u64 = u32::MAX as u64;
@@ -13,7 +13,7 @@ pub struct Held {
     pub table: Vec<u8>,
     pub count: usize,
     fill: u8,
-    /// The mirror of the last dump, and its text.
+    /// The mirror of the last dump, and its text with the origins.
     last: Option<(Mirror, String)>,
 }
 
@@ -37,8 +37,22 @@ fn value_text(value: &Value) -> String {
     }
 }
 
-fn record_text((id, value): (i32, Value)) -> String {
-    format!("{id},{}", value_text(&value))
+fn record_text(id: i32, value: &Value) -> String {
+    format!("{id},{}", value_text(value))
+}
+
+fn entry_text(e: &Entry) -> String {
+    format!("{} origin {}", record_text(e.id, &e.value), e.origin as u8)
+}
+
+/// Where in a place its origin stands.
+const ORIGIN: usize = 5;
+
+/// 02: for what a recall rebuilds and a listing loads "the origin is set aside: all other bytes agree and its origins are 0".
+pub fn cleared(mirror: &Mirror) -> Mirror {
+    let mut table = mirror.table().to_vec();
+    table.chunks_mut(PLACE_WIDTH).take(mirror.count()).for_each(|place| place[ORIGIN] = 0);
+    Mirror::from_parts(mirror.state(), table, mirror.count()).expect("a table with origins 0")
 }
 
 /// The bytes that a call says it wrote, after a word, and whether those after them are as they were.
@@ -169,11 +183,19 @@ impl Held {
     }
 
     fn record(&self, number: usize) -> String {
-        let record = match self.mirror() {
-            Ok(mirror) => mirror.record(number),
-            Err(_) => Err(only_7(raw::record(&self.table, self.count, number).status)),
+        let mirror = match self.mirror() {
+            Ok(mirror) => mirror,
+            Err(_) => return refused(only_7(raw::record(&self.table, self.count, number).status)),
         };
-        record.map_or_else(refused, record_text)
+        match mirror.entry(number) {
+            Ok(entry) => {
+                let byte = self.table[number * PLACE_WIDTH + ORIGIN];
+                let told = mirror.origin(entry.id) == Some(entry.origin) && entry.origin as u8 == byte;
+                let plain = mirror.record(number) == Ok((entry.id, entry.value.clone()));
+                entry_text(&entry) + if told && plain { "" } else { "!" }
+            }
+            Err(why) => refused(why),
+        }
     }
 
     fn recall(&self, room: usize) -> String {
@@ -198,21 +220,24 @@ impl Held {
         let Ok(mirror) = Mirror::from_parts(&self.state, table, self.count) else { return refused(Refusal::TABLE) };
         let rest = &self.table[self.count * PLACE_WIDTH..];
         let clean = if rest.iter().all(|b| *b == self.fill) { "clean" } else { "dirt" };
-        let records: String = mirror.records().map(|r| format!(" {}", record_text(r))).collect();
-        let fault = if self.agrees(&mirror, &records) { "" } else { " !" };
-        self.last = Some((mirror, records.clone()));
+        let records: String = mirror.records().map(|(id, value)| format!(" {}", record_text(id, &value))).collect();
+        let entries: String = mirror.entries().map(|e| format!(" {}", entry_text(&e))).collect();
+        let fault = if self.agrees(&mirror, &entries) { "" } else { " !" };
+        self.last = Some((mirror, entries));
         format!("{} records {clean}{records}{fault}", self.count)
     }
 
-    /// What must hold of any mirror besides: it is equal to what it is saved as and to what its recall makes, and to the mirror
-    /// dumped before exactly if their listings are.
-    fn agrees(&self, mirror: &Mirror, records: &str) -> bool {
+    /// What must hold of any mirror besides: it is equal to what it is saved as, and to the mirror dumped before exactly if their
+    /// entries are, origins included; what its recall makes is equal to it with its origins cleared, and to itself exactly if they are.
+    fn agrees(&self, mirror: &Mirror, entries: &str) -> bool {
         let saved = Mirror::restore(&mirror.save()).is_ok_and(|back| back == *mirror && back.state() == mirror.state());
         let mut fresh = Mirror::new(mirror.len().max(1)).expect("1 to 1,024 places");
         let recall = mirror.recall().expect("an output long enough");
         let fed = recall.chunks(60000).all(|piece| fresh.feed(piece).is_ok());
-        let last = self.last.as_ref().map_or(true, |(m, text)| (m == mirror) == (text == records));
-        saved && fed && fresh == *mirror && last
+        let moved = mirror.entries().any(|e| e.origin == Origin::SetOrder);
+        let rebuilt = fresh == cleared(mirror) && (fresh == *mirror) != moved;
+        let last = self.last.as_ref().map_or(true, |(m, text)| (m == mirror) == (text == entries));
+        saved && fed && rebuilt && last
     }
 
     fn poke(&mut self, w: &[&str]) -> Option<String> {

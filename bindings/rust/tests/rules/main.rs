@@ -1,17 +1,20 @@
 //! The crate against the rules of 01 and 02's requests: byte examples, every refusal, streams cut anywhere, definitions of all types, read and
-//! written, listings printed and loaded, how much of a broken string is good, windows over readings.
+//! written, listings printed and loaded, how much of a broken string is good, windows over readings, who gave a value.
 mod commands;
 mod decoder;
 mod definition;
 mod good;
 mod listing;
 mod mirror;
+mod origin;
 mod refused;
 mod window;
 mod written;
 
 use std::path::Path;
-use whistleloam::{raw, request_meter, Decoder, Meter, NodeType, NodeUnit, Refusal, BODY_LIMIT};
+use whistleloam::{
+    raw, request_meter, Decoder, Meter, Mirror, NodeType, NodeUnit, Origin, Refusal, BODY_LIMIT, PLACE_WIDTH,
+};
 
 /// A file of samples/.
 fn sample(name: &str) -> Vec<u8> {
@@ -22,6 +25,13 @@ fn sample(name: &str) -> Vec<u8> {
 /// Bytes of hex pairs with spaces between them.
 fn hex(text: &str) -> Vec<u8> {
     text.split_whitespace().map(|pair| u8::from_str_radix(pair, 16).unwrap()).collect()
+}
+
+/// The same mirror with every origin 0, byte 5 of a record: what its recall rebuilds and its listing loads.
+fn cleared(mirror: &Mirror) -> Mirror {
+    let mut table = mirror.table().to_vec();
+    table.chunks_mut(PLACE_WIDTH).take(mirror.count()).for_each(|place| place[5] = 0);
+    Mirror::from_parts(mirror.state(), table, mirror.count()).unwrap()
 }
 
 /// Numbers that look random: xorshift.
@@ -63,7 +73,7 @@ fn constants_are_those_of_the_header() {
     let refused = |name, why: Refusal| (name, why.number().into());
     let names = [
         ("STATE_SIZE", whistleloam::STATE_SIZE),
-        ("PLACE_WIDTH", whistleloam::PLACE_WIDTH),
+        ("PLACE_WIDTH", PLACE_WIDTH),
         ("PLACES_MAX", whistleloam::PLACES_MAX),
         ("BODY_LIMIT", BODY_LIMIT),
         ("NAME_MAX", whistleloam::NAME_MAX),
@@ -85,6 +95,8 @@ fn constants_are_those_of_the_header() {
         ("KIND_STRING", event_kind("d0")),
         ("KIND_BODY", event_kind("df de 00 01 00")),
         ("KIND_END", event_kind("de")),
+        ("ORIGIN_CONSOLE", Origin::Console as usize),
+        ("ORIGIN_SET_ORDER", Origin::SetOrder as usize),
         ("ITEM_STRINGS", item_kind(NodeType::StringEnum, "01 61 01 62")),
         ("ITEM_FLOAT", item_kind(NodeType::FloatEnum, "3f 80 00 00 01 62")),
         ("TYPE_NODE", NodeType::Node as usize),

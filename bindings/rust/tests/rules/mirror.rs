@@ -1,5 +1,5 @@
-use crate::{hex, sample, Dice};
-use whistleloam::{raw, Counts, Mirror, Refusal, Value, PLACE_WIDTH, SET_MAX, STATE_SIZE};
+use crate::{cleared, hex, sample, Dice};
+use whistleloam::{raw, Counts, Mirror, Origin, Refusal, Value, PLACE_WIDTH, SET_MAX, STATE_SIZE};
 
 /// 01: the input of the program mirror.
 const PRINTED: &str = "df d1 d7 00 00 00 01 05 d7 ff ff ff fe d5 3f 80 00 00 d7 00 00 00 02 81 41 42";
@@ -129,9 +129,9 @@ fn the_longest_order_fits() {
     assert_eq!(order.len(), 1 + 8 + 2 + 256 + 128);
 }
 
-/// Demand 3: what recall writes, fed in any pieces, makes an equal mirror.
+/// Demand 3: what recall writes, fed in any pieces, makes an equal mirror; 02: but for the origins, which are 0.
 #[test]
-fn a_recall_in_any_pieces_makes_an_equal_mirror() {
+fn a_recall_in_any_pieces_makes_an_equal_mirror_but_for_the_origins() {
     let mut mirror = captured(128);
     for (id, value) in [(1000, Value::from("Flöte")), (2000, Value::Float(0x7fc0_00df)), (-5, Value::Int(-1))] {
         mirror.set(id, value).unwrap();
@@ -147,7 +147,8 @@ fn a_recall_in_any_pieces_makes_an_equal_mirror() {
             other.feed(piece).unwrap();
             rest = after;
         }
-        assert!(other == mirror);
+        assert!(other == cleared(&mirror) && other != mirror);
+        assert_eq!(other.table(), &cleared(&mirror).table()[..mirror.len() * PLACE_WIDTH]);
     }
     let mut other = mirror.clone();
     other.set(-5, 0).unwrap();
@@ -168,7 +169,7 @@ fn a_full_mirror_comes_back() {
     for piece in recall.chunks(65536) {
         other.feed(piece).unwrap();
     }
-    assert!(other == mirror);
+    assert!(other == cleared(&mirror));
 }
 
 #[test]
@@ -219,11 +220,13 @@ fn a_damaged_save_is_refused() {
     assert_eq!(with(STATE_SIZE - 1, 1).unwrap_err(), Refusal::STATE);
     // 8 comes before 7.
     assert_eq!(Mirror::restore(&[&[0; 2 * STATE_SIZE][..], &saved].concat()).unwrap_err(), Refusal::STATE);
-    // The count, the places, the first record's kind and its zero byte.
-    for (at, byte) in [(3, 2), (3, 4), (0, 255), (7, 2), (6, 255), (12, 3), (13, 1)] {
+    // The count, the places, the first record's kind and its origin.
+    for (at, byte) in [(3, 2), (3, 4), (0, 255), (7, 2), (6, 255), (12, 3), (13, 2), (13, 255)] {
         assert_eq!(with(STATE_SIZE + at, byte).unwrap_err(), Refusal::TABLE, "{at}");
     }
     assert_eq!(with(STATE_SIZE + 15, 4).unwrap(), printed());
+    let moved = with(STATE_SIZE + 13, 1).unwrap();
+    assert_eq!((moved.origin(-2), &cleared(&moved)), (Some(Origin::SetOrder), &printed()));
 }
 
 #[test]
@@ -258,6 +261,9 @@ fn values_have_libwings_getters() {
 fn what_is_printed_can_be_read() {
     let mirror = printed();
     assert_eq!(format!("{mirror:?}"), "Mirror of 128 places {-2: Float(1.0, 3f800000), 1: Int(5), 2: String(\"AB\")}");
+    let mut moved = Mirror::new(2).unwrap();
+    moved.set(7, -6.5).unwrap();
+    assert_eq!(format!("{moved:?}"), "Mirror of 2 places {7: Float(-6.5, c0d00000) by a set order}");
     assert_eq!(
         format!("{:?}", Refusal::NO_PLACE),
         "refusal 6: a new node, and no place left, or more records than places"

@@ -62,7 +62,7 @@ fn table(at: usize, byte: u8) -> Vec<u8> {
 #[test]
 fn a_damaged_table_is_7_at_every_call_and_nothing_is_written() {
     let state = Decoder::new().save();
-    for (at, byte) in [(4, 3), (5, 1), (6, 1), (7, 5), (12, 1), (263, 1)] {
+    for (at, byte) in [(4, 3), (5, 2), (5, 255), (6, 1), (7, 5), (12, 1), (263, 1)] {
         let before = table(at, byte);
         let (mut t, mut s, mut out) = (before.clone(), state.clone(), [0xaa; 64]);
         assert_eq!(raw::table_check(&t, 1), -7, "{at}");
@@ -86,7 +86,7 @@ fn a_damaged_table_is_7_at_every_call_and_nothing_is_written() {
 fn beside_a_refusal_all_fields_are_0() {
     let record = raw::record(&table(8, 0), 1, 1);
     assert_eq!((record.status, record.id, record.value, record.len, record.kind), (-14, 0, 0, 0, 0));
-    assert_eq!(record.string, [0; 256]);
+    assert_eq!((record.origin, record.string), (0, [0; 256]));
     let (mut t, mut s) = (table(8, 0), Decoder::new().save());
     let fed = raw::feed(&mut s, &mut t, 1, &[5; 65537]);
     let zero = raw::WingFed { status: -14, count: 1, ..raw::feed(&mut s, &mut t, 1, &[]) };

@@ -8,7 +8,7 @@ use borrow.Author.Tests.{eqb-true, eqb-false, le-leb, ltb-true, ltb-false}
 use mir.Syntax.{w32}
 use mir.Val.{toZ, ofZ, SFits}
 use mir.Facts.{toZ-ofZ}
-use lib.Dec.{ltb, eqb}
+use lib.Dec.{ltb, leb, eqb}
 use lib.IntN.{ℤ, pos, negsuc}
 use lib.ListN.{length, take, drop, getD, set, length-append, length-drop}
 use lib.Seq.{sets, length-take-le}
@@ -115,7 +115,7 @@ module _ (r : List ℕ) (wide : length r ≡ 264) where
   module _ (form : wellFormed r ≡ true) where
     number-long : getD r 4 0 ≤ 1 → lengthIn r ≡ 4
     number-long h =
-        kept-number (kindIn r) (lengthIn r) (payloadIn r) (if-both (eqb (getD r 5 0) 0) (wellKept (kindIn r) (lengthIn r) (payloadIn r)) (unfold wellFormed in form) .1) h
+        kept-number (kindIn r) (lengthIn r) (payloadIn r) (if-both (leb (getD r 5 0) 1) (wellKept (kindIn r) (lengthIn r) (payloadIn r)) (unfold wellFormed in form) .1) h
 
     -- a float's four bytes and a string's stand alike
     pub pairs-text : Digits 256 r → (n : ℕ) → (getD r 4 0 ≡ 0 → ⊥) → n ≡ fieldAt 2 r 6 → (n ≤ 256) × (valueText (valueIn r) ≡ pairsOf (take n (drop 8 r)))

@@ -22,6 +22,7 @@ use Rattle.wing_mirror.specs.Layout.{ValidEntry}
 use Rattle.wing_mirror.specs.Record.{full}
 use Rattle.wing_mirror.specs.Table.{every}
 use Rattle.wing_mirror.specs.Query.{sameBytes}
+use Rattle.wing_mirror.specs.declared.origin.Origin.the-variants.{Console}
 use Rattle.wing_mirror.proofs.Records.Equals.{bytes-true, bytes-refl}
 use Rattle.wing_listing.specs.Parts.{newline, parted, part, ended}
 use Rattle.wing_listing.specs.Listing.{header, lineOf, listingOf}
@@ -181,9 +182,9 @@ entry-base n before e y next why w =
 
 -- ---- entries that a table takes
 
-all-listable : (es : List Entry) → All (ValidEntry full) es → All (λ (e : Entry). Bytewise (e .value)) es → All Listable es
-all-listable [] v b = tt
-all-listable (e ∷ es) v b = ((v .0, digit-bytes (e .value) (b .0)), all-listable es (v .1) (b .1))
+all-listable : (es : List Entry) → All (ValidEntry full) es → All (λ (e : Entry). Bytewise (e .value)) es → All (λ (e : Entry). e .origin ≡ Console) es → All Listable es
+all-listable [] v b o = tt
+all-listable (e ∷ es) v b o = ((v .0, digit-bytes (e .value) (b .0), o .0), all-listable es (v .1) (b .1) (o .1))
 
 all-valid : (es : List Entry) → All Listable es → All (ValidEntry full) es
 all-valid [] g = tt
@@ -197,8 +198,12 @@ bytes-all : (es : List Entry) → All (λ (e : Entry). DigitBytes (e .value)) es
 bytes-all [] g = tt
 bytes-all (e ∷ es) g = (byte-digits (e .value) (g .0), bytes-all es (g .1))
 
+all-origins : (es : List Entry) → All Listable es → All (λ (e : Entry). e .origin ≡ Console) es
+all-origins [] g = tt
+all-origins (e ∷ es) g = (g .0 .2, all-origins es (g .1))
+
 taken-entries : (es : List Entry) → All Listable es → Rises nothing es → TakenEntries es
-taken-entries es g u = record { valid = all-valid es g; bytes = all-bytes es g; rises = rising-all es u }
+taken-entries es g u = record { valid = all-valid es g; bytes = all-bytes es g; rises = rising-all es u; origins = all-origins es g }
 
 -- ---- the header
 
@@ -294,7 +299,7 @@ module _ (text : List ℕ) (why : Refusal) (line : ℕ) where
   lines-wrong : (es : List Entry) (rest : List ℕ) (w : Refusal) → TakenEntries es → listingOf es ++ rest ≡ text → linesFrom (2 + length es) (lastId nothing es) (parted newline rest) ≡ bad w (2 + length es) → why ≡ w → line ≡ length es + 2 →
       readingOf text ≡ bad why line
   lines-wrong es rest w t s e a b =
-      let l = lines-on 2 nothing es rest w (2 + length es) (all-listable es (t .valid) (t .bytes)) (rises-all es (t .rises)) e in
+      let l = lines-on 2 nothing es rest w (2 + length es) (all-listable es (t .valid) (t .bytes) (t .origins)) (rises-all es (t .rises)) e in
       let c : 2 + length es ≡ line = omega arith in
       ap readingOf (sym s ∙ listed-text es rest) ∙ head-reads (body es ++ rest) ∙ l ∙ ap₂ (λ x y. bad x y) (sym a) c
 
@@ -312,6 +317,6 @@ pub taken : (text : List ℕ) (es : List Entry) → (readingOf text ≡ good es 
 taken text es = (
   (λ g.
       let s = listing-said text es g in
-      (s .0, record { valid = s .1; bytes = bytes-all es (s .3); rises = rising-all es (s .2) })),
-  (λ t. ap readingOf (sym (t .0)) ∙ listing-read es (all-listable es (t .1 .valid) (t .1 .bytes)) (rises-all es (t .1 .rises))),
+      (s .0, record { valid = s .1; bytes = bytes-all es (s .3); rises = rising-all es (s .2); origins = s .4 })),
+  (λ t. ap readingOf (sym (t .0)) ∙ listing-read es (all-listable es (t .1 .valid) (t .1 .bytes) (t .1 .origins)) (rises-all es (t .1 .rises))),
 )

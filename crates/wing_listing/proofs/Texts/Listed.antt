@@ -12,11 +12,12 @@ use Rattle.wing_node.specs.Bool.{if}
 use Rattle.wing_node.specs.Bytes.{joined}
 use Rattle.wing_node.proofs.Branches.{if-both}
 use Rattle.wing_mirror.specs.Rows.{Found, found, nothing, All}
-use Rattle.wing_mirror.specs.Entry.{Entry, ids, risingIds}
+use Rattle.wing_mirror.specs.Entry.{Entry, entry, fromConsole, ids, risingIds}
 use Rattle.wing_mirror.specs.Layout.{ValidEntry}
 use Rattle.wing_mirror.specs.Record.{full}
 use Rattle.wing_mirror.specs.Table.{every}
 use Rattle.wing_mirror.specs.Query.{sameBytes}
+use Rattle.wing_mirror.specs.declared.origin.Origin.the-variants.{Console}
 use Rattle.wing_mirror.proofs.Records.Equals.{bytes-refl}
 use Rattle.wing_listing.specs.Parts.{newline, parted, part, ended}
 use Rattle.wing_listing.specs.Listing.{header, lineOf, listingOf}
@@ -50,9 +51,13 @@ unfolding risingIds
 rising-all [] r = refl
 rising-all (e ∷ es) r = rising-after e es (r .1)
 
--- an entry that a table takes, its string bytes
+-- an entry that a table takes, its string bytes, from the console
 abbrev pub Listable : Entry → Type 0
-Listable e = ValidEntry full e × DigitBytes (e .value)
+Listable e = ValidEntry full e × DigitBytes (e .value) × (e .origin ≡ Console)
+
+-- an entry from the console says nothing else with its origin set aside
+console-own : (e : Entry) → e .origin ≡ Console → fromConsole e ≡ e
+console-own e h = ap (entry (e .id) (e .value)) (sym h)
 
 abbrev pub body : List Entry → List ℕ
 body es = joined (map (λ (e : Entry). ended (lineOf e)) es)
@@ -81,7 +86,7 @@ lines-read n before (e ∷ es) a r =
     ap (λ i. goes (linesFrom (suc n) (found i) (parted newline (body es)))) (line-id e (p .0 .node) (p .0 .typed) (p .1)) ∙
     ap goes (lines-read (suc n) (found (e .id)) es (a .1) (r .1)) ∙
     ap (λ x. unlessBad x n (after (entrySaid (lineOf e)) (good es))) f ∙
-    unfold after in (ap (λ (x : Entry). good (x ∷ es)) (line-says e (p .0 .node) (p .0 .typed) (p .1)))
+    unfold after in (ap (λ (x : Entry). good (x ∷ es)) (line-says e (p .0 .node) (p .0 .typed) (p .1) ∙ console-own e (p .2)))
 
 pub listing-read : (es : List Entry) → All Listable es → Rises nothing es → readingOf (listingOf es) ≡ good es
 unfolding readingOf listingOf afterHeader every
@@ -98,6 +103,7 @@ pub record Listed (before : Found ℤ) (text : List ℕ) (es : List Entry) : Typ
   pub valid : All (ValidEntry full) es
   pub rises : Rises before es
   pub bytes : All (λ (e : Entry). DigitBytes (e .value)) es
+  pub origins : All (λ (e : Entry). e .origin ≡ Console) es
 
 first-same : (e f : Entry) (es fs : List Entry) → e ∷ es ≡ f ∷ fs → f ≡ e
 first-same e f es fs h = sym (ap (λ (l : List Entry). getD l 0 e) h)
@@ -106,9 +112,13 @@ said-id : (p : List ℕ) (e : Entry) → entrySaid p ≡ e → idSaid p ≡ e .i
 unfolding entrySaid
 said-id p e q = ap (λ (x : Entry). x .id) q
 
+pub said-origin : (p : List ℕ) → entrySaid p .origin ≡ Console
+unfolding entrySaid
+said-origin p = refl
+
 pub lines-said : (n : ℕ) (before : Found ℤ) (text : List ℕ) (es : List Entry) → Says n before text es → Listed before text es
 unfolding joined
-lines-said n before text [] s = record { spells = sym (none-left n before text s); valid = tt; rises = tt; bytes = tt }
+lines-said n before text [] s = record { spells = sym (none-left n before text s); valid = tt; rises = tt; bytes = tt; origins = tt }
 lines-said n before text (e ∷ es) s =
     let k = next-line n before text (e ∷ es) s (omega arith) in
     let p = part newline 0 text in
@@ -122,13 +132,15 @@ lines-said n before text (e ∷ es) s =
       valid = (subst (ValidEntry full) q (line-valid p line (faultless-value before p (k .fault))), l .valid);
       rises = (ap (above before) (sym i) ∙ faultless-id before p (k .fault), subst (λ j. Rises (found j) es) i (l .rises));
       bytes = (subst (λ (x : Entry). DigitBytes (x .value)) q (line-bytes p line), l .bytes);
+      origins = (subst (λ (x : Entry). x .origin ≡ Console) q (said-origin p), l .origins);
     }
 
-pub listing-said : (text : List ℕ) (es : List Entry) → readingOf text ≡ good es → (listingOf es ≡ text) × All (ValidEntry full) es × Rises nothing es × All (λ (e : Entry). DigitBytes (e .value)) es
+pub listing-said : (text : List ℕ) (es : List Entry) → readingOf text ≡ good es → (listingOf es ≡ text) × All (ValidEntry full) es × Rises nothing es × All (λ (e : Entry). DigitBytes (e .value)) es ×
+    All (λ (e : Entry). e .origin ≡ Console) es
 unfolding listingOf
 listing-said text es g =
     let p = part newline 0 text in
     let h = header-said text es g in
     let l = lines-said 2 nothing (drop 14 text) es (header-rest text es g) in
     let t : text ≡ header ++ (newline ∷ drop 14 text) = front-text newline text (header-ended text es g) ∙ ap (λ (q : List ℕ). q ++ (newline ∷ drop (length q + 1) text)) h in
-    (append-assoc header (newline ∷ []) (body es) ∙ ap (λ (b : List ℕ). header ++ (newline ∷ b)) (l .spells) ∙ sym t, l .valid, l .rises, l .bytes)
+    (append-assoc header (newline ∷ []) (body es) ∙ ap (λ (b : List ℕ). header ++ (newline ∷ b)) (l .spells) ∙ sym t, l .valid, l .rises, l .bytes, l .origins)

@@ -1,6 +1,6 @@
 -- A record laid from a line's value: the zeros before it, and its kind, length and payload.
 use Prim.Native.Nat.{ℕ, _+_, _/_, _≤_, _<_}
-use mathlib.Core.Bool.{true, true≢false}
+use mathlib.Core.Bool.{Bool, true, true≢false}
 use mathlib.Core.Path.{_≡_, sym, ap, _∙_}
 use mathlib.Core.List.{List, [], _∷_, _++_}
 use native.Mathlib.Omega.{arith}
@@ -8,18 +8,22 @@ use native.Mathlib.Numerals.{add-one}
 use borrow.Author.Tests.{eqb-true, ne-eqb}
 use lib.Dec.{eqb}
 use lib.IntN.{ℤ}
-use lib.ListN.{length, replicate, take, set, replicate-append-replicate}
+use lib.ListN.{length, replicate, take, set, length-replicate, replicate-append-replicate}
 use lib.Seq.{sets, take-suc-set}
 use Rattle.wing_node.specs.Refusal.{noFault, isRefused}
 use Rattle.wing_node.specs.Bool.{and}
 use Rattle.wing_node.specs.Decimal.{integerOf}
-use Rattle.wing_node.specs.Field.{bytesOf}
+use Rattle.wing_node.specs.Digits.{digitsIn}
+use Rattle.wing_node.specs.Field.{bytesOf, put, putAt}
 use Rattle.wing_node.specs.Signed.{unsigned}
 use Rattle.wing_node.specs.Value.{string}
 use Rattle.wing_node.proofs.Branches.{and-left, and-right}
 use Rattle.wing_node.proofs.Numerals.Numbers.{length-digitsIn}
+use Rattle.wing_node.proofs.Numerals.Placed.{field-sets}
+use Rattle.wing_mirror.specs.Origin.{originNumber}
 use Rattle.wing_mirror.specs.Call.{tooLong}
-use Rattle.wing_mirror.specs.Record.{kindOf, payloadOf, laidFrom}
+use Rattle.wing_mirror.specs.Record.{kindOf, payloadOf, headFrom, laidFrom}
+use Rattle.wing_mirror.specs.declared.origin.Origin.the-variants.{Console}
 use Rattle.wing_mirror.proofs.Tables.Laying.{short}
 use Rattle.wing_mirror.proofs.Records.Words.{word-again}
 use Rattle.wing_listing.specs.Hex.{arePairs, fromPairs}
@@ -32,6 +36,14 @@ use Rattle.wing_listing.proofs.Texts.Hexes.{length-from, from-bytes, pa
 pub zero-next : (out : List ℕ) (i : ℕ) → i < length out → take i out ≡ replicate i 0 → take (i + 1) (set out i 0) ≡ replicate (i + 1) 0
 zero-next out i h e =
     ap (λ k. take k (set out i 0)) (add-one i) ∙ take-suc-set out i 0 h ∙ ap (λ (l : List ℕ). l ++ (0 ∷ [])) e ∙ replicate-append-replicate i 1 0
+
+-- the id over zeros: the head of a record from the console
+pub console-head : (id : ℤ) (a b : List ℕ) (r : Bool) → a ≡ replicate 264 0 → put r b ≡ putAt (bytesOf 4 (unsigned 31 id)) 0 a → b ≡ headFrom a id Console
+unfolding digitsIn originNumber
+console-head id a b r ea eb =
+    let wide : length a ≡ 264 = ap length ea ∙ length-replicate {A = ℕ} 264 0 in
+    let zeros : b ≡ sets (replicate 264 0) 0 (bytesOf 4 (unsigned 31 id)) = field-sets 4 (unsigned 31 id) 0 a b r (omega arith) (omega arith) eb ∙ ap (λ (l : List ℕ). sets l 0 (bytesOf 4 (unsigned 31 id))) ea in
+    zeros ∙ ap (λ (l : List ℕ). headFrom l id Console) (sym ea)
 
 -- ---- a value laid
 

@@ -2,31 +2,38 @@
 use Prim.Native.Nat.{ℕ, _*_, _/_, _≤_}
 use mathlib.Core.Bool.{Bool, true, false}
 use mathlib.Core.Path.{_≡_, refl, sym, ap, _∙_, subst}
-use mathlib.Core.List.{List, [], _∷_, map}
+use mathlib.Core.List.{List, [], _∷_, _++_, map}
 use native.Mathlib.Omega.{arith}
 use native.Mathlib.Nat.{mul-div-le, mul-le-mul-left}
 use borrow.Author.Tests.{leb-true, le-leb}
 use lib.Dec.{leb, eqb}
 use lib.ListN.{length, drop, length-map}
 use Rattle.wing_node.specs.declared.refusal.Refusal.{Refusal}
+use Rattle.wing_node.specs.Bytes.{joined}
 use Rattle.wing_node.specs.Signed.{InBits}
 use Rattle.wing_node.specs.Utf8.{Decides}
 use Rattle.wing_node.proofs.Branches.{branch}
 use Rattle.wing_node.proofs.Numerals.Numbers.{digits-take, digits-drop}
 use Rattle.wing_wire.specs.Range.{AreBytes}
 use Rattle.wing_mirror.specs.Rows.{Table, records, laid, All}
-use Rattle.wing_mirror.specs.Entry.{Entry, ids, risingIds}
-use Rattle.wing_mirror.specs.Layout.{Row, ValidEntry}
+use Rattle.wing_mirror.specs.Entry.{Entry, fromConsole, ids, risingIds}
+use Rattle.wing_mirror.specs.Layout.{Row, ValidEntry, originCleared}
 use Rattle.wing_mirror.specs.Record.{width, kindIn, lengthIn, payloadIn, valueIn, entryIn, recordOf, keyOf, wellFormed, full}
 use Rattle.wing_mirror.specs.Table.{table, rows, placesAllowed, checkedOf, soundOf, usableOf, usable}
 use Rattle.wing_mirror.specs.History.{rank}
+use Rattle.wing_mirror.specs.Origins.{SameButOrigins, Taken}
+use Rattle.wing_mirror.specs.declared.origin.Origin.the-variants.{Console}
 use Rattle.wing_mirror.proofs.Tables.Chunks.{Wide, records-laid, length-laid, drop-laid, length-records}
 use Rattle.wing_mirror.proofs.Tables.Images.{Stands, rising-map, all-map, all-also, every-all}
 use Rattle.wing_mirror.proofs.Records.Words.{are-digits}
 use Rattle.wing_mirror.proofs.Records.Full.{full-laws}
 use Rattle.wing_mirror.proofs.Records.Ids.{rising-ids}
-use Rattle.wing_mirror.proofs.Records.Entries.{each, rows-valid, rows-back, rows-rise}
-use Rattle.wing_listing.specs.Listing.{listingOf, printed}
+use Rattle.wing_mirror.proofs.Records.Entries.{each, rows-back, rows-rise}
+use Rattle.wing_mirror.proofs.Histories.Rebuilt.{console-rises}
+use Rattle.wing_mirror.proofs.Histories.Demand.{clear-all}
+use Rattle.wing_mirror.proofs.Histories.Aside.{aside-said}
+use Rattle.wing_listing.specs.Parts.{ended}
+use Rattle.wing_listing.specs.Listing.{header, lineOf, listingOf, printed}
 use Rattle.wing_listing.specs.Reading.{isLine, entrySaid, Reading, good, bad, readingOf}
 use Rattle.wing_listing.specs.Calls.{LoadEffect, loadEffect, replyOf, loadEntries, loadRead, loadOf}
 use Rattle.wing_listing.specs.FirstBad.{PrintedLine}
@@ -147,38 +154,62 @@ row-bytes r g =
     branch DigitBytes (eqb (kindIn r) 0) _ _ (λ _. tt)
     (λ _. branch DigitBytes (eqb (kindIn r) 1) _ _ (λ _. tt) (λ _. digits-take 256 (lengthIn r) (payloadIn r) (digits-drop 256 8 r (are-digits r (g .bytes)))))
 
-module _ (t : Table) (memory : List ℕ) (bytes : AreBytes (t .buffer)) (u : usable full t ≡ true) where
-  abbrev entries : List Entry
-  entries = map entryIn (rows full t)
+-- an origin is not printed
+no-origin : (es : List Entry) → listingOf (map fromConsole es) ≡ listingOf es
+unfolding listingOf lineOf
+no-origin es = ap (λ (l : List (List ℕ)). ended header ++ joined l) (go es)
+  where
+    go : (es : List Entry) → map (λ (e : Entry). ended (lineOf e)) (map fromConsole es) ≡ map (λ (e : Entry). ended (lineOf e)) es
+    go [] = refl
+    go (e ∷ es) = ap (λ (l : List (List ℕ)). ended (lineOf e) ∷ l) (go es)
 
-  valid : All (ValidEntry full) entries
-  valid = rows-valid full-laws t bytes u
+origins : (t u : Table) → Taken full t → Taken full u → SameButOrigins full t u → printed t ≡ printed u
+origins t u a b q =
+    sym (no-origin (map entryIn (rows full t))) ∙ ap listingOf (aside-said full-laws t u a b q) ∙ no-origin (map entryIn (rows full u))
+
+-- a valid entry is one whoever gave it
+console-valid : (e : Entry) → ValidEntry full e → ValidEntry full (fromConsole e)
+console-valid e p = record { node = p .node; typed = p .typed; text = p .text; isKept = p .isKept }
+
+module _ (t : Table) (memory : List ℕ) (bytes : AreBytes (t .buffer)) (u : usable full t ≡ true) where
+  abbrev held : List Entry
+  held = map entryIn (rows full t)
+
+  -- 02: what is loaded comes from the console
+  abbrev entries : List Entry
+  entries = map fromConsole held
 
   listable : All Listable entries
   listable = go (rows full t) (each full-laws t bytes u)
     where
-      go : (rs : List (List ℕ)) → All (Row full) rs → All Listable (map entryIn rs)
+      go : (rs : List (List ℕ)) → All (Row full) rs → All Listable (map fromConsole (map entryIn rs))
       go [] a = tt
-      go (r ∷ rs) a = ((full-laws .valid r (a .0), unfold entryIn in (row-bytes r (a .0))), go rs (a .1))
+      go (r ∷ rs) a = ((console-valid (entryIn r) (full-laws .valid r (a .0)), unfold entryIn in (row-bytes r (a .0)), refl), go rs (a .1))
+
+  valid : All (ValidEntry full) entries
+  valid = all-also Listable (ValidEntry full) entries (λ e p. p .0) listable
 
   rising : risingIds (ids entries) ≡ true
-  rising = sym (rising-ids entries (all-also (ValidEntry full) (λ (x : Entry). InBits 31 (x .id)) entries (λ x p. p .node) valid)) ∙ rows-rise full-laws t bytes u
+  rising =
+      sym (rising-ids entries (all-also (ValidEntry full) (λ (x : Entry). InBits 31 (x .id)) entries (λ x p. p .node) valid)) ∙
+      console-rises held (rows-rise full-laws t bytes u)
 
   many-entries : length entries ≡ t .count
-  many-entries = length-map (rows full t) entryIn ∙ length-records width (t .count) (t .buffer)
+  many-entries = length-map held fromConsole ∙ length-map (rows full t) entryIn ∙ length-records width (t .count) (t .buffer)
 
   back : length (printed t) ≤ 65536 → placesAllowed (length memory / width) ≡ true → t .count ≤ length memory / width → EqualMirror t memory (loadOf (printed t) memory)
   back s a f =
       let few : length entries ≤ length memory / width = omega (arith, many-entries) in
-      let g = listing-read entries listable (rises-all entries rising) in
+      let g : readingOf (printed t) ≡ good entries = ap readingOf (sym (no-origin held)) ∙ listing-read entries listable (rises-all entries rising) in
       let l = load-good (printed t) memory a s entries g few in
-      let same : rows full (table (laid width (map recordOf entries) memory) (length entries)) ≡ rows full t = left-rows entries memory valid rising a few ∙ rows-back full-laws t bytes u in
+      let same : rows full (table (laid width (map recordOf entries) memory) (length entries)) ≡ map (originCleared full) (rows full t) =
+      left-rows entries memory valid rising a few ∙ sym (clear-all full-laws held) ∙ ap (map (originCleared full)) (rows-back full-laws t bytes u) in
       subst (EqualMirror t memory) (sym l)
       (record {
         counted = ap Records many-entries;
         fresh = refl;
         sound = subst (λ n. usable full (table (laid width (map recordOf entries) memory) n) ≡ true) many-entries (left-usable entries memory valid rising a few);
-        equal = record { counts = refl; records = sym (ap (λ n. rows full (table (laid width (map recordOf entries) memory) n)) (sym many-entries) ∙ same) };
+        equal = record { counts = refl; records = ap (λ n. rows full (table (laid width (map recordOf entries) memory) n)) (sym many-entries) ∙ same };
         rest = subst (λ n. drop (width * n) (laid width (map recordOf entries) memory) ≡ drop (width * n) memory) many-entries (left-rest entries memory valid rising a few);
       })
 
@@ -194,6 +225,7 @@ again text memory n e =
     (record {
       sound = left-usable es memory (s .1) up (l .allowed) (l .few);
       prints = ap listingOf (left-says es memory (s .1) up (l .allowed) (l .few)) ∙ s .0;
+      origins = subst (All (λ (x : Entry). x .origin ≡ Console)) (sym (left-says es memory (s .1) up (l .allowed) (l .few))) (s .4);
     }))
 
 pub loaded-rest : (text memory : List ℕ) (n : ℕ) → loadOf text memory .reply .answer ≡ Records n → drop (width * n) (loadOf text memory .memory) ≡ drop (width * n) memory
@@ -212,4 +244,4 @@ form line =
     }
 
 pub both-ways : BothWays
-both-ways = record { form = form; taken = taken; wrong = wrong; back = back; again = again }
+both-ways = record { form = form; taken = taken; wrong = wrong; back = back; origins = origins; again = again }

@@ -20,11 +20,12 @@ use Rattle.wing_node.specs.Value.{NodeValue, integer, float, string}
 use Rattle.wing_node.proofs.Branches.{if-both, and-left, and-right}
 use Rattle.wing_node.proofs.Numerals.Numbers.{Digits, length-digitsIn, number-below}
 use Rattle.wing_node.proofs.Numerals.Spelled.{read-back}
-use Rattle.wing_mirror.specs.Entry.{Entry, entry, storable, Typed}
+use Rattle.wing_mirror.specs.Entry.{Entry, entry, fromConsole, storable, Typed}
 use Rattle.wing_mirror.specs.Layout.{ValidEntry}
 use Rattle.wing_mirror.specs.Table.{every}
 use Rattle.wing_mirror.specs.Record.{full}
 use Rattle.wing_mirror.specs.Call.{tooLong, notText}
+use Rattle.wing_mirror.specs.declared.origin.Origin.the-variants.{Console}
 use Rattle.wing_mirror.proofs.Records.Words.{word-back, word-again}
 use Rattle.wing_listing.specs.Parts.{comma, newline, parted, part}
 use Rattle.wing_listing.specs.Integers.{first, isSigned, fits32, isInteger}
@@ -110,11 +111,11 @@ module _ (e : Entry) (node : InBits 31 (e .id)) (typed : Typed (e .value)) (byte
   pub line-id : idSaid (lineOf e) ≡ e .id
   line-id = ap (λ (ps : List (List ℕ)). integerOf (getD ps 0 [])) line-parts ∙ read-back (e .id)
 
-  pub line-says : entrySaid (lineOf e) ≡ e
+  pub line-says : entrySaid (lineOf e) ≡ fromConsole e
   unfolding entrySaid
   line-says =
-      ap (λ (ps : List (List ℕ)). entry (integerOf (getD ps 0 [])) (valueSaid (first (getD ps 1 [])) (getD ps 2 []))) line-parts ∙
-      ap₂ (λ (i : ℤ) (v : NodeValue). entry i v) (read-back (e .id)) (text-said (e .value) typed bytes)
+      ap (λ (ps : List (List ℕ)). entry (integerOf (getD ps 0 [])) (valueSaid (first (getD ps 1 [])) (getD ps 2 [])) Console) line-parts ∙
+      ap₂ (λ (i : ℤ) (v : NodeValue). entry i v Console) (read-back (e .id)) (text-said (e .value) typed bytes)
 
   pub line-plain : plain newline (lineOf e) ≡ true
   unfolding lineOf every

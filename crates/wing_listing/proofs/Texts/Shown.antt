@@ -11,7 +11,7 @@ use Rattle.wing_mirror.proofs.Records.Words.{are-digits}
 use Rattle.wing_listing.specs.Reading.{isLine, entrySaid, valueFault}
 use Rattle.wing_listing.specs.FirstBad.{Bytewise, Printable}
 use Rattle.wing_listing.proofs.Texts.Said.{DigitBytes, line-node, line-typed, line-bytes, line-valid}
-use Rattle.wing_listing.proofs.Texts.Listed.{Listable}
+use Rattle.wing_listing.proofs.Texts.Listed.{Listable, said-origin}
 
 -- a list of bytes, by its elements and by its digits
 digits-are : (s : List ℕ) → Digits 256 s → AreBytes s
@@ -33,4 +33,4 @@ module _ (line : List ℕ) (e : isLine line ≡ true) where
   said-printable = record { node = line-node line e; typed = line-typed line e; bytes = byte-digits (entrySaid line .value) (line-bytes line e) }
 
   pub said-listable : valueFault (entrySaid line .value) ≡ noFault → Listable (entrySaid line)
-  said-listable f = (line-valid line e f, line-bytes line e)
+  said-listable f = (line-valid line e f, line-bytes line e, said-origin line)

@@ -24,6 +24,7 @@ use Rattle.wing_mirror.specs.Mirror.{TableTally, tableTally, keepEvent, 
 use Rattle.wing_mirror.specs.Machine.{StreamEvent, events}
 use Rattle.wing_mirror.specs.declared.answer.Counts.{Counts}
 use Rattle.wing_mirror.specs.declared.answer.FeedAnswer.the-variants.{Taken}
+use Rattle.wing_mirror.specs.declared.origin.Origin.the-variants.{SetOrder}
 use Rattle.wing_mirror.proofs.Records.Lasting.{entry-usable}
 use Rattle.wing_mirror.proofs.Calls.Turns.{value-usable}
 use Rattle.wing_mirror.proofs.Histories.Along.{foldEvents, few-events}
@@ -92,7 +93,7 @@ module _ {L : Layout} (laws : Lawful L) where
   pub set-sound : (id : ℤ) (v : NodeValue) (t : Table) (out : List ℕ) → usable L t ≡ true → usable L (mirrorSet L id v t out .table) ≡ true
   set-sound id v t out u =
       set-cases L id v t out (λ (x : SetEffect). usable L (x .table) ≡ true) (λ n. u)
-      (λ o a b c d. entry-usable laws (entry id v) t (text-storable v a b) o u (passed (fits L (entry id v) t) c))
+      (λ o a b c d. entry-usable laws (entry id v SetOrder) t (text-storable v a b) o u (passed (fits L (entry id v SetOrder) t) c))
 
   -- the bytes of two feeds, fed at once, are the two feeds together
   pub feed-joined : (s : State) (t : Table) (a b : List ℕ) → InRange (s .control) (s .store) → AreBytes a → soundState s ≡ true → usable L t ≡ true → length (a ++ b) ≤ 65536 →

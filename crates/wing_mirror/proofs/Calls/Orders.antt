@@ -25,6 +25,7 @@ use Rattle.wing_mirror.specs.Call.{tooLong, notText}
 use Rattle.wing_mirror.specs.Mirror.{SetEffect, refusedSet, mirrorSet, setEffect}
 use Rattle.wing_mirror.specs.Sets.{Replied, replied, keptOf}
 use Rattle.wing_mirror.specs.declared.answer.SetReply.{SetReply}
+use Rattle.wing_mirror.specs.declared.origin.Origin.the-variants.{SetOrder}
 use Rattle.wing_mirror.proofs.Tables.Laying.{take-least}
 
 -- a value that may be stored is not refused for itself
@@ -67,8 +68,8 @@ module _ (L : Layout) (id : ℤ) (v : NodeValue) (t : Table) (out : List ℕ) wh
   unusable u = rw u
 
   -- of a value that may be stored
-  module _ (u : usable L t ≡ true) (o : keeping v ≡ kept) (s : storable v ≡ true) (rec : List ℕ) (er : rec ≡ recordOf (entry id v)) (h : Bool) (eh : h ≡ takes width keyOf rec t) where
-    takes-is : takes width keyOf (recordOf (entry id v)) t ≡ h
+  module _ (u : usable L t ≡ true) (o : keeping v ≡ kept) (s : storable v ≡ true) (rec : List ℕ) (er : rec ≡ recordOf (entry id v SetOrder)) (h : Bool) (eh : h ≡ takes width keyOf rec t) where
+    takes-is : takes width keyOf (recordOf (entry id v SetOrder)) t ≡ h
     takes-is = ap (λ (r : List ℕ). takes width keyOf r t) (sym er) ∙ sym eh
 
     pub no-room : h ≡ false → refusedSet (alone 6) t out ≡ mirrorSet L id v t out
@@ -76,7 +77,7 @@ module _ (L : Layout) (id : ℤ) (v : NodeValue) (t : Table) (out : List ℕ) wh
     no-room q = rw (u, o, not-long v s, is-text v s, takes-is, q)
 
     after : WriteEffect → SetEffect
-    after x = settled (keptOf L (x .answer) (recordOf (entry id v)) t) (x .out)
+    after x = settled (keptOf L (x .answer) (recordOf (entry id v SetOrder)) t) (x .out)
 
     -- 6 is met already: what is left is 9
     written : h ≡ true → (b : Bool) → ltb (length out) (length (setBytes id v)) ≡ b → after (writeOf (setBytes id v) out) ≡ mirrorSet L id v t out

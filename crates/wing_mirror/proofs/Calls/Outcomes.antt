@@ -25,6 +25,7 @@ use Rattle.wing_mirror.specs.Call.{textIn, tooLong, notText}
 use Rattle.wing_mirror.specs.Counts.{zeroCounts}
 use Rattle.wing_mirror.specs.Mirror.{tableTally, keepEvent, fedAll, takenFeed, mirrorFeed, SetEffect, refusedSet, mirrorSet}
 use Rattle.wing_mirror.specs.Machine.{decodeAll, events}
+use Rattle.wing_mirror.specs.declared.origin.Origin.the-variants.{SetOrder}
 use Rattle.wing_mirror.proofs.Records.Choices.{keeping-cases}
 use Rattle.wing_mirror.proofs.Histories.Along.{foldEvents, feed-events}
 
@@ -61,8 +62,8 @@ module _ (L : Layout) (id : ℤ) (v : NodeValue) (t : Table) (out : List ℕ) wh
 
   -- what holds after every refusal, and after a set that is taken
   pub set-cases : (P : SetEffect → Type 0) → ((why : Refusal) → P (refusedSet why t out)) →
-      (keeping v ≡ kept → tooLong v ≡ false → notText v ≡ false → not (fits L (entry id v) t) ≡ false → ltb (length out) (length (setBytes id v)) ≡ false →
-      P (record { answer = Bytes (length (setBytes id v)); out = setBytes id v ++ drop (length (setBytes id v)) out; table = put L (entry id v) t })) →
+      (keeping v ≡ kept → tooLong v ≡ false → notText v ≡ false → not (fits L (entry id v SetOrder) t) ≡ false → ltb (length out) (length (setBytes id v)) ≡ false →
+      P (record { answer = Bytes (length (setBytes id v)); out = setBytes id v ++ drop (length (setBytes id v)) out; table = put L (entry id v SetOrder) t })) →
       P (mirrorSet L id v t out)
   unfolding mirrorSet
   set-cases P r w =
@@ -70,5 +71,5 @@ module _ (L : Layout) (id : ℤ) (v : NodeValue) (t : Table) (out : List ℕ) wh
       (λ _. keeping-cases P (keeping v) _ _ (λ mark number. r (alone number))
       (λ k. branch P (tooLong v) _ _ (λ _. r (alone 10))
       (λ a. branch P (notText v) _ _ (λ _. r (stringNotUtf8 (textIn v)))
-      (λ b. branch P (not (fits L (entry id v) t)) _ _ (λ _. r (alone 6))
+      (λ b. branch P (not (fits L (entry id v SetOrder) t)) _ _ (λ _. r (alone 6))
       (λ c. branch P (ltb (length out) (length (setBytes id v))) _ _ (λ _. r (alone 9)) (w k a b c))))))

@@ -44,7 +44,7 @@ kept-string k n p h a b =
 
 module _ (r : List ℕ) (wide : length r ≡ 264) (form : wellFormed r ≡ true) where
   pub text : (getD r 4 0 ≡ 0 → ⊥) → (getD r 4 0 ≡ 1 → ⊥) → (lengthIn r ≤ 256) × (utf8 (take (lengthIn r) (payloadIn r)) ≡ true)
-  text a b = kept-string (kindIn r) (lengthIn r) (payloadIn r) (if-both (eqb (getD r 5 0) 0) (wellKept (kindIn r) (lengthIn r) (payloadIn r)) (unfold wellFormed in form) .1) a b
+  text a b = kept-string (kindIn r) (lengthIn r) (payloadIn r) (if-both (leb (getD r 5 0) 1) (wellKept (kindIn r) (lengthIn r) (payloadIn r)) (unfold wellFormed in form) .1) a b
 
   -- no order of a record is longer than 395 bytes
   pub order-le : length (orderIn r) ≤ 395

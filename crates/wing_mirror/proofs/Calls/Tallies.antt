@@ -22,6 +22,7 @@ use Rattle.wing_mirror.specs.Machine.{StreamEvent}
 use Rattle.wing_mirror.specs.declared.answer.Counts.{Counts}
 use Rattle.wing_mirror.specs.declared.counts.Mark.{Mark}
 use Rattle.wing_mirror.specs.declared.counts.Mark.the-variants.{Stored, Unplaced, StringRefused, DefinitionRead, DefinitionRefused, Ended, Uncounted}
+use Rattle.wing_mirror.specs.declared.origin.Origin.the-variants.{Console}
 use Rattle.wing_mirror.proofs.Records.Choices.{keeping-cases}
 use Rattle.wing_mirror.proofs.Histories.Along.{foldEvents}
 
@@ -45,7 +46,7 @@ unfolding keepEvent
 keep-total L node more k = omega arith
 keep-total L node (value v) k =
     keeping-cases P (L .keeping v) _ _ (λ mark number. tick-total mark (k .counts))
-    (λ _. branch P (fits L (entry node v) (k .table)) _ _ (λ _. tick-total Stored (k .counts)) (λ _. tick-total Unplaced (k .counts)))
+    (λ _. branch P (fits L (entry node v Console) (k .table)) _ _ (λ _. tick-total Stored (k .counts)) (λ _. tick-total Unplaced (k .counts)))
   where
     P : TableTally → Type 0
     P x = total (x .counts) ≤ suc (total (k .counts))
@@ -75,10 +76,10 @@ add-zero-counts c = simp add-zero
 pub keep-adds : (L : Layout) (c : Counts) (node : ℤ) (e : Event) (k : TableTally) → atop c (keepEvent L node e k) ≡ keepEvent L node e (atop c k)
 unfolding keepEvent
 keep-adds L c node more k = refl
-keep-adds L c node (value v) k = go (L .keeping v) (fits L (entry node v) (k .table))
+keep-adds L c node (value v) k = go (L .keeping v) (fits L (entry node v Console) (k .table))
   where
     t : Table
-    t = put L (entry node v) (k .table)
+    t = put L (entry node v Console) (k .table)
 
     go : (o : Keeping) (b : Bool) →
         atop c (unlessKept o (λ mark number. tableTally (k .table) (tick mark (k .counts))) (if b (tableTally t (tick Stored (k .counts))) (tableTally (k .table) (tick Unplaced (k .counts)))))

@@ -32,6 +32,7 @@ use Rattle.wing_mirror.specs.Mirror.{TableTally, tableTally, keep, keepE
 use Rattle.wing_mirror.specs.declared.answer.Counts.{Counts}
 use Rattle.wing_mirror.specs.declared.store.Kept.{Kept as Placed}
 use Rattle.wing_mirror.specs.declared.counts.Mark.the-variants.{Stored, Unplaced}
+use Rattle.wing_mirror.specs.declared.origin.Origin.the-variants.{Console}
 use Rattle.wing_mirror.proofs.Records.Choices.{keeping-cases}
 use Rattle.wing_mirror.proofs.Records.Lasting.{entry-usable}
 use Rattle.wing_mirror.proofs.Calls.Tallies.{keep-total}
@@ -55,17 +56,17 @@ smaller c s bytes p =
 
 -- a put of a value's record, counted by whether it was taken
 pub put-kept : (L : Layout) (node : ℤ) (v : NodeValue) (t : Table) (counts : Counts) (r : List ℕ) (p : Placed) (buffer : List ℕ) →
-    L .keeping v ≡ kept → r ≡ L .recordOf (entry node v) → putEffect p buffer ≡ putOf L r t →
+    L .keeping v ≡ kept → r ≡ L .recordOf (entry node v Console) → putEffect p buffer ≡ putOf L r t →
     tableTally (table buffer (p .count)) (tick (if (p .taken) Stored Unplaced) counts) ≡ keepEvent L node (value v) (tableTally t counts)
 unfolding putOf keepEvent put fits
 put-kept L node v t counts r p buffer o e d =
-    rw o (ap (λ (x : PutEffect). tally x) (d ∙ ap (λ (x : List ℕ). putOf L x t) e) ∙ go (takes (L .width) (L .keyOf) (L .recordOf (entry node v)) t))
+    rw o (ap (λ (x : PutEffect). tally x) (d ∙ ap (λ (x : List ℕ). putOf L x t) e) ∙ go (takes (L .width) (L .keyOf) (L .recordOf (entry node v Console)) t))
   where
     tally : PutEffect → TableTally
     tally x = tableTally (x .after) (tick (if (x .taken) Stored Unplaced) counts)
 
     after : Table
-    after = store (L .width) (L .keyOf) (L .recordOf (entry node v)) t
+    after = store (L .width) (L .keyOf) (L .recordOf (entry node v Console)) t
 
     go : (b : Bool) → tally (if b (record { after = after; taken = true }) (record { after = t; taken = false })) ≡ if b (tableTally after (tick Stored counts)) (tableTally t (tick Unplaced counts))
     go true = refl
@@ -76,7 +77,7 @@ pub value-usable : {L : Layout} → Lawful L → (node : ℤ) (v : NodeValue) (k
 unfolding keepEvent
 value-usable {L} laws node v k h u =
     keeping-cases P (L .keeping v) _ _ (λ mark number. u)
-    (λ o. branch P (fits L (entry node v) (k .table)) _ _ (λ f. entry-usable laws (entry node v) (k .table) (h o) o u f) (λ _. u))
+    (λ o. branch P (fits L (entry node v Console) (k .table)) _ _ (λ f. entry-usable laws (entry node v Console) (k .table) (h o) o u f) (λ _. u))
   where
     P : TableTally → Type 0
     P x = usable L (x .table) ≡ true

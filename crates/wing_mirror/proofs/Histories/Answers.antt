@@ -34,7 +34,7 @@ module _ {L : Layout} (laws : Lawful L) where
   sameNumber (Refused n) = 2
 
   -- the call says yes exactly if count and records are equal
-  says-same : (t u : Table) → usable L t ≡ true → usable L u ≡ true → ((sameAnswer L t u ≡ Yes) ↔ Equal L t u)
+  pub says-same : (t u : Table) → usable L t ≡ true → usable L u ≡ true → ((sameAnswer L t u ≡ Yes) ↔ Equal L t u)
   unfolding sameAnswer
   says-same t u p q = rw (p, q) (λ e. from-answer (sameTables L t u) refl e, λ e. rw (same-decides L t u .whole (e .counts, e .records)))
     where

@@ -21,12 +21,13 @@ use Rattle.wing_mirror.specs.Rows.{All}
 use Rattle.wing_mirror.specs.Entry.{entry, storable}
 use Rattle.wing_mirror.specs.Layout.{Layout, ValidEntry, kept}
 use Rattle.wing_mirror.specs.Machine.{StreamEvent, streamEvent, appendEvent, decodeAll, stateAfter, events}
+use Rattle.wing_mirror.specs.declared.origin.Origin.the-variants.{Console}
 use Rattle.wing_mirror.proofs.Tables.Images.{all-last}
 
 -- a value event's entry is valid, if its value is kept
 abbrev pub ValidEvent : Layout → ℤ → Event → Type 0
 ValidEvent L node more = Unit {0}
-ValidEvent L node (value v) = L .keeping v ≡ kept → ValidEntry L (entry node v)
+ValidEvent L node (value v) = L .keeping v ≡ kept → ValidEntry L (entry node v Console)
 ValidEvent L node (body b) = Unit {0}
 ValidEvent L node end = Unit {0}
 ValidEvent L node (refused n) = Unit {0}

@@ -2,7 +2,7 @@
 use Prim.Native.Nat.{ℕ}
 use mathlib.Core.Bool.{Bool, true, false}
 use mathlib.Core.Path.{_≡_, refl, sym, _∙_, ap}
-use mathlib.Core.List.{List, _++_, map}
+use mathlib.Core.List.{List, [], _∷_, _++_, map}
 use native.Mathlib.Omega.{arith}
 use lib.Dec.{ltb}
 use lib.ListN.{length, take, drop, length-map}
@@ -12,8 +12,8 @@ use Rattle.wing_node.specs.Bool.{if}
 use Rattle.wing_wire.specs.Write.{WriteEffect, writeEffect, writeOf}
 use Rattle.wing_wire.specs.declared.write.Written.the-variants.{Bytes, Refused}
 use Rattle.wing_mirror.specs.Rows.{Table, All, rising}
-use Rattle.wing_mirror.specs.Entry.{Entry}
-use Rattle.wing_mirror.specs.Layout.{Layout, ValidEntry, Lawful}
+use Rattle.wing_mirror.specs.Entry.{Entry, fromConsole}
+use Rattle.wing_mirror.specs.Layout.{Layout, ValidEntry, Lawful, originCleared}
 use Rattle.wing_mirror.specs.Table.{rows, usable}
 use Rattle.wing_mirror.specs.Call.{feed}
 use Rattle.wing_mirror.specs.Recall.{recallBytes, recallOf}
@@ -21,7 +21,7 @@ use Rattle.wing_mirror.specs.History.{rank, inOrder, newMirror, mirrorRu
 use Rattle.wing_mirror.proofs.Tables.Chunks.{length-records}
 use Rattle.wing_mirror.proofs.Histories.Maps.{all-order, order-rising}
 use Rattle.wing_mirror.proofs.Records.Entries.{rows-valid, rows-back, rows-rise, rows-signed}
-use Rattle.wing_mirror.proofs.Histories.Rebuilt.{order-own, map-rebuilt}
+use Rattle.wing_mirror.proofs.Histories.Rebuilt.{order-own, console-rises, map-rebuilt}
 use Rattle.wing_mirror.proofs.Histories.Agrees.{map-valid, run-agrees, run-order, run-equal}
 use Rattle.wing_mirror.proofs.Histories.Answers.{comparing, recalling}
 use Rattle.wing_mirror.proofs.Histories.Bounds.{run-bounded}
@@ -43,6 +43,11 @@ module _ {L : Layout} (laws : Lawful L) where
       go true q false e = let k : length bytes ≡ n = cc in (refl, rw (← k) (take-append-seam bytes (drop (length bytes) out)))
       go false q s e = absurd (let z : _≡_ {A = ℕ} 0 1 = cc in omega arith)
 
+  -- records with their origins cleared are those of the same entries from the console
+  pub clear-all : (es : List Entry) → map (originCleared L) (map recordOf es) ≡ map recordOf (map fromConsole es)
+  clear-all [] = refl
+  clear-all (e ∷ es) = rw (laws .cleared e, clear-all es)
+
   -- a table whose records say valid entries in rising order, and are the records of these
   module _ (t : Table) (valid : All (ValidEntry L) (map entryIn (rows L t))) (up : rising rank (map entryIn (rows L t)) ≡ true) (back : map recordOf (map entryIn (rows L t)) ≡ rows L t) where
     rebuilds : RebuiltBy L (recallBytes L t) t
@@ -53,8 +58,10 @@ module _ {L : Layout} (laws : Lawful L) where
         let m = map-rebuilt L (placesIn L buffer) es valid up (omega arith) n pieces short q in
         let g = run-agrees laws buffer (map feed pieces) typed in
         record {
-          counts = g .counts ∙ ap length m ∙ k;
-          records = g .records ∙ ap (λ (x : List Entry). map recordOf (inOrder x)) m ∙ ap (map recordOf) (order-own es up) ∙ back;
+          counts = g .counts ∙ ap length m ∙ length-map es fromConsole ∙ k;
+          records =
+              g .records ∙ ap (λ (x : List Entry). map recordOf (inOrder x)) m ∙ ap (map recordOf) (order-own (map fromConsole es) (console-rises es up))
+              ∙ sym (clear-all es) ∙ ap (map (originCleared L)) back;
         }
 
   -- of any table

@@ -12,6 +12,7 @@ use Rattle.wing_mirror.specs.Layout.{Keeping, kept, unkept, Layout, Lawf
 use Rattle.wing_mirror.specs.Mirror.{TableTally, tableTally, keepEvent}
 use Rattle.wing_mirror.specs.Machine.{StreamEvent, room, MapTally, machineEvent, machineEvents}
 use Rattle.wing_mirror.specs.History.{placesIn}
+use Rattle.wing_mirror.specs.declared.origin.Origin.the-variants.{Console}
 use Rattle.wing_mirror.proofs.Records.Choices.{keeping-cases}
 use Rattle.wing_mirror.proofs.Histories.Along.{foldEvents}
 use Rattle.wing_mirror.proofs.Histories.Maps.{ValidMap, valid-put}
@@ -27,7 +28,7 @@ module _ (L : Layout) (places : ℕ) where
   machine-event-valid node more h p g = g
   machine-event-valid node (value v) h p g =
       keeping-cases P (keeping v) _ _ (λ mark number. g)
-      (λ k. branch P (room places node (h .map)) _ _ (λ q. valid-put places (entry node v) (h .map) g (p k) q) (λ _. g))
+      (λ k. branch P (room places node (h .map)) _ _ (λ q. valid-put places (entry node v Console) (h .map) g (p k) q) (λ _. g))
     where
       P : MapTally → Type 0
       P x = ValidMap L places (x .map)
@@ -59,8 +60,8 @@ module _ {L : Layout} (laws : Lawful L) (buffer : List ℕ) where
       go : (k : Keeping) → keeping v ≡ k → (t : Bool) → room (placesIn L buffer) node (h .map) ≡ t →
           keepEvent L node (value v) (tableTallyOf L buffer h) ≡ tableTallyOf L buffer (machineEvent keeping (placesIn L buffer) node (value v) h)
       go (unkept mark number) k t q = rw k
-      go kept k true q = rw (k, fits-image laws buffer (h .map) g (entry node v) (p k), q, put-image laws buffer (h .map) g (entry node v) (p k))
-      go kept k false q = rw (k, fits-image laws buffer (h .map) g (entry node v) (p k), q)
+      go kept k true q = rw (k, fits-image laws buffer (h .map) g (entry node v Console) (p k), q, put-image laws buffer (h .map) g (entry node v Console) (p k))
+      go kept k false q = rw (k, fits-image laws buffer (h .map) g (entry node v Console) (p k), q)
   keep-image node (body b) h p g = refl
   keep-image node end h p g = refl
   keep-image node (refused n) h p g = refl

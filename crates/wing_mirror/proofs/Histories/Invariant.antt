@@ -18,6 +18,7 @@ use Rattle.wing_mirror.specs.Table.{placesAllowed}
 use Rattle.wing_mirror.specs.Counts.{zeroCounts}
 use Rattle.wing_mirror.specs.Call.{Call, feed, set, tooLong, notText, Step, runAll, TypedCall}
 use Rattle.wing_mirror.specs.Machine.{Machine, newMachine, mapTally, room, events, machineStep}
+use Rattle.wing_mirror.specs.declared.origin.Origin.the-variants.{SetOrder}
 use Rattle.wing_mirror.proofs.Records.Choices.{keeping-cases}
 use Rattle.wing_mirror.proofs.Histories.Maps.{ValidMap, valid-empty, valid-put}
 use Rattle.wing_mirror.proofs.Histories.Decodes.{ValidState, fresh-valid, after-valid, events-valid}
@@ -30,7 +31,7 @@ pub record Invariant (L : Layout) (places : ℕ) (s : Machine) : Type 0 where
   pub map : ValidMap L places (s .map)
 
 -- an entry that set lets through may be kept
-pub set-valid : {L : Layout} (id : ℤ) (v : NodeValue) → InBits 31 id → Typed v → L .keeping v ≡ kept → tooLong v ≡ false → notText v ≡ false → ValidEntry L (entry id v)
+pub set-valid : {L : Layout} (id : ℤ) (v : NodeValue) → InBits 31 id → Typed v → L .keeping v ≡ kept → tooLong v ≡ false → notText v ≡ false → ValidEntry L (entry id v SetOrder)
 set-valid id v i t k a b = record { node = i; typed = t; text = text-storable v a b; isKept = k }
 
 module _ (L : Layout) (places : ℕ) where
@@ -65,7 +66,7 @@ module _ (L : Layout) (places : ℕ) where
       (λ a. branch P (notText v) _ _ (λ _. w)
       (λ b. branch P (not (room places id (s .map))) _ _ (λ _. w)
       (λ c. branch P (ltb (length out) (length (setBytes id v))) _ _ (λ _. w)
-      (λ _. record { decoder = w .decoder; map = valid-put places (entry id v) (s .map) (w .map) (set-valid id v (t .0) (t .1) k a b) (passed (room places id (s .map)) c) }))))))
+      (λ _. record { decoder = w .decoder; map = valid-put places (entry id v SetOrder) (s .map) (w .map) (set-valid id v (t .0) (t .1) k a b) (passed (room places id (s .map)) c) }))))))
 
   -- a call keeps it
   pub invariant-step : (s : Machine) (c : Call) → TypedCall c → Invariant L places s → Invariant L places (machineStep keeping places s c .state)

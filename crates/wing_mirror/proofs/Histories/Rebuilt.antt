@@ -1,4 +1,4 @@
--- The plain machine that is fed what recall writes, in any pieces, has the entries of the records.
+-- The plain machine that is fed what recall writes, in any pieces, has the entries of the records, from the console.
 use Prim.Native.Nat.{ℕ, _+_, _≤_, _<_}
 use mathlib.Core.Bool.{Bool, true, false}
 use mathlib.Core.Path.{_≡_, refl, sym, _∙_, ap}
@@ -12,8 +12,8 @@ use Rattle.wing_node.specs.Bool.{if}
 use Rattle.wing_wire.specs.Reader.{Event, more, value, body, end, refused}
 use Rattle.wing_wire.specs.State.{freshState}
 use Rattle.wing_node.specs.Bytes.{joined}
-use Rattle.wing_mirror.specs.Rows.{rising, In, All}
-use Rattle.wing_mirror.specs.Entry.{Entry, entry}
+use Rattle.wing_mirror.specs.Rows.{over, rising, In, All}
+use Rattle.wing_mirror.specs.Entry.{Entry, entry, fromConsole}
 use Rattle.wing_mirror.specs.Layout.{Keeping, kept, unkept, unlessKept, Layout, ValidEntry}
 use Rattle.wing_mirror.specs.Table.{placesAllowed}
 use Rattle.wing_mirror.specs.Counts.{zeroCounts}
@@ -22,6 +22,7 @@ use Rattle.wing_mirror.specs.Machine.{StreamEvent, sameId, has, putIn, r
 use Rattle.wing_mirror.specs.Recall.{setOf}
 use Rattle.wing_mirror.specs.History.{rank, inOrder, machineRun}
 use Rattle.wing_mirror.specs.declared.counts.Mark.{Mark}
+use Rattle.wing_mirror.specs.declared.origin.Origin.the-variants.{Console}
 use Rattle.wing_mirror.proofs.Tables.Ordered.{insert-front, rising-head, rising-tail}
 use Rattle.wing_mirror.proofs.Tables.Members.{above}
 use Rattle.wing_mirror.proofs.Records.Ids.{same-id}
@@ -48,7 +49,7 @@ has-not e (x ∷ m) es r =
     go (sameId (x .id) (e .id)) refl l (has-not e m es (rising-tail rank x _ r))
   where
     go : (t : Bool) → sameId (x .id) (e .id) ≡ t → rank x < rank e → has (e .id) m ≡ false → if t true (has (e .id) m) ≡ false
-    go true q l ih = let z : rank x ≡ rank e = ap (λ (i : ℤ). rank (entry i (e .value))) (same-id (x .id) (e .id) q) in absurd (omega arith)
+    go true q l ih = let z : rank x ≡ rank e = ap (λ (i : ℤ). rank (entry i (e .value) (e .origin))) (same-id (x .id) (e .id) q) in absurd (omega arith)
     go false q l ih = ih
 
 -- a new node's entry goes to the end
@@ -67,13 +68,20 @@ unfolding inOrder
 order-own [] r = refl
 order-own (e ∷ es) r = rw (order-own es (rising-tail rank e es r)) (insert-front rank e es (rising-head rank e es r))
 
+-- the order does not look at origins
+pub console-rises : (es : List Entry) → rising rank es ≡ true → rising rank (map fromConsole es) ≡ true
+unfolding rising over
+console-rises [] r = refl
+console-rises (e ∷ []) r = refl
+console-rises (e ∷ f ∷ es) r = rw (rising-head rank e (f ∷ es) r) (console-rises (f ∷ es) (rising-tail rank e (f ∷ es) r))
+
 module _ (L : Layout) (places : ℕ) where
   open Layout L using (keeping)
 
   -- what an event makes of the map alone
   unfoldable mapEvent : ℤ → Event → List Entry → List Entry
   mapEvent node more m = m
-  mapEvent node (value v) m = unlessKept (keeping v) (λ mark number. m) (if (room places node m) (putIn (entry node v) m) m)
+  mapEvent node (value v) m = unlessKept (keeping v) (λ mark number. m) (if (room places node m) (putIn (entry node v Console) m) m)
   mapEvent node (body b) m = m
   mapEvent node end m = m
   mapEvent node (refused n) m = m
@@ -116,27 +124,29 @@ module _ (L : Layout) (places : ℕ) where
       ∙ feeds r (fedTo s p) q ps (a .1)
       ∙ sym (ap (λ (rs : List StreamEvent). foldEvents mapEvent rs (s .map)) (events-pieces (s .decoder) p (joined (q ∷ ps))) ∙ fold-append mapEvent (events (s .decoder) p) _ (s .map))
 
-  map-event-new : (e : Entry) (m : List Entry) → keeping (e .value) ≡ kept → has (e .id) m ≡ false → length m < places → mapEvent (e .id) (value (e .value)) m ≡ m ++ (e ∷ [])
+  map-event-new : (e : Entry) (m : List Entry) → keeping (e .value) ≡ kept → has (e .id) m ≡ false → length m < places → mapEvent (e .id) (value (e .value)) m ≡ m ++ (fromConsole e ∷ [])
   unfolding mapEvent room
-  map-event-new e m k h l = rw (k, h, lt-ltb (length m) places l) (put-last e m h)
+  map-event-new e m k h l = rw (k, h, lt-ltb (length m) places l) (put-last (fromConsole e) m h)
 
-  -- rising entries, put into the map one after the other
-  map-events : (es m : List Entry) → All (ValidEntry L) es → rising rank (m ++ es) ≡ true → length m + length es ≤ places → foldEvents mapEvent (map entryEvent es) m ≡ m ++ es
+  -- rising entries, put into the map one after the other, come from the console
+  map-events : (es m : List Entry) → All (ValidEntry L) es → rising rank (m ++ map fromConsole es) ≡ true → length m + length es ≤ places →
+      foldEvents mapEvent (map entryEvent es) m ≡ m ++ map fromConsole es
   unfolding foldEvents
   map-events [] m p r l = sym (append-nil m)
   map-events (e ∷ es) m p r l =
-      let n = length-append m (e ∷ []) in
-      ap (foldEvents mapEvent (map entryEvent es)) (map-event-new e m (p .0 .isKept) (has-not e m es r) (omega arith))
-      ∙ map-events es (m ++ (e ∷ [])) (p .1) (rw (append-assoc m (e ∷ []) es) r) (omega arith) ∙ append-assoc m (e ∷ []) es
+      let last : List Entry = fromConsole e ∷ [] in
+      let n = length-append m last in
+      ap (foldEvents mapEvent (map entryEvent es)) (map-event-new e m (p .0 .isKept) (has-not (fromConsole e) m (map fromConsole es) r) (omega arith))
+      ∙ map-events es (m ++ last) (p .1) (rw (append-assoc m last (map fromConsole es)) r) (omega arith) ∙ append-assoc m last (map fromConsole es)
 
   -- the machine that is fed it, in any pieces
   pub map-rebuilt : (es : List Entry) → All (ValidEntry L) es → rising rank es ≡ true → length es ≤ places → placesAllowed places ≡ true →
       (pieces : List (List ℕ)) → All (λ (q : List ℕ). length q ≤ 65536) pieces → joined pieces ≡ 0xdf ∷ 0xd1 ∷ joined (map setOf es) →
-      machineRun L places (map feed pieces) .state .map ≡ es
+      machineRun L places (map feed pieces) .state .map ≡ map fromConsole es
   unfolding joined
   map-rebuilt es p r l n [] a q = cc
   map-rebuilt es p r l n (x ∷ xs) a q =
       feeds n newMachine x xs a
       ∙ ap (λ (bytes : List ℕ). foldEvents mapEvent (events freshState bytes) []) q
       ∙ ap (λ (rs : List StreamEvent). foldEvents mapEvent rs []) (recall-events L es p)
-      ∙ map-events es [] p r (omega arith)
+      ∙ map-events es [] p (console-rises es r) (omega arith)

@@ -21,6 +21,7 @@ use Rattle.wing_mirror.specs.Call.{Call, feed, set, tooLong, notText, St
 use Rattle.wing_mirror.specs.Mirror.{tableTally, keepEvent, mirrorFeed, mirrorSet}
 use Rattle.wing_mirror.specs.Machine.{Machine, newMachine, mapTally, room, events, machineFeed, machineStep}
 use Rattle.wing_mirror.specs.History.{Mirror, newMirror, mirrorStep, placesIn, inOrder}
+use Rattle.wing_mirror.specs.declared.origin.Origin.the-variants.{SetOrder}
 use Rattle.wing_mirror.proofs.Tables.Chunks.{laid-nil}
 use Rattle.wing_mirror.proofs.Histories.Along.{foldEvents}
 use Rattle.wing_mirror.proofs.Histories.Mirrored.{tableOf, usable-image, fits-image, put-image}
@@ -35,7 +36,7 @@ module _ (L : Layout) (buffer : List ℕ) where
   mirrorOf s = record { decoder = s .decoder; table = tableOf L buffer (s .map) }
 
   -- the image of a step
-  abbrev imageStep : Step Machine → Step Mirror
+  abbrev pub imageStep : Step Machine → Step Mirror
   imageStep r = record { state = mirrorOf (r .state); outcome = r .outcome }
 
   -- the image of a history
@@ -91,18 +92,18 @@ module _ {L : Layout} (laws : Lawful L) (buffer : List ℕ) where
       go true p kept o false q true r d e l f = rw (u, p, o, q, r)
       go true p kept o false q false r d e l f = last d e l f
         where
-          valid : ValidEntry L (entry id v)
+          valid : ValidEntry L (entry id v SetOrder)
           valid = set-valid id v (t .0) (t .1) o q r
 
-          i : fits L (entry id v) T ≡ room (placesIn L buffer) id (s .map)
-          i = fits-image laws buffer (s .map) (w .map) (entry id v) valid
+          i : fits L (entry id v SetOrder) T ≡ room (placesIn L buffer) id (s .map)
+          i = fits-image laws buffer (s .map) (w .map) (entry id v SetOrder) valid
 
           last : (d : Bool) → room (placesIn L buffer) id (s .map) ≡ d → (l : Bool) → ltb (length out) (length (setBytes id v)) ≡ l →
               mirrorStep L (mirrorOf L buffer s) (set id v out) ≡ imageStep L buffer (machineStep keeping (placesIn L buffer) s (set id v out))
           last false e l f = rw (u, p, o, q, r, i, e)
           last true e true f = rw (u, p, o, q, r, i, e, f)
           last true e false f =
-              rw (u, p, o, q, r, i, e, f, take-at (setBytes id v) (drop (length (setBytes id v)) out) (length (setBytes id v)) refl, put-image laws buffer (s .map) (w .map) (entry id v) valid)
+              rw (u, p, o, q, r, i, e, f, take-at (setBytes id v) (drop (length (setBytes id v)) out) (length (setBytes id v)) refl, put-image laws buffer (s .map) (w .map) (entry id v SetOrder) valid)
 
   -- any call
   pub step-image : (s : Machine) (c : Call) → TypedCall c → Invariant L (placesIn L buffer) s → mirrorStep L (mirrorOf L buffer s) c ≡ imageStep L buffer (machineStep keeping (placesIn L buffer) s c)

@@ -18,8 +18,11 @@ use Rattle.wing_node.proofs.Branches.{if-both}
 use Rattle.wing_wire.specs.State.{zeros}
 use Rattle.wing_wire.specs.Reader.{over, filled}
 use Rattle.wing_wire.proofs.Laws.{decoder-laws}
+use Rattle.wing_mirror.specs.Origin.{originNumber}
 use Rattle.wing_mirror.specs.Entry.{Entry, flipped, rankOf, storable}
 use Rattle.wing_mirror.specs.Record.{kindOf, payloadOf, recordOf, keyOf, stringKept, wellKept, wellFormed}
+use Rattle.wing_mirror.specs.declared.origin.Origin.{Origin}
+use Rattle.wing_mirror.specs.declared.origin.Origin.the-variants.{Console, SetOrder}
 use Rattle.wing_mirror.proofs.Records.Words.{unsigned-below}
 
 length-filled : (p : List ℕ) → length (filled 256 p) ≡ 256
@@ -75,9 +78,15 @@ value-kept (string s) h =
     few : length s ≤ 256
     few = leb-true (length s) 256 (if-both (leb (length s) 256) (utf8 s) h .0)
 
+-- 02: an origin is 0 or 1
+pub origin-known : (o : Origin) → leb (originNumber o) 1 ≡ true
+unfolding originNumber
+origin-known Console = refl
+origin-known SetOrder = refl
+
 pub record-form : (e : Entry) → storable (e .value) ≡ true → wellFormed (recordOf e) ≡ true
 unfolding wellFormed recordOf digitsIn
-record-form e h = value-kept (e .value) h
+record-form e h = rw (origin-known (e .origin)) (value-kept (e .value) h)
 
 -- a record stands where its id does
 pub record-key : (e : Entry) → InBits 31 (e .id) → keyOf (recordOf e) ≡ rankOf (e .id)

@@ -1,19 +1,21 @@
 -- The 264-byte record keeps the laws of a layout.
 use Prim.Native.Nat.{ℕ, _^_, _<_}
-use mathlib.Core.Path.{refl}
+use mathlib.Core.Path.{_≡_, refl}
 use mathlib.Core.List.{List}
 use native.Mathlib.Omega.{arith}
 use lib.Dec.{eqb}
-use lib.ListN.{take, length-drop}
+use lib.ListN.{take, getD, set, length-drop}
+use Rattle.wing_node.specs.Digits.{digitsIn}
 use Rattle.wing_node.specs.Field.{big}
 use Rattle.wing_node.specs.Signed.{signed}
 use Rattle.wing_node.specs.Value.{integer, float, string}
 use Rattle.wing_node.proofs.Branches.{branch}
 use Rattle.wing_node.proofs.Numerals.Numbers.{Digits, digits-drop}
 use Rattle.wing_node.proofs.Numerals.Signs.{signed-in}
-use Rattle.wing_mirror.specs.Entry.{Typed}
+use Rattle.wing_mirror.specs.Origin.{originNumber}
+use Rattle.wing_mirror.specs.Entry.{Entry, fromConsole, Typed}
 use Rattle.wing_mirror.specs.Layout.{ValidEntry, Row, Lawful}
-use Rattle.wing_mirror.specs.Record.{valueIn, entryIn, kindIn, lengthIn, payloadIn, full}
+use Rattle.wing_mirror.specs.Record.{recordOf, valueIn, entryIn, kindIn, lengthIn, payloadIn, full}
 use Rattle.wing_mirror.proofs.Records.Words.{are-digits, word-below}
 use Rattle.wing_mirror.proofs.Records.Formed.{record-width, record-form, record-key}
 use Rattle.wing_mirror.proofs.Records.Trips.{entry-back, read-storable, record-back}
@@ -40,13 +42,24 @@ module _ (r : List ℕ) (g : Row full r) where
   row-valid =
       record { node = signed-in 31 (big (take 4 r)) id-below; typed = value-typed; text = read-storable r (g .wide) bytes (g .form); isKept = refl }
 
+-- 02: the origin is the byte after the kind
+record-origin : (e : Entry) → getD (recordOf e) 5 0 ≡ originNumber (e .origin)
+unfolding recordOf digitsIn
+record-origin e = refl
+
+record-cleared : (e : Entry) → set (recordOf e) 5 0 ≡ recordOf (fromConsole e)
+unfolding recordOf originNumber digitsIn
+record-cleared e = refl
+
 pub full-laws : Lawful full
 full-laws =
     record {
       wide = record-width;
       placed = record-key;
       formed = λ e h k. record-form e h;
-      said = λ e p. entry-back (e .id) (e .value) (p .node) (p .typed) (p .text);
+      said = λ e p. entry-back (e .id) (e .value) (e .origin) (p .node) (p .typed) (p .text);
       valid = row-valid;
       back = λ r g. record-back r (g .wide) (bytes r g) (g .form);
+      origin = record-origin;
+      cleared = record-cleared;
     }

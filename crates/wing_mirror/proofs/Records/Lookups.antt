@@ -25,6 +25,7 @@ use Rattle.wing_mirror.specs.Table.{rows, usable, lookupOf}
 use Rattle.wing_mirror.specs.Query.{answerOf, lookupAnswer, valueOf, bytesBeside, readOf, recordAnswer}
 use Rattle.wing_mirror.specs.Answers.{lookupResult, entryResult, recordResult}
 use Rattle.wing_mirror.specs.Lookups.{RecordOf, Lookups}
+use Rattle.wing_mirror.specs.declared.origin.Origin.{Origin}
 use Rattle.wing_mirror.proofs.Tables.Chunks.{length-records}
 use Rattle.wing_mirror.proofs.Tables.Numbers.{placed, found-at}
 use Rattle.wing_mirror.proofs.Records.Ids.{same-id, same-rank}
@@ -37,13 +38,13 @@ rank-one : (i j : ℤ) → InBits 31 i → InBits 31 j → rankOf i ≡ rankOf j
 rank-one i j h k e = same-id i j (same-rank i j h k ∙ eq-eqb (rankOf i) (rankOf j) e)
 
 -- what a read of an entry's record says is the entry
-value-read : (id : ℤ) (v : NodeValue) → storable v ≡ true → recordResult (readOf (entry id v)) ≡ ok (entry id v)
+value-read : (id : ℤ) (v : NodeValue) (o : Origin) → storable v ≡ true → recordResult (readOf (entry id v o)) ≡ ok (entry id v o)
 unfolding entryResult readOf valueOf bytesBeside nodeValue storable
-value-read id (integer x) h = refl
-value-read id (float bits) h = refl
-value-read id (string s) h =
+value-read id (integer x) o h = refl
+value-read id (float bits) o h = refl
+value-read id (string s) o h =
     let l : length s ≤ 256 = leb-true (length s) 256 (if-both (leb (length s) 256) (utf8 s) h .0) in
-    ap (λ (x : List ℕ). ok (entry id (string x))) (take-over s (replicate 256 0) (omega (arith, length-replicate {A = ℕ} 256 0)))
+    ap (λ (x : List ℕ). ok (entry id (string x) o)) (take-over s (replicate 256 0) (omega (arith, length-replicate {A = ℕ} 256 0)))
 
 -- an element of a list all of which have it
 all-at : {A : Type 0} (P : A → Type 0) (default : A) (xs : List A) (n : ℕ) → All P xs → n < length xs → P (getD xs n default)
@@ -80,7 +81,7 @@ module _ {L : Layout} (laws : Lawful L) where
     pub read-row : (n : ℕ) → n < t .count → recordResult (recordAnswer L t n) ≡ ok (entryIn (row n))
     unfolding recordAnswer
     read-row n l =
-        rw (u, lt-ltb n (t .count) l) (value-read (entryIn (row n) .id) (entryIn (row n) .value) (laws .valid (row n) (formed n l) .text))
+        rw (u, lt-ltb n (t .count) l) (value-read (entryIn (row n) .id) (entryIn (row n) .value) (entryIn (row n) .origin) (laws .valid (row n) (formed n l) .text))
 
     -- its key is its id's
     key-row : (n : ℕ) → n < t .count → keyOf (row n) ≡ rankOf (entryIn (row n) .id)
@@ -109,7 +110,7 @@ module _ {L : Layout} (laws : Lawful L) where
           let l : n < t .count = omega (arith, p .0, counted) in
           let e = entryIn (row n) in
           let k : rankOf (e .id) ≡ rankOf id = sym (key-row n l) ∙ p .1 in
-          record { value = e .value; read = read-row n l ∙ ap (λ (j : ℤ). ok (entry j (e .value))) (rank-one (e .id) id (laws .valid (row n) (formed n l) .node) i k) }
+          record { value = e .value; origin = e .origin; read = read-row n l ∙ ap (λ (j : ℤ). ok (entry j (e .value) (e .origin))) (rank-one (e .id) id (laws .valid (row n) (formed n l) .node) i k) }
 
       -- a record of this id is found
       id-found : (n : ℕ) → RecordOf L t n id → (holds keyOf (rankOf id) (rows L t) ≡ true) × (below keyOf (rankOf id) (rows L t) ≡ n)
@@ -118,11 +119,11 @@ module _ {L : Layout} (laws : Lawful L) where
           go : (x : Bool) → ltb n (t .count) ≡ x → (holds keyOf (rankOf id) (rows L t) ≡ true) × (below keyOf (rankOf id) (rows L t) ≡ n)
           go true q =
               let l : n < t .count = ltb-true n (t .count) q in
-              let same : _≡_ {A = Result Entry} (ok (entryIn (row n))) (ok (entry id (r .value))) = sym (read-row n l) ∙ r .read in
-              let w : _≡_ {A = Entry} (entryIn (row n)) (entry id (r .value)) = cc in
+              let same : _≡_ {A = Result Entry} (ok (entryIn (row n))) (ok (entry id (r .value) (r .origin))) = sym (read-row n l) ∙ r .read in
+              let w : _≡_ {A = Entry} (entryIn (row n)) (entry id (r .value) (r .origin)) = cc in
               let e : entryIn (row n) .id ≡ id = ap (λ (x : Entry). x .id) w in
               found-at keyOf [] (rankOf id) n (rows L t) (up L t u) (omega (arith, l, counted)) (key-row n l ∙ ap rankOf e)
-          go false q = absurd (no-value (alone 14) (entry id (r .value)) (sym (past n q) ∙ r .read))
+          go false q = absurd (no-value (alone 14) (entry id (r .value) (r .origin)) (sym (past n q) ∙ r .read))
 
       -- lookup and record read, both ways
       pub at-row : (n : ℕ) → (lookupResult (lookupAnswer L t id) ≡ ok (found n) ↔ RecordOf L t n id)
@@ -145,7 +146,7 @@ module _ {L : Layout} (laws : Lawful L) where
 
   -- a table that is not usable is refused by both
   unusable : (t : Table) (id : ℤ) (n : ℕ) → usable L t ≡ false → (lookupResult (lookupAnswer L t id) ≡ ok (found n) ↔ RecordOf L t n id)
-  unusable t id n q = (λ e. absurd (no-value (alone 7) (found n) (sym looks ∙ e)), λ r. absurd (no-value (alone 7) (entry id (r .value)) (sym reads ∙ r .read)))
+  unusable t id n q = (λ e. absurd (no-value (alone 7) (found n) (sym looks ∙ e)), λ r. absurd (no-value (alone 7) (entry id (r .value) (r .origin)) (sym reads ∙ r .read)))
     where
       looks : lookupResult (lookupAnswer L t id) ≡ refused (alone 7)
       looks = lookup-refused t id q

@@ -19,8 +19,11 @@ use Rattle.wing_node.proofs.Numerals.Numbers.{Digits, digits-take, digits-drop,
 use Rattle.wing_node.proofs.Branches.{if-both}
 use Rattle.wing_wire.specs.State.{zeros}
 use Rattle.wing_wire.specs.Reader.{over, filled}
+use Rattle.wing_mirror.specs.Origin.{originNumber, originOf}
 use Rattle.wing_mirror.specs.Entry.{entry, storable, Typed}
 use Rattle.wing_mirror.specs.Record.{kindOf, payloadOf, recordOf, kindIn, lengthIn, payloadIn, valueIn, entryIn, stringKept, wellKept, wellFormed}
+use Rattle.wing_mirror.specs.declared.origin.Origin.{Origin}
+use Rattle.wing_mirror.specs.declared.origin.Origin.the-variants.{Console, SetOrder}
 use Rattle.wing_mirror.proofs.Records.Words.{word-back, int-back, word-again, int-again}
 use Rattle.wing_mirror.proofs.Records.Formed.{take-over}
 
@@ -29,13 +32,28 @@ string-back s h =
     let z : length (replicate {A = ℕ} 256 0) ≡ 256 = length-replicate {A = ℕ} 256 0 in
     ap (λ (n : ℕ). take n (filled 256 s)) (number-digits 256 2 (length s) (omega arith) (omega arith)) ∙ take-over s (replicate 256 0) (omega arith)
 
+-- 02: an origin by its number, both ways
+pub origin-back : (o : Origin) → originOf (originNumber o) ≡ o
+unfolding originOf originNumber
+origin-back Console = refl
+origin-back SetOrder = refl
+
+pub origin-again : (n : ℕ) → n ≤ 1 → originNumber (originOf n) ≡ n
+unfolding originOf originNumber
+origin-again zero h = refl
+origin-again (suc zero) h = refl
+origin-again (suc (suc n)) h = absurd (omega arith)
+
 -- what was laid is what is read
-pub entry-back : (id : ℤ) (v : NodeValue) → InBits 31 id → Typed v → storable v ≡ true → entryIn (recordOf (entry id v)) ≡ entry id v
+value-back : (id : ℤ) (v : NodeValue) (o : Origin) → InBits 31 id → Typed v → storable v ≡ true → entryIn (recordOf (entry id v o)) ≡ entry id v (originOf (originNumber o))
 unfolding entryIn valueIn recordOf kindOf payloadOf storable digitsIn
-entry-back id (integer x) h t s = ap₂ (λ (i y : ℤ). entry i (integer y)) (int-back id h) (int-back x t)
-entry-back id (float bits) h t s = ap₂ (λ (i : ℤ) (y : ℕ). entry i (float y)) (int-back id h) (word-back bits t)
-entry-back id (string l) h t s =
-    ap₂ (λ (i : ℤ) (y : List ℕ). entry i (string y)) (int-back id h) (string-back l (leb-true (length l) 256 (if-both (leb (length l) 256) (utf8 l) s .0)))
+value-back id (integer x) o h t s = ap₂ (λ (i y : ℤ). entry i (integer y) (originOf (originNumber o))) (int-back id h) (int-back x t)
+value-back id (float bits) o h t s = ap₂ (λ (i : ℤ) (y : ℕ). entry i (float y) (originOf (originNumber o))) (int-back id h) (word-back bits t)
+value-back id (string l) o h t s =
+    ap₂ (λ (i : ℤ) (y : List ℕ). entry i (string y) (originOf (originNumber o))) (int-back id h) (string-back l (leb-true (length l) 256 (if-both (leb (length l) 256) (utf8 l) s .0)))
+
+pub entry-back : (id : ℤ) (v : NodeValue) (o : Origin) → InBits 31 id → Typed v → storable v ≡ true → entryIn (recordOf (entry id v o)) ≡ entry id v o
+entry-back id v o h t s = value-back id v o h t s ∙ ap (entry id v) (origin-back o)
 
 zeros-cons : (a : ℕ) (s : List ℕ) → zeros (a ∷ s) ≡ true → (a ≡ 0) × (zeros s ≡ true)
 unfolding zeros
@@ -102,8 +120,8 @@ parts r h =
     ∙ take-append-drop 4 r
 
 module _ (r : List ℕ) (wide : length r ≡ 264) (bytes : Digits 256 r) (form : wellFormed r ≡ true) where
-  first : (eqb (getD r 5 0) 0 ≡ true) × (wellKept (kindIn r) (lengthIn r) (payloadIn r) ≡ true)
-  first = if-both (eqb (getD r 5 0) 0) (wellKept (kindIn r) (lengthIn r) (payloadIn r)) (unfold wellFormed in form)
+  first : (leb (getD r 5 0) 1 ≡ true) × (wellKept (kindIn r) (lengthIn r) (payloadIn r) ≡ true)
+  first = if-both (leb (getD r 5 0) 1) (wellKept (kindIn r) (lengthIn r) (payloadIn r)) (unfold wellFormed in form)
 
   again : Again (lengthIn r) (drop 8 r) (omega (arith, length-drop 8 r)) (digits-drop 256 8 r bytes) (getD r 4 0)
   again = value-again (lengthIn r) (drop 8 r) (omega (arith, length-drop 8 r)) (digits-drop 256 8 r bytes) (getD r 4 0) (first .1)
@@ -117,11 +135,12 @@ module _ (r : List ℕ) (wide : length r ≡ 264) (bytes : Digits 256 r) (form :
   unfolding recordOf entryIn valueIn
   record-back =
       let v = valueBy (getD r 4 0) (lengthIn r) (drop 8 r) in
+      let o : ℕ = originNumber (originOf (getD r 5 0)) in
       let l : length (take 2 (drop 6 r)) ≡ 2 = length-take-le 2 (drop 6 r) (omega (arith, length-drop 6 r)) in
       let w : bytesOf 2 (length (payloadOf v)) ≡ take 2 (drop 6 r) =
       ap (bytesOf 2) (again .1) ∙ digits-number 256 2 (take 2 (drop 6 r)) l (digits-take 256 2 (drop 6 r) (digits-drop 256 6 r bytes)) in
-      ap (λ (a : List ℕ). build a (kindOf v) 0 (bytesOf 2 (length (payloadOf v))) (filled 256 (payloadOf v))) (int-again (take 4 r) (length-take-le 4 r (omega arith)) (digits-take 256 4 r bytes))
-      ∙ ap (λ (k : ℕ). build (take 4 r) k 0 (bytesOf 2 (length (payloadOf v))) (filled 256 (payloadOf v))) (again .0)
-      ∙ ap (λ (z : ℕ). build (take 4 r) (getD r 4 0) z (bytesOf 2 (length (payloadOf v))) (filled 256 (payloadOf v))) (sym (eqb-true (getD r 5 0) 0 (first .0)))
+      ap (λ (a : List ℕ). build a (kindOf v) o (bytesOf 2 (length (payloadOf v))) (filled 256 (payloadOf v))) (int-again (take 4 r) (length-take-le 4 r (omega arith)) (digits-take 256 4 r bytes))
+      ∙ ap (λ (k : ℕ). build (take 4 r) k o (bytesOf 2 (length (payloadOf v))) (filled 256 (payloadOf v))) (again .0)
+      ∙ ap (λ (z : ℕ). build (take 4 r) (getD r 4 0) z (bytesOf 2 (length (payloadOf v))) (filled 256 (payloadOf v))) (origin-again (getD r 5 0) (leb-true (getD r 5 0) 1 (first .0)))
       ∙ ap₂ (λ (a b : List ℕ). build (take 4 r) (getD r 4 0) (getD r 5 0) a b) w (again .2)
       ∙ parts r wide

@@ -7,18 +7,19 @@ use native.Mathlib.Omega.{arith}
 use native.Mathlib.Nat.{zero-min, min-zero, suc-min-suc}
 use borrow.Author.Tests.{le-leb, leb-true}
 use lib.Dec.{leb}
-use lib.ListN.{length, replicate, set, take, drop, length-append, length-take, length-replicate}
+use lib.ListN.{length, replicate, set, take, drop, length-append, length-take}
 use lib.Seq.{sets, sets-eq, length-take-le, take-append-le, take-take, drop-at}
 use lib.IntN.{ℤ}
 use Rattle.wing_node.specs.Digits.{digitsIn}
 use Rattle.wing_node.specs.Signed.{unsigned}
 use Rattle.wing_node.specs.Value.{NodeValue, string}
-use Rattle.wing_node.specs.Field.{bytesOf, put, putAt}
-use Rattle.wing_node.proofs.Numerals.Placed.{field-sets}
+use Rattle.wing_node.specs.Field.{bytesOf}
 use Rattle.wing_wire.specs.Reader.{over, filled}
+use Rattle.wing_mirror.specs.Origin.{originNumber}
 use Rattle.wing_mirror.specs.Entry.{entry}
 use Rattle.wing_mirror.specs.Call.{tooLong}
-use Rattle.wing_mirror.specs.Record.{kindOf, payloadOf, recordOf, laidFrom}
+use Rattle.wing_mirror.specs.Record.{kindOf, payloadOf, recordOf, headFrom, laidFrom}
+use Rattle.wing_mirror.specs.declared.origin.Origin.{Origin}
 
 -- the gap, filled
 pub gap-laid : (b : List ℕ) (from end w : ℕ) (rec : List ℕ) → from ≤ end → end + w ≤ length b → length rec ≡ w →
@@ -48,16 +49,16 @@ sets-after : (front d vs : List ℕ) → sets (front ++ d) (length front) vs ≡
 sets-after [] d vs = sets-over vs d
 sets-after (x ∷ front) d vs = sets-cons x (front ++ d) vs (length front) ∙ ap (λ (l : List ℕ). x ∷ l) (sets-after front d vs)
 
--- id, kind, length and payload over zeros
-laid-eight : (d : List ℕ) (u kind n : ℕ) (p : List ℕ) →
-    sets (sets (set (sets (0 ∷ 0 ∷ 0 ∷ 0 ∷ 0 ∷ 0 ∷ 0 ∷ 0 ∷ d) 0 (bytesOf 4 u)) 4 kind) 6 (bytesOf 2 n)) 8 p
-    ≡ bytesOf 4 u ++ (kind ∷ 0 ∷ (bytesOf 2 n ++ over p d))
+-- id, origin, kind, length and payload over zeros
+laid-eight : (d : List ℕ) (u o kind n : ℕ) (p : List ℕ) →
+    sets (sets (set (set (sets (0 ∷ 0 ∷ 0 ∷ 0 ∷ 0 ∷ 0 ∷ 0 ∷ 0 ∷ d) 0 (bytesOf 4 u)) 5 o) 4 kind) 6 (bytesOf 2 n)) 8 p
+    ≡ bytesOf 4 u ++ (kind ∷ o ∷ (bytesOf 2 n ++ over p d))
 unfolding digitsIn
-laid-eight d u kind n p = sets-after (bytesOf 4 u ++ (kind ∷ 0 ∷ bytesOf 2 n)) d p
+laid-eight d u o kind n p = sets-after (bytesOf 4 u ++ (kind ∷ o ∷ bytesOf 2 n)) d p
 
-pub laid-whole : (u kind : ℕ) (p : List ℕ) →
-    laidFrom (sets (replicate 264 0) 0 (bytesOf 4 u)) kind p ≡ bytesOf 4 u ++ (kind ∷ 0 ∷ (bytesOf 2 (length p) ++ filled 256 p))
-laid-whole u kind p = laid-eight (replicate 256 0) u kind (length p) p
+pub laid-whole : (u o kind : ℕ) (p : List ℕ) →
+    laidFrom (set (sets (replicate 264 0) 0 (bytesOf 4 u)) 5 o) kind p ≡ bytesOf 4 u ++ (kind ∷ o ∷ (bytesOf 2 (length p) ++ filled 256 p))
+laid-whole u o kind p = laid-eight (replicate 256 0) u o kind (length p) p
 
 -- a string's bytes, the first n of those lent
 pub take-least : (n : ℕ) (s : List ℕ) → take (min n (length s)) s ≡ take n s
@@ -72,14 +73,13 @@ string-laid o mid last s n len l e f =
     let z : len ≡ length (take n s) = l ∙ sym (length-take n s) in
     f ∙ ap (λ (q : List ℕ). sets mid 8 q) t ∙ ap (λ (q : List ℕ). sets q 8 (take n s)) (e ∙ ap (λ (m : ℕ). sets (set o 4 2) 6 (bytesOf 2 m)) z)
 
--- the record of an entry, over zeros, the id first
-pub record-laid : (id : ℤ) (v : NodeValue) (a b last : List ℕ) (r : Bool) → a ≡ replicate 264 0 → put r b ≡ putAt (bytesOf 4 (unsigned 31 id)) 0 a →
-    last ≡ laidFrom b (kindOf v) (payloadOf v) → last ≡ recordOf (entry id v)
+-- the record of an entry, over zeros, id and origin first
+pub record-laid : (id : ℤ) (v : NodeValue) (o : Origin) (a b last : List ℕ) → a ≡ replicate 264 0 → b ≡ headFrom a id o →
+    last ≡ laidFrom b (kindOf v) (payloadOf v) → last ≡ recordOf (entry id v o)
 unfolding recordOf
-record-laid id v a b last r ea eb el =
-    let wide : length a ≡ 264 = ap length ea ∙ length-replicate {A = ℕ} 264 0 in
-    let all : b ≡ sets (replicate 264 0) 0 (bytesOf 4 (unsigned 31 id)) = field-sets 4 (unsigned 31 id) 0 a b r (omega arith) (omega arith) eb ∙ ap (λ (l : List ℕ). sets l 0 (bytesOf 4 (unsigned 31 id))) ea in
-    el ∙ ap (λ (l : List ℕ). laidFrom l (kindOf v) (payloadOf v)) all ∙ laid-whole (unsigned 31 id) (kindOf v) (payloadOf v)
+record-laid id v o a b last ea eb el =
+    el ∙ ap (λ (l : List ℕ). laidFrom l (kindOf v) (payloadOf v)) (eb ∙ ap (λ (l : List ℕ). headFrom l id o) ea)
+    ∙ laid-whole (unsigned 31 id) (originNumber o) (kindOf v) (payloadOf v)
 
 -- a string that is not too long has room in a record
 pub short : (s : List ℕ) → tooLong (string s) ≡ false → length s ≤ 256

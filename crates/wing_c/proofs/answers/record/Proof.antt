@@ -1,4 +1,4 @@
--- A record goes by `record_of`, a refusal by `minus`.
+-- A record goes by `record_of`, with its origin's number, a refusal by `minus`.
 use mir.Syntax.{w32}
 use mir.Val.{toZ, ofZ}
 use mathlib.Core.Path.{_≡_, _∙_, ap}
@@ -8,6 +8,9 @@ use Rattle.wing_c.proofs.answers.record.Tie as tie
 
 enum-known-a : tie.Need-enum-known-a
 enum-known-a c = search needs
+
+number-requires : tie.Need-number-requires
+number-requires c κs = search needs
 
 record-of-requires : tie.Need-record-of-requires
 record-of-requires c κs = search needs
@@ -20,8 +23,8 @@ minus-requires c κs = search needs
 
 returns : tie.Need-returns
 returns c =
-    let back : toZ w32 (ofZ w32 (c .before .before .a .given .0 .0)) ≡ c .before .before .a .given .0 .0 = search needs in
-    (rw back at (c .record-of .ensures)) ∙ simp (c .before .before .a .given .1)
+    let back : toZ w32 (ofZ w32 (c .before .before .before .a .given .0 .0)) ≡ c .before .before .before .a .given .0 .0 = search needs in
+    (rw (back, c .before .number .ensures) at (c .record-of .ensures)) ∙ simp (c .before .before .before .a .given .1)
 
 returns-2 : tie.Need-returns-2
 returns-2 c =
@@ -31,4 +34,4 @@ returns-2 c =
 pub record-spec : {M : Type 1} → statement M
 record-spec =
     tie.close
-    (tie.spec enum-known-a record-of-requires enum-known-a-2 minus-requires returns returns-2)
+    (tie.spec enum-known-a number-requires record-of-requires enum-known-a-2 minus-requires returns returns-2)

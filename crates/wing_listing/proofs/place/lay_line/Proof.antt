@@ -1,4 +1,4 @@
--- `zero` and `put_i32` leave the id over zeros, and `lay_said` the value over that: the record of what the line says (wing_mirror's `record-laid`).
+-- `zero` and `put_i32` leave the id over zeros, which is the head of a record from the console (`console-head`), and `lay_said` the value over that: the record of what the line says (wing_mirror's `record-laid`).
 use Prim.Native.Nat.{ℕ}
 use mathlib.Core.Path.{_≡_, sym, ap, _∙_}
 use mathlib.Core.List.{List}
@@ -11,11 +11,13 @@ use Rattle.wing_node.specs.Field.{put, putAt, bytesOf}
 use Rattle.wing_node.specs.Signed.{unsigned}
 use Rattle.wing_node.specs.Value.{NodeValue}
 use Rattle.wing_mirror.specs.Record.{kindOf, payloadOf, laidFrom}
+use Rattle.wing_mirror.specs.declared.origin.Origin.the-variants.{Console}
 use Rattle.wing_mirror.proofs.Tables.Laying.{record-laid}
 use Rattle.wing_listing.specs.Parts.{comma, part}
 use Rattle.wing_listing.specs.Reading.{idSaid, entrySaid, valueFault}
 use Rattle.wing_listing.proofs.Texts.Reads.{read-passed}
 use Rattle.wing_listing.proofs.Texts.Scans.{read-id}
+use Rattle.wing_listing.proofs.Texts.Places.{console-head}
 use Rattle.wing_listing.proofs.Texts.Judged.{value-from, value-formed, value-same}
 use Rattle.wing_listing.proofs.place.lay_line.Statement.{statement}
 use Rattle.wing_listing.proofs.place.lay_line.Tie as tie
@@ -65,8 +67,9 @@ returns c =
     let z = c .before .before .before .before .before .before .before .before .before .before .before .before .zero in
     let i = c .before .before .before .before .before .before .before .put-i32 in
     let id : toZ w32 (ofZ w32 (l .result .id)) ≡ idSaid x = read-passed (part comma 0 x) (l .result .id) (l .ensures .id) ∙ read-id x (s .pre .1) in
-    record-laid (idSaid x) (entrySaid x .value) (z .last .0) (i .last .0) (c .before .before .lay-said .last .0) (i .result) (z .ensures ∙ ap (λ n. replicate n 0) (s .pre .0))
-    (i .ensures ∙ ap (λ y. putAt (bytesOf 4 (unsigned 31 y)) 0 (z .last .0)) id)
+    let zeros : z .last .0 ≡ replicate 264 0 = z .ensures ∙ ap (λ n. replicate n 0) (s .pre .0) in
+    record-laid (idSaid x) (entrySaid x .value) Console (z .last .0) (i .last .0) (c .before .before .lay-said .last .0) zeros
+    (console-head (idSaid x) (z .last .0) (i .last .0) (i .result) zeros (i .ensures ∙ ap (λ y. putAt (bytesOf 4 (unsigned 31 y)) 0 (z .last .0)) id))
     (c .before .before .lay-said .ensures ∙ ap (λ (v : NodeValue). laidFrom (i .last .0) (kindOf v) (payloadOf v)) (value-same x (l .result) (l .ensures) (s .pre .1)))
 
 pub lay-line-spec : {M : Type 1} → statement M

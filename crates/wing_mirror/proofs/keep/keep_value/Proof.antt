@@ -8,6 +8,7 @@ use Rattle.wing_mirror.specs.Record.{full}
 use Rattle.wing_mirror.specs.Entry.{entry}
 use Rattle.wing_mirror.specs.Record.{recordOf}
 use Rattle.wing_mirror.specs.Table.{table}
+use Rattle.wing_mirror.specs.declared.origin.Origin.the-variants.{Console}
 use Rattle.wing_mirror.specs.Order.{putRow}
 use Rattle.wing_mirror.proofs.Records.Ready.{in-order, put-is}
 use Rattle.wing_mirror.proofs.Calls.Turns.{put-kept}
@@ -43,7 +44,7 @@ returns c =
     let l = at-lay-record .lay-record in
     let p = at-put .put in
     let v = nodeValue (start .args .value) (start .args .string .now) in
-    let e = l .ensures ∙ ap (λ (x : ℤ). recordOf (entry x v)) (toZ-ofZ (start .fits .node)) in
+    let e = l .ensures ∙ ap (λ (x : ℤ). recordOf (entry x v Console)) (toZ-ofZ (start .fits .node)) in
     let t = table (start .args .table .now) (start .args .t .count) in
     rw (c .mark .ensures) (rw (c .before .if1 .taken) at (put-kept full (start .args .node) v t (start .args .t .counts) (l .last .0) (p .result) (p .last .0) refl e (_∙_ {b = putRow 264 (l .last .0) t} (p .ensures) (put-is (l .last .0) t))))
 
@@ -61,7 +62,7 @@ returns-2 c =
     let l = at-lay-record .lay-record in
     let p = at-put .put in
     let v = nodeValue (start .args .value) (start .args .string .now) in
-    let e = l .ensures ∙ ap (λ (x : ℤ). recordOf (entry x v)) (toZ-ofZ (start .fits .node)) in
+    let e = l .ensures ∙ ap (λ (x : ℤ). recordOf (entry x v Console)) (toZ-ofZ (start .fits .node)) in
     let t = table (start .args .table .now) (start .args .t .count) in
     rw (c .mark2 .ensures) (rw (c .before .if1 .left) at (put-kept full (start .args .node) v t (start .args .t .counts) (l .last .0) (p .result) (p .last .0) refl e (_∙_ {b = putRow 264 (l .last .0) t} (p .ensures) (put-is (l .last .0) t))))
 

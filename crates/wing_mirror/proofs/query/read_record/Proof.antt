@@ -21,6 +21,9 @@ id-in-requires c κs = search needs
 value-in-requires : tie.Need-value-in-requires
 value-in-requires c κs = search needs
 
+origin-in-requires : tie.Need-origin-in-requires
+origin-in-requires c κs = search needs
+
 enum-told : tie.Need-enum-told
 enum-told c = search needs
 
@@ -41,45 +44,48 @@ payload-requires c κs = search needs
 
 string-read-requires : tie.Need-string-read-requires
 string-read-requires c κs =
-    let r = c .before .before .before .before .before .before .before .args .rec .now in
+    let r = c .before .before .before .before .before .before .before .before .args .rec .now in
     omega (arith, ap length (c .payload .ensures), length-drop 8 r)
 
 returns : tie.Need-returns
 returns c =
     let at-told = c .before in
     let at-read = at-told .before .before in
-    let r = at-read .before .before .before .args .rec .now in
-    let id = at-read .before .id-in .result in
-    let w = at-read .value-in .result in
-    let h = entry-held id w (payloadIn r) r (at-read .before .id-in .ensures) (at-read .value-in .ensures) in
+    let r = at-read .before .before .before .before .args .rec .now in
+    let id = at-read .before .before .id-in .result in
+    let w = at-read .before .value-in .result in
+    let o = at-read .origin-in .result in
+    let h = entry-held id w o (payloadIn r) r (at-read .before .before .id-in .ensures) (at-read .before .value-in .ensures) (at-read .origin-in .ensures) in
     let back : toZ w32 (ofZ w32 id) ≡ id = search needs in
-    c .number-read .ensures ∙ rw back (integer-said id w (payloadIn r) r h _ (at-told .enum-told .given .1))
+    c .number-read .ensures ∙ rw back (integer-said id w o (payloadIn r) r h _ (at-told .enum-told .given .1))
 
 returns-2 : tie.Need-returns-2
 returns-2 c =
     let at-told = c .before in
     let at-read = at-told .before .before in
-    let r = at-read .before .before .before .args .rec .now in
-    let id = at-read .before .id-in .result in
-    let w = at-read .value-in .result in
-    let h = entry-held id w (payloadIn r) r (at-read .before .id-in .ensures) (at-read .value-in .ensures) in
+    let r = at-read .before .before .before .before .args .rec .now in
+    let id = at-read .before .before .id-in .result in
+    let w = at-read .before .value-in .result in
+    let o = at-read .origin-in .result in
+    let h = entry-held id w o (payloadIn r) r (at-read .before .before .id-in .ensures) (at-read .before .value-in .ensures) (at-read .origin-in .ensures) in
     let back : toZ w32 (ofZ w32 id) ≡ id = search needs in
-    c .number-read2 .ensures ∙ rw back (float-said id w (payloadIn r) r h _ (at-told .enum-told2 .given .1))
+    c .number-read2 .ensures ∙ rw back (float-said id w o (payloadIn r) r h _ (at-told .enum-told2 .given .1))
 
 returns-3 : tie.Need-returns-3
 returns-3 c =
     let at-payload = c .before in
     let at-value = at-payload .before .before in
     let at-read = at-value .before .before in
-    let r = at-read .before .before .before .args .rec .now in
-    let id = at-read .before .id-in .result in
-    let w = at-read .value-in .result in
-    let h = entry-held id w (payloadIn r) r (at-read .before .id-in .ensures) (at-read .value-in .ensures) in
+    let r = at-read .before .before .before .before .args .rec .now in
+    let id = at-read .before .before .id-in .result in
+    let w = at-read .before .value-in .result in
+    let o = at-read .origin-in .result in
+    let h = entry-held id w o (payloadIn r) r (at-read .before .before .id-in .ensures) (at-read .before .value-in .ensures) (at-read .origin-in .ensures) in
     let n = at-value .value .given .0 .0 in
     let back : toZ w32 (ofZ w32 id) ≡ id = search needs in
     c .string-read .ensures
-    ∙ rw back (ap (λ (p : List ℕ). readOf (entry id (string (take n p)))) (at-payload .payload .ensures)
-    ∙ ap readOf (string-held id w (payloadIn r) r h n (at-value .value .given .1)))
+    ∙ rw back (ap (λ (p : List ℕ). readOf (entry id (string (take n p)) o)) (at-payload .payload .ensures)
+    ∙ ap readOf (string-held id w o (payloadIn r) r h n (at-value .value .given .1)))
 
 pub read-record-spec : {M : Type 1} → statement M
 read-record-spec =
@@ -87,6 +93,7 @@ read-record-spec =
     (tie.spec
     id-in-requires
     value-in-requires
+    origin-in-requires
     enum-told
     number-read-requires
     enum-told-2

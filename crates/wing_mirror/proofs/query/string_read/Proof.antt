@@ -21,11 +21,11 @@ slice-aggregate-lay-2 c = sym (length-take-le _ _ (omega (arith, c .before .befo
 lay-requires : tie.Need-lay-requires
 lay-requires c κs = omega (arith, c .before .before .least .ensures, length-take (c .before .before .least .result) (c .before .before .before .before .args .payload .now))
 
-cast-t13 : tie.Need-cast-t13
-cast-t13 c = search needs
+cast-t14 : tie.Need-cast-t14
+cast-t14 c = search needs
 
 returns : tie.Need-returns
-returns c = rw (toZ-ofZ (c .before .before .before .before .before .before .fits .id)) (string-said (c .before .before .before .before .before .before .args .id) (c .before .before .before .before .before .before .args .n) (c .before .before .before .before .least .result) (c .before .before .before .before .before .before .args .payload .now) _ (c .before .before .before .before .before .before .pre) (c .before .before .before .before .least .ensures) (c .before .lay .ensures))
+returns c = rw (toZ-ofZ (c .before .before .before .before .before .before .fits .id)) (string-said (c .before .before .before .before .before .before .args .id) (c .before .before .before .before .before .before .args .origin) (c .before .before .before .before .before .before .args .n) (c .before .before .before .before .least .result) (c .before .before .before .before .before .before .args .payload .now) _ (c .before .before .before .before .before .before .pre) (c .before .before .before .before .least .ensures) (c .before .lay .ensures))
 
 pub string-read-spec : {M : Type 1} → statement M
 string-read-spec =
@@ -35,5 +35,5 @@ string-read-spec =
     slice-aggregate-lay
     slice-aggregate-lay-2
     lay-requires
-    cast-t13
+    cast-t14
     returns)

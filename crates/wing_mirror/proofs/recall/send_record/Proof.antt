@@ -2,7 +2,7 @@
 -- record that has 01's form may be stored (`read-storable`) and so is never refused for itself (`string-sent`).
 use Prim.Native.Nat.{ℕ}
 use mathlib.Core.Bool.{true}
-use mathlib.Core.Path.{_≡_, sym, _∙_, ap}
+use mathlib.Core.Path.{_≡_, refl, sym, _∙_, ap}
 use mathlib.Core.List.{List}
 use native.Mathlib.Omega.{arith}
 use mir.Syntax.{w32}
@@ -11,8 +11,9 @@ use lib.ListN.{take}
 use lib.Seq.{length-take-le}
 use Rattle.wing_node.specs.Value.{string}
 use Rattle.wing_wire.specs.Write.{writeOf}
+use Rattle.wing_mirror.specs.Origin.{originOf}
 use Rattle.wing_mirror.specs.Entry.{Entry, entry, storable}
-use Rattle.wing_mirror.specs.Record.{entryIn, payloadIn}
+use Rattle.wing_mirror.specs.Record.{originByte, entryIn, payloadIn}
 use Rattle.wing_mirror.specs.Recall.{setOf}
 use Rattle.wing_mirror.proofs.Records.Said.{entry-held, integer-held, float-held, string-held}
 use Rattle.wing_mirror.proofs.Records.Trips.{read-storable}
@@ -67,14 +68,15 @@ returns c =
     let s = at-held .before .before .before .before in
     let id = at-held .before .id-in .result in
     let w = at-held .value-in .result in
-    let h = entry-held id w (payloadIn (s .args .rec .now)) (s .args .rec .now) (at-held .before .id-in .ensures) (at-held .value-in .ensures) in
+    let o = originOf (originByte (s .args .rec .now)) in
+    let h = entry-held id w o (payloadIn (s .args .rec .now)) (s .args .rec .now) (at-held .before .id-in .ensures) (at-held .value-in .ensures) refl in
     let v = at-value .value .given in
     let x = v .0 .0 in
     let back-i : toZ w32 (ofZ w32 id) ≡ id = search needs in
     let told = c .before .before .before .before .known-told in
     let back-x : toZ w32 (ofZ w32 x) ≡ x = search (needs, told) in
     rw (back-i, back-x) at (c .before .before .set-int .ensures)
-    ∙ ap (λ (e : Entry). writeOf (setOf e) (s .args .out .now)) (integer-held id w (payloadIn (s .args .rec .now)) (s .args .rec .now) h x (v .1))
+    ∙ ap (λ (e : Entry). writeOf (setOf e) (s .args .out .now)) (integer-held id w o (payloadIn (s .args .rec .now)) (s .args .rec .now) h x (v .1))
 
 same-length-2 : tie.Need-same-length-2
 same-length-2 c = search needs
@@ -86,11 +88,12 @@ returns-2 c =
     let s = at-held .before .before .before .before in
     let id = at-held .before .id-in .result in
     let w = at-held .value-in .result in
-    let h = entry-held id w (payloadIn (s .args .rec .now)) (s .args .rec .now) (at-held .before .id-in .ensures) (at-held .value-in .ensures) in
+    let o = originOf (originByte (s .args .rec .now)) in
+    let h = entry-held id w o (payloadIn (s .args .rec .now)) (s .args .rec .now) (at-held .before .id-in .ensures) (at-held .value-in .ensures) refl in
     let v = at-value .value2 .given in
     let back-i : toZ w32 (ofZ w32 id) ≡ id = search needs in
     rw back-i at (c .before .before .set-float .ensures)
-    ∙ ap (λ (e : Entry). writeOf (setOf e) (s .args .out .now)) (float-held id w (payloadIn (s .args .rec .now)) (s .args .rec .now) h (v .0 .0) (v .1))
+    ∙ ap (λ (e : Entry). writeOf (setOf e) (s .args .out .now)) (float-held id w o (payloadIn (s .args .rec .now)) (s .args .rec .now) h (v .0 .0) (v .1))
 
 same-length-3 : tie.Need-same-length-3
 same-length-3 c = search needs
@@ -105,13 +108,14 @@ returns-3 c =
     let s = at-held .before .before .before .before in
     let id = at-held .before .id-in .result in
     let w = at-held .value-in .result in
-    let h = entry-held id w (payloadIn (s .args .rec .now)) (s .args .rec .now) (at-held .before .id-in .ensures) (at-held .value-in .ensures) in
+    let o = originOf (originByte (s .args .rec .now)) in
+    let h = entry-held id w o (payloadIn (s .args .rec .now)) (s .args .rec .now) (at-held .before .id-in .ensures) (at-held .value-in .ensures) refl in
     let r = s .args .rec .now in
     let v = at-value .value3 .given in
     let n = v .0 .0 in
     let p = at-payload .payload .result .now in
     let back-i : toZ w32 (ofZ w32 id) ≡ id = search needs in
-    let held : entry id (string (take n p)) ≡ entryIn r = ap (λ (q : List ℕ). entry id (string (take n q))) (at-payload .payload .ensures) ∙ string-held id w (payloadIn r) r h n (v .1) in
+    let held : entry id (string (take n p)) o ≡ entryIn r = ap (λ (q : List ℕ). entry id (string (take n q)) o) (at-payload .payload .ensures) ∙ string-held id w o (payloadIn r) r h n (v .1) in
     let good : storable (string (take n p)) ≡ true = ap (λ (e : Entry). storable (e .value)) held ∙ read-storable r (s .pre .0) (λ i. omega (arith, at-held .before .before .shared-slice-known .given i)) (s .pre .1) in
     rw back-i at (c .before .before .set-string .ensures)
     ∙ string-sent id n (at-least .least .result) p (s .args .out .now) (at-least .least .ensures) good

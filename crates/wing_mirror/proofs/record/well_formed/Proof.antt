@@ -1,5 +1,5 @@
 -- Both returns are the branches of `wellFormed` with that test of the sixth byte, by the contracts of `u16_at`, `payload` and `well_kept`.
-use borrow.Author.Tests.{eq-eqb, ne-eqb}
+use borrow.Author.Tests.{le-leb, lt-leb}
 use mathlib.Core.Path.{_≡_, _∙_, ap, ap₂}
 use native.Mathlib.Omega.{arith}
 use lib.ListN.{length, take, drop, getD, length-drop}
@@ -32,11 +32,11 @@ unfolding wellFormed
 returns c =
     let r = c .before .before .before .before .before .before .before .args .rec .now in
     let n : fieldAt 2 r 6 ≡ big (take 2 (drop 6 r)) = field-whole 2 r 6 (omega arith) in
-    simp (eq-eqb _ _ (c .before .before .before .before .if1 .taken)) (c .well-kept .ensures ∙ ap₂ (wellKept (getD r 4 0)) (c .before .before .u16-at .ensures ∙ n) (c .before .payload .ensures))
+    simp (le-leb _ _ (c .before .before .before .before .if1 .taken)) (c .well-kept .ensures ∙ ap₂ (wellKept (getD r 4 0)) (c .before .before .u16-at .ensures ∙ n) (c .before .payload .ensures))
 
 returns-2 : tie.Need-returns-2
 unfolding wellFormed
-returns-2 c = simp (ne-eqb _ _ (c .if1 .left))
+returns-2 c = simp (lt-leb _ _ (c .if1 .left))
 
 pub well-formed-spec : {M : Type 1} → statement M
 well-formed-spec =
