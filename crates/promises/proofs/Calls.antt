@@ -3,7 +3,7 @@ use Prim.Native.Nat.{ℕ}
 use mathlib.Core.Bool.{Bool, true, false, not}
 use mathlib.Core.Path.{_≡_, refl, sym, _∙_, ap}
 use mathlib.Core.Logic.{_↔_}
-use mathlib.Core.List.{List, [], _∷_, _++_}
+use mathlib.Core.List.{List, [], _∷_, _++_, map}
 use native.Mathlib.Omega.{arith}
 use borrow.Author.Tests.{ltb-true, leb-true, eq-eqb, ne-eqb}
 use lib.Dec.{ltb, leb}
@@ -38,12 +38,14 @@ use Rattle.wing_mirror.specs.Counts.{zeroCounts}
 use Rattle.wing_mirror.specs.Mirror.{FeedEffect, fedAll, takenFeed, mirrorFeed, lentFeed, SetEffect, mirrorSet}
 use Rattle.wing_mirror.specs.Recall.{recallBytes, recallOf}
 use Rattle.wing_mirror.specs.History.{Equal, mirrorStep}
+use Rattle.wing_mirror.specs.Origins.{entriesOf, Taken}
 use Rattle.wing_mirror.specs.declared.answer.Counts.{Counts}
 use Rattle.wing_mirror.specs.declared.answer.Lookup.the-variants.{Refused as LookupRefused}
 use Rattle.wing_mirror.specs.declared.answer.RecordRead.{RecordRead}
 use Rattle.wing_mirror.specs.declared.answer.Same.the-variants.{Yes, No, Refused as SameRefused}
 use Rattle.wing_mirror.specs.declared.origin.Origin.the-variants.{SetOrder}
 use Rattle.wing_mirror.proofs.Records.Full.{full-laws}
+use Rattle.wing_mirror.proofs.Histories.Origins.{who-set-it}
 use Rattle.wing_mirror.proofs.Records.Equals.{same-decides}
 use Rattle.wing_mirror.proofs.Records.Lookups.{read-row, lookups}
 use Rattle.wing_mirror.proofs.Calls.Outcomes.{passed, set-cases}
@@ -64,6 +66,7 @@ feed-call s t bytes = record {
       (unless feeds W counts (usable full t) (alone 7) _ _ _ refl (refl, refl)
       (unless feeds W counts (leb (length bytes) 65536) (alone 14) _ _ _ refl (refl, refl) (taken feeds W counts (takenFeed (fedAll full s t bytes)) refl)));
   step = refl;
+  gives = who-set-it full-laws .byFeed s t bytes;
 }
   where
     counts : Counts
@@ -130,7 +133,7 @@ module _ (id : ℤ) (v : NodeValue) (t : Table) (out : List ℕ) where
 
   pub set-call : InBits 31 id → Typed v → SetCall id v t out (mirrorSet full id v t out .answer) (mirrorSet full id v t out .table) (mirrorSet full id v t out .out)
   unfolding mirrorStep bytes
-  set-call i h = record { writes = record { answered = set-answered; rest = set-rest }; reads = set-reads i h; step = λ s. refl }
+  set-call i h = record { writes = record { answered = set-answered; rest = set-rest }; reads = set-reads i h; step = λ s. refl; gives = λ b n e. who-set-it full-laws .bySet t id v out n b (i, h) e }
 
 -- ---- recall
 
@@ -227,6 +230,10 @@ same-equal t u p q = (λ e. let d = same-decides full t u .right (said e) in rec
     said : sameResult (sameAnswer full t u) ≡ ok true → sameTables full t u ≡ true
     said e = let w : _≡_ {A = Result Bool} (ok (sameTables full t u)) (ok true) = sym answered ∙ e in cc
 
+same-entries : (t u : Table) → Taken full t → Taken full u → (sameResult (sameAnswer full t u) ≡ ok true ↔ entriesOf full t ≡ entriesOf full u)
+unfolding sameResult
+same-entries t u a b = (λ e. ap (map entryIn) (same-equal t u (a .1) (b .1) .0 e .records), λ q. ap sameResult (who-set-it full-laws .compared t u a b .1 q))
+
 pub lookup-call : (t : Table) (id : ℤ) → AreBytes (t .buffer) → InBits 31 id → LookupCall t id (lookupAnswer full t id)
 lookup-call t id b i = record { result = lookup-result t id; at = λ number. lookups full-laws .at t id number b i; nowhere = λ u. lookups full-laws .none t id b i u }
 
@@ -234,4 +241,4 @@ pub record-call : (t : Table) (number : ℕ) → AreBytes (t .buffer) → Record
 record-call t number b = record { result = record-result t number b; zeros = record-zeros t number }
 
 pub same-call : (t u : Table) → SameCall t u (sameAnswer full t u)
-same-call t u = record { result = same-result t u; equal = same-equal t u }
+same-call t u = record { result = same-result t u; equal = same-equal t u; entries = same-entries t u }

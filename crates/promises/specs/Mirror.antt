@@ -12,14 +12,16 @@ use Rattle.wing_node.specs.Refusal.{alone}
 use Rattle.wing_node.specs.Result.{ok, refused}
 use Rattle.wing_node.specs.Value.{NodeValue}
 use Rattle.wing_wire.specs.State.{bodyLimit, soundState}
+use Rattle.wing_wire.specs.Range.{AreBytes, InRange}
 use Rattle.wing_wire.specs.Command.{setBytes}
 use Rattle.wing_wire.specs.Reader.{value}
 use Rattle.wing_wire.specs.SetOrders.{ReadsAsSet}
 use Rattle.wing_wire.specs.declared.state.State.{State}
 use Rattle.wing_wire.specs.declared.write.Written.{Written}
-use Rattle.wing_mirror.specs.Rows.{Table, found, nothing}
+use Rattle.wing_wire.specs.declared.write.Written.the-variants.{Bytes}
+use Rattle.wing_mirror.specs.Rows.{Table, places, found, nothing}
 use Rattle.wing_mirror.specs.Entry.{entry}
-use Rattle.wing_mirror.specs.Record.{entryIn, full}
+use Rattle.wing_mirror.specs.Record.{width, entryIn, full}
 use Rattle.wing_mirror.specs.Table.{table, rows, usable, fits, lookupOf}
 use Rattle.wing_mirror.specs.Query.{sameTables, refusedRecord}
 use Rattle.wing_mirror.specs.Answers.{lookupResult, recordResult, sameResult, feedResult}
@@ -27,10 +29,13 @@ use Rattle.wing_mirror.specs.Lookups.{RecordOf}
 use Rattle.wing_mirror.specs.Counts.{zeroCounts}
 use Rattle.wing_mirror.specs.Call.{feed, set, textIn, tooLong, notText}
 use Rattle.wing_mirror.specs.Mirror.{TableTally, keepEvent, fedAll}
+use Rattle.wing_mirror.specs.Machine.{events}
 use Rattle.wing_mirror.specs.Recall.{recallBytes}
 use Rattle.wing_mirror.specs.History.{Mirror, Equal, feedOutcome, setOutcome, mirrorStep, Rebuilt}
+use Rattle.wing_mirror.specs.Origins.{entriesOf, GivenBySet, GivenByFeed, Taken}
 use Rattle.wing_mirror.specs.declared.answer.Counts.{Counts}
 use Rattle.wing_mirror.specs.declared.answer.FeedAnswer.{FeedAnswer}
+use Rattle.wing_mirror.specs.declared.answer.FeedAnswer.the-variants.{Taken as FeedTaken}
 use Rattle.wing_mirror.specs.declared.answer.Lookup.{Lookup}
 use Rattle.wing_mirror.specs.declared.answer.RecordRead.{RecordRead}
 use Rattle.wing_mirror.specs.declared.answer.Same.{Same}
@@ -79,6 +84,9 @@ pub record FeedCall (m : Mirror) (bytes : List ℕ) (answer : FeedAnswer) (count
   pub answered : Answers (feedLines m bytes) (fedAll full (m .decoder) (m .table) bytes .memo .counts) (feedResult answer counts) ((after ≡ m) × (counts ≡ zeroCounts))
   -- demand 3: one step of the mirror's history is this call
   pub step : mirrorStep full m (feed bytes) ≡ record { state = after; outcome = feedOutcome answer counts }
+  -- 02: who gave what the records say after it; bytes and the state's numbers are in the range of their types
+  pub gives : AreBytes (m .table .buffer) → InRange (m .decoder .control) (m .decoder .store) → AreBytes bytes → answer ≡ FeedTaken →
+      GivenByFeed full (places width (m .table)) (events (m .decoder) bytes) (entriesOf full (m .table)) (entriesOf full (after .table))
 
 -- a feed whose state's store is lent: that of the state; a store of another size than a state's is 8, and all is as it was
 pub record LentFeedCall (m : Mirror) (bytes : List ℕ) (answer : FeedAnswer) (counts : Counts) (after : Mirror) : Type 0 where
@@ -93,6 +101,8 @@ pub record SetCall (id : ℤ) (v : NodeValue) (t : Table) (out : List ℕ) (answ
   pub reads : ReadsAsSet id v answer written
   -- demand 3: one step of the mirror's history is this call, whatever the decoder, which it neither reads nor alters
   pub step : (s : State) → mirrorStep full (mirror s t) (set id v out) ≡ record { state = mirror s after; outcome = setOutcome answer written }
+  -- 02: who gave what the records say after it; the table's bytes are below 256, as their type says
+  pub gives : AreBytes (t .buffer) → (n : ℕ) → answer ≡ Bytes n → GivenBySet full (entriesOf full t) (entriesOf full after) id v
 
 -- recall
 pub record RecallCall (t : Table) (out : List ℕ) (answer : Written) (written : List ℕ) : Type 0 where
@@ -121,6 +131,8 @@ pub record RecordCall (t : Table) (number : ℕ) (reply : RecordRead) : Type 0 w
 pub record SameCall (t u : Table) (answer : Same) : Type 0 where
   pub result : sameResult answer ≡ by (sameLines t u) (sameTables full t u)
   pub equal : usable full t ≡ true → usable full u ≡ true → (sameResult answer ≡ ok true ↔ Equal full t u)
+  -- what they say is: nodes, values and origins
+  pub entries : Taken full t → Taken full u → (sameResult answer ≡ ok true ↔ entriesOf full t ≡ entriesOf full u)
 
 -- within a feed: a value for which there is no place leaves the table as it was
 abbrev pub UnplacedStays : Type 0

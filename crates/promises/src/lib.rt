@@ -119,7 +119,7 @@ pub fn demand_3_whole()
     ensures { λ _. ⌜ Histories full ⌝ }
 {}
 
-// Who set it (02): after any history an accepted set leaves its node with its value and origin 1; an accepted feed leaves each node that its bytes give values, and that has a record after it, with the
+// Who set it (02): an accepted set of any table leaves its node with its value and origin 1; an accepted feed leaves each node that its bytes give values, and that has a record after it, with the
 // last of them and origin 0, whatever it had, and such a node has one if it had before or if a place is free after it; both leave the others as they were. A byte of each record is its origin's number; two
 // tables compare with origins included; recall sends the same of two that differ in their origins alone; and one that equals another but for origins equals it whole exactly if the other's are all 0.
 pub fn who_set_it()

@@ -13,9 +13,9 @@ pub mod Recalls
 pub mod Rebuilt
 pub mod Answers
 pub mod Demand
+pub mod Starts
 pub mod Puts
 pub mod Given
 pub mod Aside
 pub mod Origins
-pub mod Starts
 pub mod Toy

@@ -5,12 +5,14 @@ use mathlib.Core.Path.{_≡_}
 use mathlib.Core.Logic.{_↔_}
 use mathlib.Core.List.{List, [], _∷_, map}
 use lib.IntN.{ℤ}
-use lib.ListN.{getD}
+use lib.ListN.{length, getD}
 use Rattle.wing_node.specs.Bool.{if}
 use Rattle.wing_node.specs.Value.{NodeValue}
-use Rattle.wing_wire.specs.Range.{AreBytes}
+use Rattle.wing_wire.specs.Range.{AreBytes, InRange}
 use Rattle.wing_wire.specs.Reader.{Event, more, value, body, end, refused}
-use Rattle.wing_mirror.specs.Rows.{Table, Found, found, nothing, All, In}
+use Rattle.wing_wire.specs.declared.state.State.{State}
+use Rattle.wing_wire.specs.declared.write.Written.the-variants.{Bytes}
+use Rattle.wing_mirror.specs.Rows.{Table, Found, found, nothing, places, All, In}
 use Rattle.wing_mirror.specs.Origin.{originNumber}
 use Rattle.wing_mirror.specs.Entry.{Entry, entry}
 use Rattle.wing_mirror.specs.Layout.{Keeping, unlessKept, Layout, originCleared}
@@ -18,10 +20,11 @@ use Rattle.wing_mirror.specs.Table.{rows, usable}
 use Rattle.wing_mirror.specs.Lists.{orElse}
 use Rattle.wing_mirror.specs.Query.{sameAnswer}
 use Rattle.wing_mirror.specs.Recall.{recallBytes}
-use Rattle.wing_mirror.specs.Call.{Call, feed, set, fed, sent, TypedCall}
+use Rattle.wing_mirror.specs.Call.{feed, set, TypedCall}
+use Rattle.wing_mirror.specs.Mirror.{mirrorFeed, mirrorSet}
 use Rattle.wing_mirror.specs.Machine.{StreamEvent, sameId, events}
-use Rattle.wing_mirror.specs.History.{Mirror, mirrorStep, mirrorRun, placesIn, Equal, EqualButOrigins}
-use Rattle.wing_mirror.specs.declared.answer.Counts.{Counts}
+use Rattle.wing_mirror.specs.History.{Equal, EqualButOrigins}
+use Rattle.wing_mirror.specs.declared.answer.FeedAnswer.the-variants.{Taken as FeedTaken}
 use Rattle.wing_mirror.specs.declared.answer.Same.the-variants.{Yes}
 use Rattle.wing_mirror.specs.declared.origin.Origin.the-variants.{Console, SetOrder}
 
@@ -39,33 +42,29 @@ lastGiven keeping id [] = nothing
 lastGiven keeping id (r ∷ rs) = orElse (lastGiven keeping id rs) (if (sameId (r .node) id) (valueGiven keeping (r .event)) nothing)
 
 module _ (L : Layout) where
-  open Layout L using (entryIn, originAt, keeping)
+  open Layout L using (width, entryIn, originAt, keeping)
 
   -- what the records of a table say
   abbrev pub entriesOf : Table → List Entry
   entriesOf t = map entryIn (rows L t)
 
-  -- the same after a call
-  abbrev pub entriesAfter : Mirror → Call → List Entry
-  entriesAfter m c = entriesOf (mirrorStep L m c .state .table)
-
-  -- 02: 1 when a set order gave it
-  pub record GivenBySet (m : Mirror) (id : ℤ) (v : NodeValue) (out : List ℕ) : Type 0 where
+  -- 02: 1 when a set order gave it. What the records say before and after an accepted set of v at id
+  pub record GivenBySet (before after : List Entry) (id : ℤ) (v : NodeValue) : Type 0 where
     -- its node has that value and origin 1, whatever it had
-    pub given : In (entry id v SetOrder) (entriesAfter m (set id v out))
-    pub only : (e : Entry) → In e (entriesAfter m (set id v out)) → e .id ≡ id → e ≡ entry id v SetOrder
+    pub given : In (entry id v SetOrder) after
+    pub only : (e : Entry) → In e after → e .id ≡ id → e ≡ entry id v SetOrder
     -- the other nodes are as they were
-    pub others : (e : Entry) → (e .id ≡ id → ⊥) → (In e (entriesAfter m (set id v out)) ↔ In e (entriesOf (m .table)))
+    pub others : (e : Entry) → (e .id ≡ id → ⊥) → (In e after ↔ In e before)
 
-  -- 02: 0 when the last value came from the console
-  pub record GivenByFeed (places : ℕ) (m : Mirror) (bytes : List ℕ) : Type 0 where
-    -- a node that its bytes give values has the last of them and origin 0, whatever it had
-    pub given : (e : Entry) (v : NodeValue) → In e (entriesAfter m (feed bytes)) → lastGiven keeping (e .id) (events (m .decoder) bytes) ≡ found v → e ≡ entry (e .id) v Console
+  -- 02: 0 when the last value came from the console. What they say before and after an accepted feed whose bytes hold these events
+  pub record GivenByFeed (places : ℕ) (rs : List StreamEvent) (before after : List Entry) : Type 0 where
+    -- a node that is given values has the last of them and origin 0, whatever it had
+    pub given : (e : Entry) (v : NodeValue) → In e after → lastGiven keeping (e .id) rs ≡ found v → e ≡ entry (e .id) v Console
     -- it is there if it was before, or if a place is free after them
-    pub there : (e : Entry) (v : NodeValue) → In e (entriesOf (m .table)) → lastGiven keeping (e .id) (events (m .decoder) bytes) ≡ found v → In (entry (e .id) v Console) (entriesAfter m (feed bytes))
-    pub placed : (id : ℤ) (v : NodeValue) → lastGiven keeping id (events (m .decoder) bytes) ≡ found v → mirrorStep L m (feed bytes) .state .table .count < places → In (entry id v Console) (entriesAfter m (feed bytes))
+    pub there : (e : Entry) (v : NodeValue) → In e before → lastGiven keeping (e .id) rs ≡ found v → In (entry (e .id) v Console) after
+    pub placed : (id : ℤ) (v : NodeValue) → lastGiven keeping id rs ≡ found v → length after < places → In (entry id v Console) after
     -- the other nodes are as they were
-    pub others : (e : Entry) → lastGiven keeping (e .id) (events (m .decoder) bytes) ≡ nothing → (In e (entriesAfter m (feed bytes)) ↔ In e (entriesOf (m .table)))
+    pub others : (e : Entry) → lastGiven keeping (e .id) rs ≡ nothing → (In e after ↔ In e before)
 
   -- two tables that differ in their origins alone
   abbrev pub SameButOrigins : Table → Table → Type 0
@@ -76,12 +75,12 @@ module _ (L : Layout) where
   Taken t = AreBytes (t .buffer) × (usable L t ≡ true)
 
   pub record WhoSetIt : Type 0 where
-    -- after any history, an accepted set
-    pub bySet : (buffer : List ℕ) (calls : List Call) (id : ℤ) (v : NodeValue) (out bytes : List ℕ) → All TypedCall calls → TypedCall (set id v out) →
-        mirrorStep L (mirrorRun L buffer calls .state) (set id v out) .outcome ≡ sent bytes → GivenBySet (mirrorRun L buffer calls .state) id v out
-    -- and an accepted feed
-    pub byFeed : (buffer : List ℕ) (calls : List Call) (bytes : List ℕ) (counts : Counts) → All TypedCall calls → TypedCall (feed bytes) →
-        mirrorStep L (mirrorRun L buffer calls .state) (feed bytes) .outcome ≡ fed counts → GivenByFeed (placesIn L buffer) (mirrorRun L buffer calls .state) bytes
+    -- an accepted set, of any table; ids, numbers and bytes are in the range of their types
+    pub bySet : (t : Table) (id : ℤ) (v : NodeValue) (out : List ℕ) (n : ℕ) → AreBytes (t .buffer) → TypedCall (set id v out) →
+        mirrorSet L id v t out .answer ≡ Bytes n → GivenBySet (entriesOf t) (entriesOf (mirrorSet L id v t out .table)) id v
+    -- and an accepted feed, of any table and state
+    pub byFeed : (s : State) (t : Table) (bytes : List ℕ) → AreBytes (t .buffer) → InRange (s .control) (s .store) → TypedCall (feed bytes) →
+        mirrorFeed L s t bytes .answer ≡ FeedTaken → GivenByFeed (places width t) (events s bytes) (entriesOf t) (entriesOf (mirrorFeed L s t bytes .table))
     -- a byte of each record is its origin's number
     pub bytes : (t : Table) → Taken t → map (λ (r : List ℕ). getD r originAt 0) (rows L t) ≡ map (λ (e : Entry). originNumber (e .origin)) (entriesOf t)
     -- 02: two mirrors compare with origins included

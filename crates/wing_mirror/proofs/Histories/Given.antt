@@ -1,6 +1,6 @@
--- What events and calls leave in the plain machine's map: the last value that they give a node, and who gave it.
+-- What events leave in the plain machine's map: the last value that they give a node, from the console.
 use Prim.Native.Nat.{ℕ, _≤_, _<_}
-use mathlib.Core.Bool.{Bool, true, false, not}
+use mathlib.Core.Bool.{Bool, true, false}
 use mathlib.Core.Path.{_≡_, refl, sym, _∙_, ap, subst}
 use mathlib.Core.Logic.{_⊎_, inl, inr, _↔_}
 use mathlib.Core.List.{List, [], _∷_}
@@ -9,22 +9,17 @@ use borrow.Author.Tests.{lt-ltb}
 use lib.Dec.{ltb}
 use lib.IntN.{ℤ}
 use lib.ListN.{length}
-use Rattle.wing_node.specs.declared.refusal.Refusal.{Refusal}
 use Rattle.wing_node.specs.Bool.{if}
 use Rattle.wing_node.specs.Value.{NodeValue}
 use Rattle.wing_node.proofs.Branches.{branch}
 use Rattle.wing_wire.specs.Reader.{Event, more, value, body, end, refused}
-use Rattle.wing_wire.specs.Command.{setBytes}
 use Rattle.wing_mirror.specs.Rows.{Found, found, nothing, All, In}
 use Rattle.wing_mirror.specs.Entry.{Entry, entry}
 use Rattle.wing_mirror.specs.Layout.{Keeping, kept, unkept, unlessKept, Layout}
-use Rattle.wing_mirror.specs.Table.{placesAllowed}
 use Rattle.wing_mirror.specs.Lists.{orElse}
-use Rattle.wing_mirror.specs.Call.{feed, set, fed, sent, refused as refusedOutcome, tooLong, notText, Step}
-use Rattle.wing_mirror.specs.Machine.{StreamEvent, sameId, has, putIn, room, Machine, MapTally, machineEvent, machineEvents, machineFeed, machineStep}
+use Rattle.wing_mirror.specs.Machine.{StreamEvent, sameId, has, putIn, room, MapTally, machineEvent, machineEvents}
 use Rattle.wing_mirror.specs.Origins.{valueGiven, lastGiven}
-use Rattle.wing_mirror.specs.declared.answer.Counts.{Counts}
-use Rattle.wing_mirror.specs.declared.origin.Origin.the-variants.{Console, SetOrder}
+use Rattle.wing_mirror.specs.declared.origin.Origin.the-variants.{Console}
 use Rattle.wing_mirror.proofs.Records.Choices.{keeping-cases}
 use Rattle.wing_mirror.proofs.Records.Ids.{same-id}
 use Rattle.wing_mirror.proofs.Histories.Maps.{ValidMap, put-grows, valid-put}
@@ -226,36 +221,3 @@ module _ (L : Layout) (places : ℕ) where
       now-or : (has (r .node) (h .map) ≡ true) ⊎ (length (machineEvents keeping places rs (machineEvent keeping places (r .node) (r .event) h) .map) < places) → (has (r .node) (h .map) ≡ true) ⊎ (length (h .map) < places)
       now-or (inl y) = inl y
       now-or (inr l) = inr (omega (arith, l, event-grows (r .node) (r .event) h, events-grow rs (machineEvent keeping places (r .node) (r .event) h)))
-
-  -- ---- calls
-
-  -- an accepted set puts its entry
-  pub machine-sent : (s : Machine) (id : ℤ) (v : NodeValue) (out bytes : List ℕ) → machineStep keeping places s (set id v out) .outcome ≡ sent bytes →
-      machineStep keeping places s (set id v out) .state .map ≡ putIn (entry id v SetOrder) (s .map)
-  unfolding machineStep
-  machine-sent s id v out bytes =
-      branch P (not (placesAllowed places)) _ _ (λ _ e. no e)
-      (λ _. keeping-cases P (keeping v) _ _ (λ mark number e. no e)
-      (λ _. branch P (tooLong v) _ _ (λ _ e. no e)
-      (λ _. branch P (notText v) _ _ (λ _ e. no e)
-      (λ _. branch P (not (room places id (s .map))) _ _ (λ _ e. no e)
-      (λ _. branch P (ltb (length out) (length (setBytes id v))) _ _ (λ _ e. no e) (λ _ e. refl))))))
-    where
-      P : Step Machine → Type 0
-      P x = x .outcome ≡ sent bytes → x .state .map ≡ putIn (entry id v SetOrder) (s .map)
-
-      no : {A : Type 0} {why : Refusal} → refusedOutcome why ≡ sent bytes → A
-      no e = absurd (let w : _≡_ {A = ℕ} 0 1 = cc in omega arith)
-
-  -- an accepted feed puts what its events give
-  pub machine-fed : (s : Machine) (bytes : List ℕ) (counts : Counts) → machineStep keeping places s (feed bytes) .outcome ≡ fed counts →
-      machineStep keeping places s (feed bytes) .state .map ≡ machineFeed keeping places s bytes .map
-  unfolding machineStep
-  machine-fed s bytes counts =
-      branch P (not (placesAllowed places)) _ _ (λ _ e. no e) (λ _. branch P (ltb 65536 (length bytes)) _ _ (λ _ e. no e) (λ _ e. refl))
-    where
-      P : Step Machine → Type 0
-      P x = x .outcome ≡ fed counts → x .state .map ≡ machineFeed keeping places s bytes .map
-
-      no : {A : Type 0} {why : Refusal} → refusedOutcome why ≡ fed counts → A
-      no e = absurd (let w : _≡_ {A = ℕ} 0 1 = cc in omega arith)

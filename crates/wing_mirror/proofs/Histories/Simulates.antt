@@ -36,7 +36,7 @@ module _ (L : Layout) (buffer : List ℕ) where
   mirrorOf s = record { decoder = s .decoder; table = tableOf L buffer (s .map) }
 
   -- the image of a step
-  abbrev pub imageStep : Step Machine → Step Mirror
+  abbrev imageStep : Step Machine → Step Mirror
   imageStep r = record { state = mirrorOf (r .state); outcome = r .outcome }
 
   -- the image of a history
