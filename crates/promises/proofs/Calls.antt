@@ -66,7 +66,7 @@ feed-call s t bytes = record {
       (unless feeds W counts (usable full t) (alone 7) _ _ _ refl (refl, refl)
       (unless feeds W counts (leb (length bytes) 65536) (alone 14) _ _ _ refl (refl, refl) (taken feeds W counts (takenFeed (fedAll full s t bytes)) refl)));
   step = refl;
-  gives = who-set-it full-laws .byFeed s t bytes;
+  origins = who-set-it full-laws .byFeed s t bytes;
 }
   where
     counts : Counts
@@ -133,7 +133,7 @@ module _ (id : ℤ) (v : NodeValue) (t : Table) (out : List ℕ) where
 
   pub set-call : InBits 31 id → Typed v → SetCall id v t out (mirrorSet full id v t out .answer) (mirrorSet full id v t out .table) (mirrorSet full id v t out .out)
   unfolding mirrorStep bytes
-  set-call i h = record { writes = record { answered = set-answered; rest = set-rest }; reads = set-reads i h; step = λ s. refl; gives = λ b n e. who-set-it full-laws .bySet t id v out n b (i, h) e }
+  set-call i h = record { writes = record { answered = set-answered; rest = set-rest }; reads = set-reads i h; step = λ s. refl; origins = λ b n e. who-set-it full-laws .bySet t id v out n b (i, h) e }
 
 -- ---- recall
 

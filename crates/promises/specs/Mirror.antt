@@ -85,7 +85,7 @@ pub record FeedCall (m : Mirror) (bytes : List ℕ) (answer : FeedAnswer) (count
   -- demand 3: one step of the mirror's history is this call
   pub step : mirrorStep full m (feed bytes) ≡ record { state = after; outcome = feedOutcome answer counts }
   -- 02: who gave what the records say after it; bytes and the state's numbers are in the range of their types
-  pub gives : AreBytes (m .table .buffer) → InRange (m .decoder .control) (m .decoder .store) → AreBytes bytes → answer ≡ FeedTaken →
+  pub origins : AreBytes (m .table .buffer) → InRange (m .decoder .control) (m .decoder .store) → AreBytes bytes → answer ≡ FeedTaken →
       GivenByFeed full (places width (m .table)) (events (m .decoder) bytes) (entriesOf full (m .table)) (entriesOf full (after .table))
 
 -- a feed whose state's store is lent: that of the state; a store of another size than a state's is 8, and all is as it was
@@ -102,7 +102,7 @@ pub record SetCall (id : ℤ) (v : NodeValue) (t : Table) (out : List ℕ) (answ
   -- demand 3: one step of the mirror's history is this call, whatever the decoder, which it neither reads nor alters
   pub step : (s : State) → mirrorStep full (mirror s t) (set id v out) ≡ record { state = mirror s after; outcome = setOutcome answer written }
   -- 02: who gave what the records say after it; the table's bytes are below 256, as their type says
-  pub gives : AreBytes (t .buffer) → (n : ℕ) → answer ≡ Bytes n → GivenBySet full (entriesOf full t) (entriesOf full after) id v
+  pub origins : AreBytes (t .buffer) → (n : ℕ) → answer ≡ Bytes n → GivenBySet full (entriesOf full t) (entriesOf full after) id v
 
 -- recall
 pub record RecallCall (t : Table) (out : List ℕ) (answer : Written) (written : List ℕ) : Type 0 where
