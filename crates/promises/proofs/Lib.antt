@@ -7,10 +7,7 @@ mod NextCalls
 mod Decodes
 mod Writers
 mod Savers
-mod Feeding
-mod Tables
 mod Calls
-mod Searching
 mod Listings
 mod Carries
 mod Windows

@@ -1,22 +1,16 @@
 -- What is promised of listings, as specs/Listing states it.
 use Prim.Native.Nat.{ℕ, ◌/◌, ◌≤◌}
-use mathlib.Core.Bool.{Bool, true, false, not}
+use mathlib.Core.Bool.{true, false, not}
 use mathlib.Core.Path.{◌≡◌, refl, sym, ◌∙◌, ap, ap₂, subst}
 use mathlib.Core.Logic.{◌⊎◌, inl, inr, ⊎_elim, ◌↔◌}
 use mathlib.Core.List.{List, [], ◌∷◌, ◌++◌, map}
 use native.Mathlib.Omega.{arith}
 use borrow.Author.Tests.{le-ltb, le-leb}
 use lib.Dec.{ltb, leb}
-use lib.IntN.{ℤ}
 use lib.ListN.{length, take, drop}
 use Rattle.wing_node.proofs.Refusals.{reason}
 use Rattle.promises.specs.Refusals.{string_wrong, no_place, table_unsound, string_long, number_over, line_wrong, id_not_above}
-use Rattle.wing_node.specs.Bool.{if, and}
-use Rattle.wing_node.specs.Refusal.{refusal_number, good_beside, alone, because, no_fault}
-use Rattle.wing_node.specs.Utf8.{utf8, good as good_of}
-use Rattle.wing_node.specs.Value.{NodeValue, integer, float, string}
-use Rattle.wing_node.specs.declared.refusal.Fault.{Fault}
-use Rattle.wing_node.specs.declared.refusal.Fault.TheVariants.{None, Refused as Because}
+use Rattle.wing_node.specs.Refusal.{refusal_number, good_beside, alone}
 use Rattle.wing_node.specs.declared.refusal.Refusal.{Refusal}
 use Rattle.wing_node.specs.Result.{Result, refused}
 use Rattle.wing_node.proofs.Branches.{branch}
@@ -25,13 +19,12 @@ use Rattle.wing_wire.specs.State.{fresh_state}
 use Rattle.wing_wire.specs.Write.{WriteEffect, write_effect, write_of}
 use Rattle.wing_wire.specs.Answers.{written_result}
 use Rattle.wing_wire.specs.declared.write.Written.TheVariants.{Bytes, Refused as NotWritten}
-use Rattle.wing_mirror.specs.Rows.{Table, Found, laid, In}
-use Rattle.wing_mirror.specs.Entry.{Entry}
+use Rattle.wing_mirror.specs.Rows.{Table, laid, In}
 use Rattle.wing_mirror.specs.Record.{width, record_of, full}
 use Rattle.wing_mirror.specs.Table.{table, places_allowed, usable}
 use Rattle.wing_listing.specs.Listing.{printed}
-use Rattle.wing_listing.specs.Reading.{Reading, good, bad, above, reading_of, entries_in}
-use Rattle.wing_listing.specs.FirstBad.{text_wrong, entry_fault, BadHeader, BadForm, FirstBad}
+use Rattle.wing_listing.specs.Reading.{Reading, good, bad, reading_of, entries_in}
+use Rattle.wing_listing.specs.FirstBad.{FirstBad}
 use Rattle.wing_listing.specs.Calls.{LoadEffect, load_effect, reply_of, sent_back, load_entries, load_read, load_of, print_of}
 use Rattle.wing_listing.specs.Answers.{loaded_result, line_in}
 use Rattle.wing_listing.specs.BothWays.{EqualMirror}
@@ -39,23 +32,10 @@ use Rattle.wing_listing.specs.declared.answer.Loaded.{Loaded}
 use Rattle.wing_listing.specs.declared.answer.Loaded.TheVariants.{Records, Refused}
 use Rattle.wing_listing.proofs.Texts.Rounds.{both_ways, loaded-rest}
 use Rattle.wing_listing.proofs.Texts.Faults.{Wrong, Known, known-reading}
-use Rattle.promises.specs.Lines.{Line, ◌gives◌, by, sends, Answers}
-use Rattle.promises.specs.Listing.{reading_fault, load_lines, text_lines, entry_lines, PrintCall, LoadCall}
+use Rattle.promises.specs.Lines.{◌gives◌, by, Answers}
+use Rattle.promises.specs.Listing.{reading_fault, load_lines, PrintCall, LoadCall}
 use Rattle.promises.proofs.Lines.{taken, line, unless, given}
 use Rattle.promises.proofs.Writers.{at_front, came, Kept, Rest, refused-rest, written-rest, command-writes}
-
--- 1 to 1,024 places
-places-allowed : (n : ℕ) → 1 ≤ n → n ≤ 1024 → places_allowed n ≡ true
-unfolding places_allowed
-places-allowed n a b = rw (le-leb 1 n a, le-leb n 1024 b)
-
-places-figures : (n : ℕ) → places_allowed n ≡ and (leb 1 n) (leb n 1024)
-unfolding places_allowed
-places-figures n = both (leb 1 n)
-  where
-    both : (t : Bool) → if t (leb n 1024) false ≡ and t (leb n 1024)
-    both true = refl
-    both false = refl
 
 -- ---- print
 
@@ -83,12 +63,12 @@ unfolding print_of written_result
 print-call t out b = record {
   writes = record {
     answered = unless came (Kept out) (printed t) (usable full t) (alone 7) _ _ _ refl (refl, tt) (command-writes (printed t) out).answered;
-    rest = branch (Rest (printed t) out) (usable full t) _ _ (λ _. written-rest (printed t) out) (λ _. refused-rest (alone 7) (printed t) out out);
+    rest = branch (Rest out) (usable full t) _ _ (λ _. written-rest (printed t) out) (λ _. refused-rest (alone 7) out out);
   };
   counted = λ n e. let p : (usable full t ≡ true) × (n ≡ length (printed t)) × (take n (print_of t out).out ≡ printed t) = unfold print_of in print-told t out n e in p.1;
-  loads = λ n e s memory a m f.
+  loads = λ n e s memory a f.
       let p : (usable full t ≡ true) × (n ≡ length (printed t)) × (take n (print_of t out).out ≡ printed t) = unfold print_of in print-told t out n e in
-      subst (λ (x : List ℕ). EqualMirror t memory (load_of x memory)) (sym p.2) (both_ways.back t memory b p.0 (omega (arith, p.1)) (places-allowed (length memory / width) a m) f);
+      subst (λ (x : List ℕ). EqualMirror t memory (load_of x memory)) (sym p.2) (both_ways.back t memory b p.0 (omega (arith, p.1)) a f);
   same = refl;
 }
 
@@ -117,10 +97,8 @@ module _ (memory : List ℕ) where
   load-answered : (text : List ℕ) → Answers (load_lines text memory) (length (entries_in (reading_of text))) (loads (load_of text memory)) (W (load_of text memory))
   unfolding load_of loaded_result
   load-answered text =
-      subst (λ (allowed : Bool). Answers ((not allowed gives table_unsound) ∷ drop 1 (load_lines text memory)) (length (entries_in (reading_of text))) (loads (load_of text memory)) (W (load_of text memory)))
-      (places-figures (length memory / width))
-      (unless loads W _ (places_allowed (length memory / width)) table_unsound _ _ _ refl refl
-      (unless loads W _ (leb (length text) 65536) number_over _ _ _ refl refl (read-answered (reading_of text))))
+      unless loads W _ (places_allowed (length memory / width)) table_unsound _ _ _ refl refl
+      (unless loads W _ (leb (length text) 65536) number_over _ _ _ refl refl (read-answered (reading_of text)))
 
   -- 7, 14, 6, or what is wrong with a line
   abbrev Others : Refusal → Type 0
@@ -243,50 +221,11 @@ module _ (memory : List ℕ) where
       let p = both_ways.again text memory n e in
       rw (p.sound, p.prints, le-ltb (length out) (length text) h)
 
--- a header or a line out of form
-out-of-form : (text : List ℕ) (why : Refusal) (line : ℕ) → BadHeader text why line ⊎ BadForm text why line → why ≡ line_wrong
-out-of-form text why line (inl f) = f.number
-out-of-form text why line (inr f) = f.number
-
--- the fault that lines come to
-abbrev fault_by : List Line → Fault
-fault_by [] = no_fault
-fault_by (None ∷ ls) = fault_by ls
-fault_by (Because why ∷ ls) = because why
-
-fault-sends : (ls : List Line) (why : Refusal) → (fault_by ls ≡ because why) ↔ (sends ls ≡ refused why)
-unfolding by
-fault-sends [] why = ((λ e. absurd (let z : ◌≡◌ {A = ℕ} 0 1 = cc in omega arith)), (λ e. absurd (given tt why e)))
-fault-sends (None ∷ ls) why = fault-sends ls why
-fault-sends (Because k ∷ ls) why = ((λ e. cc), (λ e. cc))
-
--- what is wrong with a value, by its lines
-value-lines : (v : NodeValue) → text_wrong v ≡ fault_by (text_lines v)
-value-lines (integer x) = refl
-value-lines (float bits) = refl
-value-lines (string s) = by_tests (leb (length s) 256) (utf8 s)
-  where
-    by_tests : (short text : Bool) →
-        if short (if text no_fault (because (string_wrong (good_of s)))) (because string_long) ≡ fault_by ((not short gives string_long) ∷ (not text gives string_wrong (good_of s)) ∷ [])
-    by_tests true true = refl
-    by_tests true false = refl
-    by_tests false text = refl
-
-entry-within : (before : Found ℤ) (e : Entry) (why : Refusal) → (entry_fault before e ≡ because why) ↔ (sends (entry_lines before e) ≡ refused why)
-unfolding entry_fault
-entry-within before e why = rw (entry-fault (above before e.id)) (fault-sends (entry_lines before e) why)
-  where
-    entry-fault : (rises : Bool) → if rises (text_wrong e.value) (because id_not_above) ≡ fault_by ((not rises gives id_not_above) ∷ text_lines e.value)
-    entry-fault true = value-lines e.value
-    entry-fault false = refl
-
 pub load_call : (text memory : List ℕ) → LoadCall text memory (load_of text memory).reply (load_of text memory).memory
 load_call text memory = record {
   answered = load-answered memory text;
   no_other = load-reasons memory text;
-  first = λ why line a b. load-first memory text why line (places-allowed (length memory / width) a b);
-  form = out-of-form text;
-  within = entry-within;
+  first = load-first memory text;
   no_line = no_line_lem memory text (load_of text memory).reply.answer (load-about memory text);
   fresh = load_fresh memory text;
   sound = λ n e. (both_ways.again text memory n e).sound;

@@ -22,7 +22,6 @@ use Rattle.wing_saved.specs.Earlier.{earlier_from, carried_from, load_earlier_of
 use Rattle.wing_saved.proofs.Saving.Before.{earlier-laws}
 use Rattle.promises.specs.Saved.{SaveCall, LoadCall, LoadEarlierCall}
 use Rattle.promises.proofs.Lines.{unless}
-use Rattle.promises.proofs.Carries.{by_lines}
 use Rattle.promises.proofs.Writers.{at_front, came, Kept, Rest, refused-rest, written-rest, command-writes}
 
 -- what a call says that it wrote is kept as the state's
@@ -45,7 +44,7 @@ unfolding save_of written_result
 save-call s out t = record {
   writes = record {
     answered = unless came (Kept out) (state_bytes s) (sound_state s) (alone 8) _ _ _ refl (refl, tt) (command-writes (state_bytes s) out).answered;
-    rest = branch (Rest (state_bytes s) out) (sound_state s) _ _ (λ _. written-rest (state_bytes s) out) (λ _. refused-rest (alone 8) (state_bytes s) out out);
+    rest = branch (Rest out) (sound_state s) _ _ (λ _. written-rest (state_bytes s) out) (λ _. refused-rest (alone 8) out out);
   };
   saves = branch (Saved s) (sound_state s) _ _ (λ e. written-saved s out t e) (λ _. refused-saved s (alone 8) out);
 }
@@ -72,7 +71,7 @@ load-earlier-call bytes are =
     let r = carried_from (earlier_from bytes) in
     let e = loaded-result r in
     record {
-      back = λ s g. e ∙ (earlier-laws.back bytes s g ∙ by_lines s);
+      back = λ s g. e ∙ earlier-laws.back bytes s g;
       again = λ t p. earlier-laws.again bytes t are (sym e ∙ p);
       refusal = λ n p. (earlier-laws.refusal bytes n (sym e ∙ p), beside r n (sym e ∙ p));
     }

@@ -1,12 +1,10 @@
 -- 02: the first bad line decides. Which texts are taken, which line is the first bad one and what is wrong with it, told by printed lines alone.
-use Rattle.std.specs.Prelude.{ℕ, ◌+◌, true, ◌≡◌, ◌⊎◌, List, [], ◌∷◌, ◌++◌, leb, ℤ, length}
+use Rattle.std.specs.Prelude.{ℕ, ◌+◌, true, ◌≡◌, ◌⊎◌, List, [], ◌∷◌, ◌++◌, ℤ, length}
 use Rattle.wing_node.specs.declared.refusal.Fault.{Fault}
 use Rattle.wing_node.specs.declared.refusal.Refusal.{Refusal}
-use Rattle.wing_node.specs.declared.refusal.Refusal.TheVariants.{StringNotUtf8}
-use Rattle.wing_node.specs.Refusal.{alone, no_fault, because, by_number}
+use Rattle.wing_node.specs.Refusal.{alone, because, by_number}
 use Rattle.wing_node.specs.Bool.{if}
 use Rattle.wing_node.specs.Signed.{InBits}
-use Rattle.wing_node.specs.Utf8.{good, utf8}
 use Rattle.wing_node.specs.Value.{NodeValue, integer, float, string}
 use Rattle.wing_wire.specs.Range.{AreBytes}
 use Rattle.wing_mirror.specs.Rows.{Found, found, nothing, All}
@@ -16,7 +14,7 @@ use Rattle.wing_mirror.specs.Record.{full}
 use Rattle.wing_mirror.specs.declared.origin.Origin.TheVariants.{Console}
 use Rattle.wing_listing.specs.Parts.{ended}
 use Rattle.wing_listing.specs.Listing.{header, line_of, listing_of}
-use Rattle.wing_listing.specs.Reading.{above}
+use Rattle.wing_listing.specs.Reading.{above, value_fault}
 
 -- a string's bytes are bytes
 abbrev pub Bytewise : NodeValue → Type 0
@@ -48,15 +46,9 @@ unfoldable pub last_id : Found ℤ → List Entry → Found ℤ
 last_id before [] = before
 last_id before (e ∷ es) = last_id (found e.id) es
 
--- 02: a string over 256 bytes is 10, then one that isn't UTF-8 is 1, with its good
-abbrev pub text_wrong : NodeValue → Fault
-text_wrong (integer x) = no_fault
-text_wrong (float bits) = no_fault
-text_wrong (string s) = if (leb (length s) 256) (if (utf8 s) no_fault (because (StringNotUtf8 (good s)))) (by_number 10)
-
 -- 02: an id not above the one before is 18, then 10, then 1
 unfoldable pub entry_fault : Found ℤ → Entry → Fault
-entry_fault before e = if (above before e.id) (text_wrong e.value) (by_number 18)
+entry_fault before e = if (above before e.id) (value_fault e.value) (by_number 18)
 
 -- the text does not begin with the header: 17, line 1
 pub record BadHeader (text : List ℕ) (why : Refusal) (line : ℕ) : Type 0 where

@@ -18,7 +18,7 @@ onto a (p ∷ ps) = (a ∷ p) ∷ ps
 -- the parts between the bytes b of a text, one more than there are such bytes; each but the last is followed by one
 unfoldable pub parted : ℕ → List ℕ → List (List ℕ)
 parted b [] = [] ∷ []
-parted b (a ∷ s) = let parts = parted b s in if (eqb a b) ([] ∷ parts) (onto a parts)
+parted b (a ∷ s) = if (eqb a b) ([] ∷ parted b s) (onto a (parted b s))
 
 -- the part of a number, from 0; none past the last
 abbrev pub part : ℕ → ℕ → List ℕ → List ℕ

@@ -3,4 +3,3 @@ pub mod Lists
 pub mod Records
 pub mod Calls
 pub mod Histories
-pub mod Worked

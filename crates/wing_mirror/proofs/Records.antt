@@ -1,4 +1,4 @@
--- Records and tables of any layout; Words, Formed, Trips, Said, Full, Ready and Before are about records of 264 bytes.
+-- Records and tables of any layout; Words, Formed, Trips, Said, Full and Placing are about records of 264 bytes.
 pub mod Choices
 pub mod Usables
 pub mod Words

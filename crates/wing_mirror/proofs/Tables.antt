@@ -1,4 +1,4 @@
--- Ordered lists and tables of any width; Laying is about records of 264 bytes.
+-- Ordered lists and tables of any width; Laying and the end of Tests are about records of 264 bytes.
 pub mod Ordered
 pub mod Chunks
 pub mod Stays

@@ -23,4 +23,3 @@ pub mod Sending
 pub mod History
 pub mod Origins
 pub mod OlderTables
-pub mod Cases

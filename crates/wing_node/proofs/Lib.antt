@@ -8,4 +8,3 @@ pub mod Characters
 pub mod Refusals
 pub mod Bodies
 pub mod Results
-pub mod Worked

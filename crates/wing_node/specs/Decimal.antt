@@ -10,7 +10,7 @@ ascii d = 0x30 + d
 -- a digit alone, or the digits of n / 10 and then that of n % 10; `most` bounds how many there are
 unfoldable pub digits_up_to : ℕ → ℕ → List ℕ
 digits_up_to zero n = []
-digits_up_to (suc most) n = let before = digits_up_to most (n / 10) in if (ltb n 10) (ascii n ∷ []) (before ++ (ascii (n % 10) ∷ []))
+digits_up_to (suc most) n = if (ltb n 10) (ascii n ∷ []) (digits_up_to most (n / 10) ++ (ascii (n % 10) ∷ []))
 
 -- the digits of n: no number has more of them than itself and one
 unfoldable pub digits : ℕ → List ℕ

@@ -1,5 +1,5 @@
 pub mod Worked
 pub mod Reading
-pub mod Writing
+mod Writing
 pub mod BothWays
 pub mod Laws

@@ -4,10 +4,9 @@ use Rattle.std.specs.Prelude.{ℕ, ◌+◌, ◌-◌, ◌≤◌, ◌<◌, Bool, �
 use Rattle.wing_node.specs.Bool.{if}
 use Rattle.wing_node.specs.Field.{big}
 use Rattle.wing_node.specs.Signed.{signed}
-use Rattle.wing_node.specs.Utf8.{utf8, good}
+use Rattle.wing_node.specs.Utf8.{utf8}
 use Rattle.wing_node.specs.Value.{integer, float, string}
-use Rattle.wing_node.specs.Refusal.{alone}
-use Rattle.wing_node.specs.declared.refusal.Refusal.TheVariants.{StringNotUtf8}
+use Rattle.wing_node.specs.Refusal.{alone, string_not_utf8}
 use Rattle.wing_wire.specs.State.{body_limit, control}
 use Rattle.wing_wire.specs.Stream.{Fed, feed_of}
 use Rattle.wing_wire.specs.Reader.{Event, value, body, end, refused, event_of}
@@ -58,9 +57,9 @@ pub data TokenResult : Type 0 where
   -- a new current node, and no event
   new_node : ℤ → TokenResult
 
--- 01: strings are UTF-8; one that is not is 1, and 02: with its good
+-- 01: strings are UTF-8; one that is not is 1
 abbrev pub string_of : List ℕ → TokenResult
-string_of s = if (utf8 s) (event (value (string s))) (event (refused (StringNotUtf8 (good s))))
+string_of s = if (utf8 s) (event (value (string s))) (event (refused (string_not_utf8 s)))
 
 -- 01's table: the units of one token, and what it gives when its last unit comes. t is the first unit, a whether it is appended, and
 -- us are the units that the row wants after it

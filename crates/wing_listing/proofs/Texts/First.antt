@@ -1,43 +1,26 @@
 -- The first bad line, both ways: what a reading says of it is what is said by printed lines.
 use Prim.Native.Nat.{ℕ, suc, ◌+◌, ◌<◌}
-use mathlib.Core.Bool.{Bool, true, false, not}
+use mathlib.Core.Bool.{Bool, true, false}
 use mathlib.Core.Path.{◌≡◌, refl, sym, ap, ◌∙◌}
 use mathlib.Core.Logic.{◌⊎◌, inl, inr}
 use mathlib.Core.List.{List, [], ◌∷◌, ◌++◌, append_assoc}
 use native.Mathlib.Omega.{arith}
 use lib.IntN.{ℤ}
-use lib.Dec.{leb}
 use lib.ListN.{length, get_or, length-append}
 use Rattle.wing_node.specs.declared.refusal.Refusal.{Refusal}
-use Rattle.wing_node.specs.Refusal.{alone, no_fault, because, by_number, string_not_utf8}
-use Rattle.wing_node.specs.Bool.{if}
-use Rattle.wing_node.specs.Utf8.{utf8}
-use Rattle.wing_node.specs.Value.{NodeValue, integer, float, string}
+use Rattle.wing_node.specs.Refusal.{alone, because}
 use Rattle.wing_node.specs.Bytes.{joined}
 use Rattle.wing_mirror.specs.Rows.{Found, found, All}
 use Rattle.wing_mirror.specs.Entry.{Entry}
-use Rattle.wing_mirror.specs.Call.{too_long, not_text}
 use Rattle.wing_listing.specs.Parts.{newline, parted, part, ended}
 use Rattle.wing_listing.specs.Listing.{line_of}
-use Rattle.wing_listing.specs.Reading.{is_line, above, value_fault, line_fault, Reading, good, bad, after}
-use Rattle.wing_listing.specs.FirstBad.{Printable, last_id, text_wrong, entry_fault}
+use Rattle.wing_listing.specs.Reading.{is_line, above, line_fault, Reading, good, bad, after}
+use Rattle.wing_listing.specs.FirstBad.{Printable, last_id, entry_fault}
 use Rattle.wing_listing.proofs.Texts.Parts.{parted-ended}
 use Rattle.wing_listing.proofs.Texts.Lines.{true-false}
 use Rattle.wing_listing.proofs.Texts.Said.{line-formed, line-id, line-says, line_plain}
 use Rattle.wing_listing.proofs.Texts.Listed.{Rises, Listable, body}
 use Rattle.wing_listing.proofs.Texts.Shown.{digit-bytes}
-
--- what is wrong with a value, by its kind
-pub value-wrong : (v : NodeValue) → value_fault v ≡ text_wrong v
-unfolding value_fault too_long not_text
-value-wrong (integer x) = refl
-value-wrong (float bits) = refl
-value-wrong (string s) = by_tests (leb (length s) 256) (utf8 s)
-  where
-    by_tests : (short text : Bool) → if (not short) (by_number 10) (if (not text) (because (string_not_utf8 s)) no_fault) ≡ if short (if text no_fault (because (string_not_utf8 s))) (by_number 10)
-    by_tests true true = refl
-    by_tests true false = refl
-    by_tests false text = refl
 
 -- ---- a printed line at the front of a text
 
@@ -63,7 +46,7 @@ module _ (e : Entry) (p : Printable e) (more : List ℕ) where
   printed-fault before =
       let b = digit-bytes e.value p.bytes in
       ap (line_fault before) printed-front ∙
-      rw (line-formed e p.node p.typed b, line-id e p.node p.typed b, line-says e p.node p.typed b, value-wrong e.value)
+      rw (line-formed e p.node p.typed b, line-id e p.node p.typed b, line-says e p.node p.typed b)
 
 -- ---- the first bad line after an id, of the lines from one of a number on
 

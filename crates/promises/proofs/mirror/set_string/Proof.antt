@@ -1,4 +1,4 @@
--- By the contract of the mirror's `set_string` the reply, the table and the output are those of `mirror_set`, of which `set_call` says what is
+-- By the contract of the mirror's `set_string` the reply, the table and the output are those of `mirror_set`, of which `set-call` says what is
 -- promised.
 use mathlib.Core.Path.{sym, subst}
 use mir.Facts.{to_z-of_z}
@@ -7,7 +7,7 @@ use Rattle.wing_node.specs.Value.{string}
 use Rattle.wing_mirror.specs.Table.{table}
 use Rattle.wing_mirror.specs.Mirror.{SetEffect}
 use Rattle.promises.specs.Mirror.{SetCall}
-use Rattle.promises.proofs.Calls.{set_call}
+use Rattle.promises.proofs.Calls.{set-call}
 use Rattle.promises.proofs.mirror.set_string.Statement.{statement}
 use Rattle.promises.proofs.mirror.set_string.Tie as tie
 
@@ -28,7 +28,7 @@ returns c =
     let out = entry.args.out.now in
     subst (λ (x : SetEffect). SetCall entry.args.id (string entry.args.value.now) t out x.answer x.table x.out)
     (sym (rw (to_z-of_z entry.ranges.id) at at-set-string.set-string.ensures))
-    (set_call entry.args.id (string entry.args.value.now) t out entry.ranges.id.sfits tt)
+    (set-call entry.args.id (string entry.args.value.now) t out entry.ranges.id.sfits tt)
 
 pub set-string-spec : {M : Type 1} → statement M
 set-string-spec = tie.close (tie.spec set-string-requires same_length same-length-2 returns)
