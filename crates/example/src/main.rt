@@ -1,6 +1,8 @@
 // A recall box in small, to copy from: what the console sent goes into a mirror, the engineer sets a strip, and between two
 // shows everything is sent back; here it goes into a second mirror and, as from a console that repeats it, into the first, which
 // are then equal.
+#![tactic(auto)]
+
 use libc::{STDIN_FILENO, STDOUT_FILENO};
 use wing_mirror::feed::feed;
 use wing_mirror::recall::recall;

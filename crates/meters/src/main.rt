@@ -1,5 +1,7 @@
 // Reads meter packets from standard input, each after its length in two bytes, and prints the figures of each strip's last
 // readings. A program has no exit status here: one that fails says so on standard error.
+#![tactic(auto)]
+
 mod column;
 mod complaint;
 mod packets;

@@ -1,5 +1,7 @@
 // Reads standard input to its end into a mirror of 128 places, and prints its records.
 // A program has no exit status here: one that fails says so on standard error.
+#![tactic(auto)]
+
 use libc::{STDERR_FILENO, STDIN_FILENO, STDOUT_FILENO};
 use wing_mirror::{answer, feed};
 use wing_wire::state::State;

@@ -1,6 +1,8 @@
 // The three demands. What is promised of a call is the contract of a function of the same name that does nothing but the call
 // (node.rt, wire.rt, saved.rt, mirror.rt, listing.rt, meters.rt), so that it hangs on the code. What is promised of whole streams and histories, and of the search's count, which no
 // call answers, is the contract of a function with an empty body, here. The gate prints a 'proved' line for each.
+#![tactic(auto)]
+
 ghost use Rattle.std.specs.Prelude.{◌≡◌, map};
 ghost use Rattle.wing_node.specs.Written.{ReadsBack};
 ghost use Rattle.wing_node.specs.BothWays.{BothWays};

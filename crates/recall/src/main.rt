@@ -1,5 +1,7 @@
 // Reads a listing, as `mirror` prints one, from standard input, and writes what a console is sent to hold it to standard
 // output. A program has no exit status here: one that fails says so on standard error.
+#![tactic(auto)]
+
 mod complaint;
 
 use crate::complaint::complain;

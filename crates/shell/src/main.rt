@@ -1,4 +1,6 @@
 // Reads orders from standard input, a line each, and answers each with one line: docs/ORDERS.md has them all.
+#![tactic(auto)]
+
 mod commands;
 mod definitions;
 mod forms;

@@ -1,5 +1,7 @@
 // The calls that bench/ times beside libwing's, made once on standard input. bench/run makes a static library of calls.rt
 // for its Rust program to link.
+#![tactic(auto)]
+
 mod calls;
 
 use libc::{STDIN_FILENO, STDOUT_FILENO};

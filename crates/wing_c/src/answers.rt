@@ -18,7 +18,7 @@ use wing_wire::unit::Answer;
 use wing_wire::write::Written;
 
 // How a call came out: its status, and the good beside 1 and 5.
-#[derive(Drop)]
+#[derive(Clone, Copy)]
 pub(crate) struct Outcome {
     pub status: i32,
     pub good: u16,
@@ -26,7 +26,7 @@ pub(crate) struct Outcome {
 
 // A command, a definition or a listing: 0 and the bytes written.
 #[repr(C)]
-#[derive(Drop)]
+#[derive(Clone, Copy)]
 pub struct WingWritten {
     pub status: i32,
     pub good: u16,
@@ -35,7 +35,7 @@ pub struct WingWritten {
 
 // A set through the mirror: 0, the bytes written and the records there are.
 #[repr(C)]
-#[derive(Drop)]
+#[derive(Clone, Copy)]
 pub struct WingSet {
     pub status: i32,
     pub good: u16,
@@ -45,7 +45,7 @@ pub struct WingSet {
 
 // A feed: 0, the six counts and the records there are.
 #[repr(C)]
-#[derive(Drop)]
+#[derive(Clone, Copy)]
 pub struct WingFed {
     pub status: i32,
     pub stored: u32,
@@ -59,7 +59,7 @@ pub struct WingFed {
 
 // A lookup: 1 and the record's number, or 0 for none.
 #[repr(C)]
-#[derive(Drop)]
+#[derive(Clone, Copy)]
 pub struct WingLookup {
     pub status: i32,
     pub number: usize,
@@ -68,7 +68,7 @@ pub struct WingLookup {
 // A record: 0, its id, its kind (0 integer, 1 float, 2 string), the 32 bits of a number, or a string's length and bytes; 02: and its
 // origin (0 console, 1 set order).
 #[repr(C)]
-#[derive(Drop)]
+#[derive(Clone, Copy)]
 pub struct WingRecord {
     pub status: i32,
     pub id: i32,
@@ -82,7 +82,7 @@ pub struct WingRecord {
 // An event of the decoder: 1 and its kind (0 integer, 1 float, 2 string, 3 body, 4 end), the 32 bits of a number, or how many bytes
 // of a string or a body were handed out; or 0 for more. The node is the current one, the bytes taken are those of this call.
 #[repr(C)]
-#[derive(Drop)]
+#[derive(Clone, Copy)]
 pub struct WingEvent {
     pub status: i32,
     pub good: u16,
@@ -95,7 +95,7 @@ pub struct WingEvent {
 
 // A meter request: 0, the bytes written and the new meter id.
 #[repr(C)]
-#[derive(Drop)]
+#[derive(Clone, Copy)]
 pub struct WingRequested {
     pub status: i32,
     pub id: u16,
@@ -104,7 +104,7 @@ pub struct WingRequested {
 
 // A meter packet: 0, its meter id and how many readings it holds.
 #[repr(C)]
-#[derive(Drop)]
+#[derive(Clone, Copy)]
 pub struct WingMeters {
     pub status: i32,
     pub id: u16,
@@ -113,7 +113,7 @@ pub struct WingMeters {
 
 // A load: 0 and the records there are now; or a refusal and the line that it is about, 0 for none.
 #[repr(C)]
-#[derive(Drop)]
+#[derive(Clone, Copy)]
 pub struct WingLoaded {
     pub status: i32,
     pub good: u16,

@@ -16,7 +16,7 @@ use wing_node::{definition, items};
 
 // A definition: 0, its fields and where its names are. What the type has not is 0. Limits are 32 bits, of floats or of integers.
 #[repr(C)]
-#[derive(Drop)]
+#[derive(Clone, Copy)]
 pub struct WingDefinition {
     pub status: i32,
     pub good: u16,
@@ -40,7 +40,7 @@ pub struct WingDefinition {
 
 // A walk over items: 0, the place reached, the items left and the type.
 #[repr(C)]
-#[derive(Drop)]
+#[derive(Clone, Copy)]
 pub struct WingWalk {
     pub status: i32,
     pub good: u16,
@@ -51,7 +51,7 @@ pub struct WingWalk {
 
 // An item: 1 and its kind (0 two strings, 1 float bits and a string), or 0 for none.
 #[repr(C)]
-#[derive(Drop)]
+#[derive(Clone, Copy)]
 pub struct WingItem {
     pub status: i32,
     pub good: u16,
@@ -65,14 +65,14 @@ pub struct WingItem {
 
 // A step of a walk: the item, and the walk after it.
 #[repr(C)]
-#[derive(Drop)]
+#[derive(Clone, Copy)]
 pub struct WingStep {
     pub item: WingItem,
     pub walk: WingWalk,
 }
 
 // What a type adds, by numbers.
-#[derive(Drop)]
+#[derive(Clone, Copy)]
 struct DetailFields {
     min: u32,
     max: u32,

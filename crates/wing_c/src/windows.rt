@@ -13,7 +13,7 @@ use wing_meters::{reading, window};
 // A window's state: the width, how many readings are held, the place of the next one, the largest level, the sum of the levels, and the levels:
 // a reading raised by 32,768 is one.
 #[repr(C)]
-#[derive(Drop)]
+#[derive(Clone, Copy)]
 pub struct WingWindow {
     pub width: u16,
     pub held: u16,
@@ -25,7 +25,7 @@ pub struct WingWindow {
 
 // What a window tells: 1 and the figures, or 0 for none.
 #[repr(C)]
-#[derive(Drop)]
+#[derive(Clone, Copy)]
 pub struct WingFigures {
     pub status: i32,
     pub held: u16,
@@ -37,7 +37,7 @@ pub struct WingFigures {
 
 // A window made: 0 and the window; beside a refusal one that every call refuses.
 #[repr(C)]
-#[derive(Drop)]
+#[derive(Clone, Copy)]
 pub struct WingMade {
     pub status: i32,
     pub window: WingWindow,
@@ -45,7 +45,7 @@ pub struct WingMade {
 
 // A reading taken: the figures, and the window with it; after a refusal the window as it was.
 #[repr(C)]
-#[derive(Drop)]
+#[derive(Clone, Copy)]
 pub struct WingTaken {
     pub figures: WingFigures,
     pub window: WingWindow,
@@ -53,7 +53,7 @@ pub struct WingTaken {
 
 // Readings taken: 0, how many rows of figures there are, and the window with them; after a refusal the window as it was.
 #[repr(C)]
-#[derive(Drop)]
+#[derive(Clone, Copy)]
 pub struct WingFollowed {
     pub status: i32,
     pub rows: usize,

@@ -14,7 +14,7 @@ use wing_node::{anew, writer};
 // A definition to be written. What its type has not is ignored, but for the count (and the items), which are 16. Limits are 32 bits, of floats or of integers, as in
 // WingDefinition.
 #[repr(C)]
-#[derive(Drop)]
+#[derive(Clone, Copy)]
 pub struct WingFields {
     pub parent_id: i32,
     pub id: i32,

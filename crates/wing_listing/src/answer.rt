@@ -4,14 +4,14 @@ use wing_wire::state::State;
 
 // How many records the table has now; or the refusal and the number of the line that it is about: the header is line 1, and 7, 14 and 6 are
 // about none, 0.
-#[derive(Drop)]
+#[derive(Clone, Copy)]
 pub enum Loaded {
     Records(usize),
     Refused { why: Refusal, line: usize },
 }
 
 // The answer with a fresh decoder state, to go on with if the table was loaded; beside a refusal the mirror's own is as it was.
-#[derive(Drop)]
+#[derive(Clone, Copy)]
 pub struct LoadReply {
     pub answer: Loaded,
     pub state: State,

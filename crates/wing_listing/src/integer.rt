@@ -6,7 +6,7 @@ ghost use Rattle.wing_listing.specs.Steps.{number_up_to, not_read, natural_read,
 use wing_node::field::to_i32;
 
 // Whether a text is an integer in form, and which: 0 if it is not.
-#[derive(Drop)]
+#[derive(Clone, Copy)]
 pub struct IntegerRead {
     pub formed: bool,
     pub value: i32,

@@ -11,7 +11,7 @@ use crate::integer::integer_in;
 use wing_node::refusal::{Fault, by_number, is_refused, string_fault};
 
 // Whether a line is in form; its id, 0 if that field is out of form; its kind letter, and where its value begins.
-#[derive(Drop)]
+#[derive(Clone, Copy)]
 pub struct Line {
     pub formed: bool,
     pub id: i32,
@@ -20,7 +20,7 @@ pub struct Line {
 }
 
 // What is wrong with a line, if anything is, and its id.
-#[derive(Drop)]
+#[derive(Clone, Copy)]
 pub struct Judged {
     pub fault: Fault,
     pub id: i32,

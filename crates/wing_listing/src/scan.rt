@@ -10,7 +10,7 @@ use crate::line::{find, judge};
 use wing_node::refusal::{Fault, Refusal};
 
 // What is wrong, if anything is, and with which line, 0 for none; and how many records are to be laid: none of a text that is sent back.
-#[derive(Drop)]
+#[derive(Clone, Copy)]
 pub struct Scanned {
     pub fault: Fault,
     pub line: usize,

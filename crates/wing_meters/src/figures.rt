@@ -1,7 +1,7 @@
 // What a window tells of the readings that it holds.
 
 // 02: how many it holds, the sum, the sum divided by that number as a whole quotient, rounded down, with its remainder, and the largest.
-#[derive(Drop)]
+#[derive(Clone, Copy)]
 pub struct Figures {
     pub held: u16,
     pub sum: i32,
@@ -11,7 +11,7 @@ pub struct Figures {
 }
 
 // None where the window is empty.
-#[derive(Drop)]
+#[derive(Clone, Copy)]
 pub enum Told {
     None,
     Figures(Figures),

@@ -12,21 +12,21 @@ use crate::sound::{greatest, is_sound_lent};
 use crate::window::{Control, Window};
 
 // The answer, and the window with the reading in it; after a refusal the window as it was.
-#[derive(Drop)]
+#[derive(Clone, Copy)]
 pub struct Taken {
     pub answer: Told,
     pub window: Window,
 }
 
 // How many rows of five figures, one for each reading.
-#[derive(Drop)]
+#[derive(Clone, Copy)]
 pub enum RowsAnswer {
     Rows(usize),
     Refused(u8),
 }
 
 // The answer, and the window with the readings in it; after a refusal the window as it was.
-#[derive(Drop)]
+#[derive(Clone, Copy)]
 pub struct Followed {
     pub answer: RowsAnswer,
     pub window: Window,

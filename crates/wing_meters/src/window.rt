@@ -8,7 +8,7 @@ use crate::kept::tell;
 use crate::sound::is_sound_lent;
 
 // The width, how many readings are held, the place of the next one, the largest level and the sum of the levels.
-#[derive(Drop)]
+#[derive(Clone, Copy)]
 pub struct Control {
     pub width: u16,
     pub held: u16,
@@ -18,20 +18,20 @@ pub struct Control {
 }
 
 // The level at the next place is the oldest once the window is full; places not used yet are 0.
-#[derive(Drop)]
+#[derive(Clone, Copy)]
 pub struct Window {
     pub control: Control,
     pub levels: [u16; 256],
 }
 
-#[derive(Drop)]
+#[derive(Clone, Copy)]
 pub enum MadeAnswer {
     Good,
     Refused(u8),
 }
 
 // Beside a refusal stands a window of width 0, which every call refuses.
-#[derive(Drop)]
+#[derive(Clone, Copy)]
 pub struct Made {
     pub answer: MadeAnswer,
     pub window: Window,

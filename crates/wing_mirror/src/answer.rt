@@ -5,7 +5,7 @@ use wing_wire::state::{Control, State};
 use wing_wire::write::Written;
 
 // An id's record number.
-#[derive(Drop)]
+#[derive(Clone, Copy)]
 pub enum Lookup {
     At(usize),
     None,
@@ -13,7 +13,7 @@ pub enum Lookup {
 }
 
 // A record, or a refusal.
-#[derive(Drop)]
+#[derive(Clone, Copy)]
 pub enum RecordAnswer {
     Record {
         id: i32,
@@ -24,14 +24,14 @@ pub enum RecordAnswer {
 }
 
 // The bytes of a string, zero-filled, stand beside the answer; with any other answer these bytes are all 0.
-#[derive(Drop)]
+#[derive(Clone, Copy)]
 pub struct RecordRead {
     pub answer: RecordAnswer,
     pub string: [u8; 256],
 }
 
 // Whether two tables have the same count and records.
-#[derive(Drop)]
+#[derive(Clone, Copy)]
 pub enum Same {
     Yes,
     No,
@@ -39,7 +39,7 @@ pub enum Same {
 }
 
 // The six counts of a feed.
-#[derive(Drop)]
+#[derive(Clone, Copy)]
 pub struct Counts {
     pub stored: u32,
     pub unplaced: u32,
@@ -49,14 +49,14 @@ pub struct Counts {
     pub ends: u32,
 }
 
-#[derive(Drop)]
+#[derive(Clone, Copy)]
 pub enum FeedAnswer {
     Taken,
     Refused(u8),
 }
 
 // The same where the store is lent: the control after it stands beside the counts.
-#[derive(Drop)]
+#[derive(Clone, Copy)]
 pub struct LentFeedReply {
     pub answer: FeedAnswer,
     pub counts: Counts,
@@ -65,7 +65,7 @@ pub struct LentFeedReply {
 }
 
 // The answer of a feed with its six counts, the state after it and the number of records. A refused feed has six zero counts.
-#[derive(Drop)]
+#[derive(Clone, Copy)]
 pub struct FeedReply {
     pub answer: FeedAnswer,
     pub counts: Counts,
@@ -74,7 +74,7 @@ pub struct FeedReply {
 }
 
 // The answer of a set with the number of records.
-#[derive(Drop)]
+#[derive(Clone, Copy)]
 pub struct SetReply {
     pub answer: Written,
     pub count: usize,

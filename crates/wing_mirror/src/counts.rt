@@ -9,7 +9,7 @@ use wing_node::definition::{Parsed, from_bytes};
 use wing_node::refusal::{Refusal, number};
 
 // Which of the six is meant, if any.
-#[derive(Drop)]
+#[derive(Clone, Copy)]
 pub enum Mark {
     Stored,
     Unplaced,

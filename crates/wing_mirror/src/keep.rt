@@ -21,7 +21,7 @@ use wing_wire::state::State;
 use wing_wire::unit::Answer;
 
 // The number of records and the counts of a feed so far.
-#[derive(Drop)]
+#[derive(Clone, Copy)]
 pub struct Tally {
     pub count: usize,
     pub counts: Counts,

@@ -1,4 +1,6 @@
 // The mirror library: the last value of each node, in a table of records in a lent buffer.
+#![tactic(auto)]
+
 pub mod answer;
 mod bytes;
 mod counts;

@@ -9,14 +9,14 @@ ghost use Rattle.wing_mirror.specs.HighEnd.{counted_of};
 use crate::record;
 
 // How many records have a lower key, and whether the next has this one.
-#[derive(Drop)]
+#[derive(Clone, Copy)]
 pub struct Position {
     pub number: usize,
     pub found: bool,
 }
 
 // A position, and how many keys were read to find it.
-#[derive(Drop)]
+#[derive(Clone, Copy)]
 pub struct Counted {
     pub position: Position,
     pub reads: usize,

@@ -3,7 +3,7 @@ ghost use Rattle.std.specs.Prelude.{◌≡◌};
 ghost use Rattle.wing_mirror.specs.Origin.{origin_number};
 
 // The console, or a set order at the box.
-#[derive(Drop)]
+#[derive(Clone, Copy)]
 pub enum Origin {
     Console,
     SetOrder,

@@ -11,7 +11,7 @@ use crate::order::{places_of, search};
 use crate::record;
 
 // Whether the record is in the table now, and how many there are.
-#[derive(Drop)]
+#[derive(Clone, Copy)]
 pub struct Kept {
     pub count: usize,
     pub taken: bool,

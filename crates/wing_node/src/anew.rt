@@ -11,7 +11,7 @@ use crate::refusal::Fault;
 use crate::writer::{BodyWritten, Fields, to_bytes};
 
 // A part of a body, from a place to another.
-#[derive(Drop)]
+#[derive(Clone, Copy)]
 struct Part {
     start: usize,
     end: usize,

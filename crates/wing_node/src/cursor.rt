@@ -7,14 +7,14 @@ use crate::field::{least, left, u16_at, u32_at};
 use crate::refusal::{Fault, Refusal, by_number, is_refused};
 use crate::utf8::good_len;
 
-#[derive(Drop)]
+#[derive(Clone, Copy)]
 pub struct Cursor {
     pub at: usize,
     pub fault: Fault,
 }
 
 // A field that was read: its number (a string's is its length), where its bytes begin, and the cursor after it.
-#[derive(Drop)]
+#[derive(Clone, Copy)]
 pub struct FieldRead {
     pub value: u32,
     pub start: usize,
@@ -22,7 +22,7 @@ pub struct FieldRead {
 }
 
 // A 16-bit number that was read.
-#[derive(Drop)]
+#[derive(Clone, Copy)]
 pub struct ShortRead {
     pub value: u16,
     pub next: Cursor,

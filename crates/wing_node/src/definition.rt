@@ -10,7 +10,7 @@ use crate::node_type::{NodeType, NodeUnit, type_of, unit_of};
 use crate::refusal::{Fault, Refusal, is_refused};
 
 // Where a string lies in the body.
-#[derive(Drop)]
+#[derive(Clone, Copy)]
 pub struct Span {
     pub start: usize,
     pub len: u32,
@@ -26,7 +26,7 @@ fn span_of(r: FieldRead) -> Span
 }
 
 // An item of a string or float enum; none, or the refusal.
-#[derive(Drop)]
+#[derive(Clone, Copy)]
 pub enum Item {
     None,
     Strings { item: Span, long_item: Span },
@@ -34,14 +34,14 @@ pub enum Item {
     Refused(Refusal),
 }
 
-#[derive(Drop)]
+#[derive(Clone, Copy)]
 pub struct ItemRead {
     pub item: Item,
     pub next: Cursor,
 }
 
 // What a type adds to a definition. Floats are their 32 bits.
-#[derive(Drop)]
+#[derive(Clone, Copy)]
 pub enum Details {
     None,
     Floats { min: u32, max: u32, steps: i32 },
@@ -50,13 +50,13 @@ pub enum Details {
     String { max_len: u16 },
 }
 
-#[derive(Drop)]
+#[derive(Clone, Copy)]
 pub struct DetailsRead {
     pub details: Details,
     pub next: Cursor,
 }
 
-#[derive(Drop)]
+#[derive(Clone, Copy)]
 pub struct Definition {
     pub parent_id: i32,
     pub id: i32,
@@ -70,7 +70,7 @@ pub struct Definition {
 }
 
 // The definition, or the refusal: 4 or 5.
-#[derive(Drop)]
+#[derive(Clone, Copy)]
 pub enum Parsed {
     Good(Definition),
     Refused(Refusal),

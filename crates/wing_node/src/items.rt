@@ -8,7 +8,7 @@ use crate::node_type::{NodeType, has_items};
 use crate::refusal::{Fault, Refusal};
 
 // Where a walk over the items stands: the place reached, the items left and the type.
-#[derive(Drop)]
+#[derive(Clone, Copy)]
 pub struct Walk {
     pub at: usize,
     pub left: u16,
@@ -16,13 +16,13 @@ pub struct Walk {
 }
 
 // A walk at the first item, or the parser's 4 or 5.
-#[derive(Drop)]
+#[derive(Clone, Copy)]
 pub enum Begun {
     Good(Walk),
     Refused(Refusal),
 }
 
-#[derive(Drop)]
+#[derive(Clone, Copy)]
 pub struct Step {
     pub item: Item,
     pub next: Walk,

@@ -1,4 +1,6 @@
 // The node library: what a node's bytes say.
+#![tactic(auto)]
+
 pub mod anew;
 pub mod cursor;
 pub mod definition;

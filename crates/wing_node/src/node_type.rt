@@ -2,7 +2,7 @@
 ghost use Rattle.std.specs.Prelude.{◌≡◌};
 ghost use Rattle.wing_node.specs.Types.{type_of, unit_of, type_number, unit_number, has_items};
 
-#[derive(Drop)]
+#[derive(Clone, Copy)]
 pub enum NodeType {
     Node,
     LinearFloat,
@@ -14,7 +14,7 @@ pub enum NodeType {
     String,
 }
 
-#[derive(Drop)]
+#[derive(Clone, Copy)]
 pub enum NodeUnit {
     None,
     Db,

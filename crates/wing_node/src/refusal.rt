@@ -7,7 +7,7 @@ use crate::field::least;
 use crate::utf8::good_len;
 
 // 1 is a string of the wire or to be set, 5 one of a definition.
-#[derive(Drop)]
+#[derive(Clone, Copy)]
 pub enum Refusal {
     Number(u8),
     StringNotUtf8 { good: u16 },
@@ -15,7 +15,7 @@ pub enum Refusal {
 }
 
 // Why something is sent back, if it is.
-#[derive(Drop)]
+#[derive(Clone, Copy)]
 pub enum Fault {
     None,
     Refused(Refusal),

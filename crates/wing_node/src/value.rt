@@ -9,7 +9,7 @@ ghost use Rattle.wing_node.specs.Value.{node_value, int_in, string_in, answer_of
 use crate::field::left;
 
 // A node's value. A string's bytes stand beside it, in an array of 256; the number is its length.
-#[derive(Drop)]
+#[derive(Clone, Copy)]
 pub enum Value {
     Integer(i32),
     Float(u32),
@@ -17,13 +17,13 @@ pub enum Value {
 }
 
 // What the string getter gives: no string, or one of this length in the array beside.
-#[derive(Drop)]
+#[derive(Clone, Copy)]
 pub enum StringAnswer {
     None,
     String(u16),
 }
 
-#[derive(Drop)]
+#[derive(Clone, Copy)]
 pub struct StringRead {
     pub answer: StringAnswer,
     pub bytes: [u8; 256],

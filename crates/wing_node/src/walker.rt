@@ -10,7 +10,7 @@ use crate::items::{Begun, Step, Walk, item_step, items_begin};
 use crate::node_type::NodeType;
 use crate::refusal::Refusal;
 
-#[derive(Drop)]
+#[derive(Clone, Copy)]
 pub struct Walker<'a> {
     pub body: &'a [u8],
     pub at: usize,
@@ -19,14 +19,14 @@ pub struct Walker<'a> {
 }
 
 // Whether a walk began, or the parser's 4 or 5.
-#[derive(Drop)]
+#[derive(Clone, Copy)]
 pub enum Opening {
     Good,
     Refused(Refusal),
 }
 
 // A walk that began, on plain numbers.
-#[derive(Drop)]
+#[derive(Clone, Copy)]
 pub struct Start {
     pub opening: Opening,
     pub at: usize,
@@ -35,13 +35,13 @@ pub struct Start {
 }
 
 // An enum holds no slice, so a refusal stands beside a walker with nothing left.
-#[derive(Drop)]
+#[derive(Clone, Copy)]
 pub struct Opened<'a> {
     pub opening: Opening,
     pub walker: Walker<'a>,
 }
 
-#[derive(Drop)]
+#[derive(Clone, Copy)]
 pub struct Stepped<'a> {
     pub item: Item,
     pub next: Walker<'a>,

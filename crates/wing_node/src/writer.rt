@@ -22,7 +22,7 @@ use crate::utf8::good_len;
 
 // The fields that a definition of any type has, flat. Those that its type lacks are ignored, but for the count (and the
 // items), which are 16. Floats are their 32 bits.
-#[derive(Drop)]
+#[derive(Clone, Copy)]
 pub struct Fields {
     pub parent_id: i32,
     pub id: i32,
@@ -40,14 +40,14 @@ pub struct Fields {
 }
 
 // How many bytes the body took, or the refusal.
-#[derive(Drop)]
+#[derive(Clone, Copy)]
 pub enum BodyWritten {
     Bytes(usize),
     Refused(Refusal),
 }
 
 // What was passed: the place after it, and the first of its strings that is not UTF-8.
-#[derive(Drop)]
+#[derive(Clone, Copy)]
 struct Checked {
     at: usize,
     fault: Fault,

@@ -1,4 +1,6 @@
 // A decoder state as plain bytes of one size, to be kept, saved or sent: fields for the control, then the store.
+#![tactic(auto)]
+
 ghost use Rattle.std.specs.Prelude.{◌≡◌, ◌+◌, ◌%◌, ◌≤◌, length};
 ghost use Rattle.std.proofs.lemmas.List.Edits.{sets};
 ghost use Rattle.wing_node.specs.Signed.{signed, unsigned};
@@ -28,7 +30,7 @@ pub const HEAD: usize = 27;
 pub const SIZE: usize = HEAD + State::BODY_LIMIT;
 
 // A token by numbers: 0 for what it has not.
-#[derive(Drop)]
+#[derive(Clone, Copy)]
 struct TokenFields {
     kind: u8,
     class: u8,
@@ -39,21 +41,21 @@ struct TokenFields {
 }
 
 // What load answers.
-#[derive(Drop)]
+#[derive(Clone, Copy)]
 pub enum LoadAnswer {
     Good,
     Refused(Refusal),
 }
 
 // The answer with the control; beside a refusal stands a fresh one.
-#[derive(Drop)]
+#[derive(Clone, Copy)]
 pub struct HeadRead {
     pub answer: LoadAnswer,
     pub control: Control,
 }
 
 // The answer with the state; beside a refusal stands a fresh one.
-#[derive(Drop)]
+#[derive(Clone, Copy)]
 pub struct Loaded {
     pub answer: LoadAnswer,
     pub state: State,

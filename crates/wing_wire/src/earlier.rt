@@ -11,7 +11,7 @@ use crate::token::Class;
 use wing_node::refusal::Refusal;
 
 // The token in progress, as it was.
-#[derive(Drop)]
+#[derive(Clone, Copy)]
 pub enum Token {
     Between,
     Number { class: Class, left: u16, value: u32 },
@@ -20,27 +20,27 @@ pub enum Token {
 }
 
 // The state without its store, as it was.
-#[derive(Drop)]
+#[derive(Clone, Copy)]
 pub struct Control {
     pub escape: Escape,
     pub node: i32,
     pub token: Token,
 }
 
-#[derive(Drop)]
+#[derive(Clone, Copy)]
 pub struct State {
     pub control: Control,
     pub store: [u8; state::State::BODY_LIMIT],
 }
 
-#[derive(Drop)]
+#[derive(Clone, Copy)]
 pub enum CarryAnswer {
     Good,
     Refused(Refusal),
 }
 
 // The answer with the state; beside a refusal stands a fresh one.
-#[derive(Drop)]
+#[derive(Clone, Copy)]
 pub struct Carried {
     pub answer: CarryAnswer,
     pub state: state::State,

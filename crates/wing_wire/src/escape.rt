@@ -6,7 +6,7 @@ ghost use Rattle.wing_wire.specs.Escape.{decoded, ended, other_of, escaped_of, p
 use crate::state::{Escape, Pending};
 
 // What a byte gives: no unit, a unit that a body does not keep, one that is appended to it.
-#[derive(Drop)]
+#[derive(Clone, Copy)]
 pub enum Unit {
     Nothing,
     Bare(u8),
@@ -14,14 +14,14 @@ pub enum Unit {
 }
 
 // The escapes after one byte, and what it gives.
-#[derive(Drop)]
+#[derive(Clone, Copy)]
 pub struct Decoded {
     pub escape: Escape,
     pub unit: Unit,
 }
 
 // The escapes, the next unit, if there is one, and the place of the byte after it.
-#[derive(Drop)]
+#[derive(Clone, Copy)]
 pub struct NextUnit {
     pub escape: Escape,
     pub unit: Unit,

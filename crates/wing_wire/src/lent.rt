@@ -10,7 +10,7 @@ use crate::state::State;
 use crate::unit::Answer;
 
 // A reply without the state, which the caller has.
-#[derive(Drop)]
+#[derive(Clone, Copy)]
 pub struct LentReply {
     pub answer: Answer,
     pub taken: usize,
@@ -19,7 +19,7 @@ pub struct LentReply {
 }
 
 // The walk stores the one field back and returns the other.
-#[derive(Drop)]
+#[derive(Clone, Copy)]
 pub struct Parted {
     pub state: State,
     pub reply: LentReply,

@@ -1,5 +1,7 @@
 // The wire library. Reading: a console's bytes to units, units to tokens, tokens to events. Writing: set orders,
 // requests and meters.
+#![tactic(auto)]
+
 pub mod earlier;
 pub mod escape;
 mod laying;

@@ -10,7 +10,7 @@ use crate::write::Written;
 use wing_node::field::{to_i16, u16_at};
 use wing_node::refusal::{Refusal, number};
 
-#[derive(Drop)]
+#[derive(Clone, Copy)]
 pub enum Meter {
     Channel(u8),
     Aux(u8),
@@ -31,21 +31,21 @@ pub enum Meter {
 }
 
 // What stands for a meter in a request: the byte of its kind, alone or with an index.
-#[derive(Drop)]
+#[derive(Clone, Copy)]
 enum MeterItem {
     Alone(u8),
     Indexed(u8, u8),
 }
 
 // The bytes written and the new meter id, or the number of the refusal.
-#[derive(Drop)]
+#[derive(Clone, Copy)]
 pub enum Requested {
     Bytes { len: usize, id: u16 },
     Refused(u8),
 }
 
 // The packet's id and how many readings it holds, or the number of the refusal.
-#[derive(Drop)]
+#[derive(Clone, Copy)]
 pub enum MetersRead {
     Readings { id: u16, count: usize },
     Refused(u8),

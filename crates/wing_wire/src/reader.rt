@@ -12,7 +12,7 @@ use wing_node::refusal::Refusal;
 
 // The answer, the bytes taken, the state after it, and the string or body, zero-filled.
 // 01: a value belongs to the current node, which is state.control.node.
-#[derive(Drop)]
+#[derive(Clone, Copy)]
 pub struct Reply {
     pub answer: Answer,
     pub taken: usize,

@@ -13,7 +13,7 @@ use wing_node::field::{of_i16, of_i32};
 use wing_node::refusal::{Fault, Refusal, string_fault};
 
 // What follows an id.
-#[derive(Drop)]
+#[derive(Clone, Copy)]
 pub enum Suffix {
     None,
     Byte(u8),

@@ -8,14 +8,14 @@ use crate::token;
 use crate::token::Class;
 
 // A byte that waits to be the next unit.
-#[derive(Drop)]
+#[derive(Clone, Copy)]
 pub enum Pending {
     None,
     Byte(u8),
 }
 
 // What the escapes keep between bytes.
-#[derive(Drop)]
+#[derive(Clone, Copy)]
 pub struct Escape {
     pub escaped: bool,
     pub channel: i8,
@@ -24,7 +24,7 @@ pub struct Escape {
 
 // The token in progress, by the units that it still wants. A string's bytes, and those that a body's units
 // appended, stand at the front of the store. How many are stored of a body comes first: so a token has 12 bytes and not 16.
-#[derive(Drop)]
+#[derive(Clone, Copy)]
 pub enum Token {
     Between,
     Number { class: Class, left: u16, value: u32 },
@@ -33,14 +33,14 @@ pub enum Token {
 }
 
 // The state without its store.
-#[derive(Drop)]
+#[derive(Clone, Copy)]
 pub struct Control {
     pub escape: Escape,
     pub node: i32,
     pub token: Token,
 }
 
-#[derive(Drop)]
+#[derive(Clone, Copy)]
 pub struct State {
     pub control: Control,
     pub store: [u8; State::BODY_LIMIT],

@@ -10,14 +10,14 @@ use crate::token::Class;
 use crate::unit::{Answer, Taken, clear, put, shift_in, take_unit};
 
 // An answer, with the control after it.
-#[derive(Drop)]
+#[derive(Clone, Copy)]
 pub struct Answered {
     pub answer: Answer,
     pub control: Control,
 }
 
 // The same, with the number of bytes taken.
-#[derive(Drop)]
+#[derive(Clone, Copy)]
 pub struct Advanced {
     pub answer: Answer,
     pub control: Control,
@@ -63,14 +63,14 @@ pub fn is_more(a: Answer) -> bool
 }
 
 // The token after a run of plain bytes, and the place of the byte after them.
-#[derive(Drop)]
+#[derive(Clone, Copy)]
 pub struct TokenAt {
     pub token: Token,
     pub at: usize,
 }
 
 // An answer with the control after it, and the place of the byte after it.
-#[derive(Drop)]
+#[derive(Clone, Copy)]
 pub struct Stepped {
     pub answered: Answered,
     pub at: usize,

@@ -5,7 +5,7 @@ ghost use Rattle.wing_wire.specs.Token.{rule, class_of, rule_of, width_of};
 mod rows;
 
 // What a token is. LongCount is in no table row: it is the 32-bit count after a count of 0.
-#[derive(Drop)]
+#[derive(Clone, Copy)]
 pub enum Class {
     NoEvent,
     Integer,
@@ -20,7 +20,7 @@ pub enum Class {
     LongCount,
 }
 
-#[derive(Drop)]
+#[derive(Clone, Copy)]
 pub struct Rule {
     pub class: Class,
     pub wants: u16,

@@ -9,7 +9,7 @@ use wing_node::refusal::{Fault, Refusal, string_fault};
 
 // What reading gives: 01's events, a refusal, or that more bytes are wanted.
 // A string's or a body's bytes stand at the front of the store, or of the array beside the answer.
-#[derive(Drop)]
+#[derive(Clone, Copy)]
 pub enum Answer {
     More,
     Integer(i32),
@@ -21,7 +21,7 @@ pub enum Answer {
 }
 
 // What one unit makes of the token layer.
-#[derive(Drop)]
+#[derive(Clone, Copy)]
 pub struct Taken {
     pub answer: Answer,
     pub node: i32,

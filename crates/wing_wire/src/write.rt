@@ -2,7 +2,7 @@
 use wing_node::refusal::Refusal;
 
 // How many bytes a command took, or the refusal.
-#[derive(Drop)]
+#[derive(Clone, Copy)]
 pub enum Written {
     Bytes(usize),
     Refused(Refusal),

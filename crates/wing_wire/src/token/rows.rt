@@ -1,6 +1,6 @@
 // The columns of the token table, an entry for each first unit: its class by number, as token::class_of has it,
 // and the units that its token wants.
-#[derive(Drop)]
+#[derive(Clone, Copy)]
 pub struct Table {
     pub class: [u8; 256],
     pub wants: [u8; 256],
