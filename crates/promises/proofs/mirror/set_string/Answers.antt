@@ -1,0 +1,19 @@
+-- By the contract of the mirror's `set_string` the reply, the table and the output are those of `mirror_set`, of which `set-call` says what is
+-- promised.
+use mathlib.Core.Path.{sym, subst}
+use mir.Facts.{to_z-of_z}
+use borrow.Author.Rules.{rules}
+use Rattle.wing_node.specs.Value.{string}
+use Rattle.wing_mirror.specs.Table.{table}
+use Rattle.wing_mirror.specs.Mirror.{SetEffect}
+use Rattle.promises.specs.Mirror.{SetCall}
+use Rattle.promises.proofs.Calls.{set-call}
+use Rattle.promises.proofs.mirror.set_string.Goals as goal
+
+pub returns : goal.returns
+returns c =
+    let t = table c.args.table.now c.args.count in
+    let out = c.args.out.now in
+    subst (λ (x : SetEffect). SetCall c.args.id (string c.args.value.now) t out x.answer x.table x.out)
+    (sym (rw (to_z-of_z c.ranges.id) at c.set_string.ensures))
+    (set-call c.args.id (string c.args.value.now) t out c.ranges.id.sfits tt)

@@ -1,0 +1,14 @@
+-- Each arm is the line of `meters_numbers` with that answer.
+use mir.Syntax.{w32}
+use mir.Val.{to_z, of_z}
+use mathlib.Core.Path.{◌≡◌}
+use borrow.Author.Rules.{rules}
+use Rattle.wing_c.proofs.answers.meters.Goals as goal
+
+pub returns-in-Readings : goal.returns-in-Readings
+returns-in-Readings c = simp c.in-Readings.is
+
+pub returns-in-Refused : goal.returns-in-Refused
+returns-in-Refused c =
+    let back : to_z w32 (of_z w32 c.minus.result) ≡ c.minus.result = search rules in
+    rw back (simp (c.in-Refused.is, c.minus.ensures))

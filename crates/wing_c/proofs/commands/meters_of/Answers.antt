@@ -1,0 +1,21 @@
+-- The invariant: the first i entries are the meters of their numbers; a turn adds one (`meters-turn`).
+use Prim.Native.Nat.{ℕ, ◌≤◌, ◌<◌, ◌-◌}
+use mathlib.Core.Path.{◌≡◌, refl, ◌∙◌, ap}
+use native.Mathlib.Omega.{arith}
+use lib.ListN.{length, get_or, length-set}
+use borrow.Author.Rules.{rules}
+use Rattle.wing_wire.specs.declared.meter.Meter.TheVariants.{Rta}
+use Rattle.wing_c.specs.Meters.{meter_at}
+use Rattle.wing_c.proofs.Pairs.{meters-turn}
+use Rattle.wing_c.proofs.commands.meters_of.Goals as goal
+
+pub loop-i-init : goal.loop-i-init
+loop-i-init c = (omega arith, refl, λ k h. absurd (omega arith))
+
+pub loop-i-preserved : goal.loop-i-preserved
+loop-i-preserved c =
+    (omega arith, length-set c.loop-i.meters c.loop-i.i c.meter_at-m.result ∙ c.loop-i.invariant.1, meters-turn c.args.pairs.now c.loop-i.meters c.loop-i.i c.meter_at-m.result (omega arith) c.meter_at-m.ensures c.loop-i.invariant.2)
+
+pub returns : goal.returns
+returns c =
+    λ k h. c.loop-i.invariant.2 k (omega arith)

@@ -1,0 +1,15 @@
+use Prim.Native.Nat.{ℕ, ◌≤◌, ◌<◌, ◌-◌}
+use mathlib.Core.Path.{◌≡◌, refl, ◌∙◌, ap}
+use native.Mathlib.Omega.{arith}
+use lib.ListN.{length, get_or, length-set}
+use borrow.Author.Rules.{rules}
+use Rattle.wing_wire.specs.declared.meter.Meter.TheVariants.{Rta}
+use Rattle.wing_c.specs.Meters.{meter_at}
+use Rattle.wing_c.proofs.Pairs.{meters-turn}
+use Rattle.wing_c.proofs.commands.meters_of.Given as goal
+
+abbrev pub invariant-loop-i : goal.invariant-loop-i
+invariant-loop-i l = (l.i ≤ 64) × (length l.meters ≡ 64) × ((k : ℕ) → k < l.i → get_or l.meters k Rta ≡ meter_at l.pairs k)
+
+abbrev pub decreases-loop-i : goal.decreases-loop-i
+decreases-loop-i l = 64 - l.i

@@ -1,0 +1,9 @@
+-- The contract of the wire's call, with its answer by numbers (`command-as`).
+use mir.Facts.{to_z-of_z}
+use Rattle.wing_c.proofs.Effects.{command-as}
+use borrow.Author.Rules.{rules}
+use Rattle.wing_c.proofs.commands.wing_order_float.Goals as goal
+
+pub returns : goal.returns
+returns c =
+    command-as c.set_float.result c.written.ensures (rw (to_z-of_z c.ranges.id) at c.set_float.ensures)

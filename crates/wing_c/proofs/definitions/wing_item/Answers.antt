@@ -1,0 +1,6 @@
+-- The contract of the call for an item by its number, with the item by numbers.
+use borrow.Author.Rules.{rules}
+use Rattle.wing_c.proofs.definitions.wing_item.Goals as goal
+
+pub returns : goal.returns
+returns c = simp (← c.item_by_number.ensures, c.item.ensures)

@@ -1,0 +1,11 @@
+-- The contract of the step, from the type of that number, with item and walk by numbers.
+use Rattle.wing_c.specs.Definitions.{step_numbers}
+use Rattle.wing_node.specs.Items.{step_at}
+use mathlib.Core.Path.{◌∙◌, ap}
+use borrow.Author.Rules.{rules}
+use Rattle.wing_c.proofs.definitions.wing_item_step.Goals as goal
+
+pub returns : goal.returns
+returns c =
+    rw (c.walk.ensures, c.type_number.ensures, c.no_refusal.ensures, c.item.ensures)
+    (ap step_numbers (c.item_step-step.ensures ∙ ap (step_at c.args.body.now c.args.at c.args.left) c.type_of-kind.ensures))

@@ -1,0 +1,6 @@
+-- The figures by `told`, the window by `kept`.
+use borrow.Author.Rules.{rules}
+use Rattle.wing_c.proofs.windows.taken.Goals as goal
+
+pub returns : goal.returns
+returns c = simp (c.told.ensures, c.kept.ensures)

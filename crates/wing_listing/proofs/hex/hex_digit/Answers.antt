@@ -1,0 +1,13 @@
+-- Each return is a side of `hex_digit`.
+use borrow.Author.Rules.{rules}
+use borrow.Author.Tests.{lt-ltb, le-ltb}
+use Rattle.wing_listing.specs.Hex.{hex_digit}
+use Rattle.wing_listing.proofs.hex.hex_digit.Goals as goal
+
+pub returns-then-d-lt10 : goal.returns-then-d-lt10
+unfolding hex_digit
+returns-then-d-lt10 c = simp (lt-ltb _ _ c.if-d-lt10.true)
+
+pub returns-else-d-lt10 : goal.returns-else-d-lt10
+unfolding hex_digit
+returns-else-d-lt10 c = simp (le-ltb _ _ c.if-d-lt10.false)

@@ -1,0 +1,19 @@
+-- Each return is a law of what digits spell: few enough (`natural-good`), too many or no digits (`natural-large`), a leading zero (`natural-led`).
+use mathlib.Core.Path.{sym, ◌∙◌}
+use mathlib.Core.Logic.{⊎_elim}
+use native.Mathlib.Omega.{arith}
+use borrow.Author.Rules.{rules}
+use Rattle.wing_listing.proofs.Printing.Values.{signed-passed}
+use Rattle.wing_listing.proofs.Texts.Numbers.{natural-good, natural-led, natural-large}
+use Rattle.wing_listing.proofs.integer.natural_in.Goals as goal
+
+pub returns-then-n-lt2147483648 : goal.returns-then-n-lt2147483648
+returns-then-n-lt2147483648 c =
+    let s = c.args.s.now in
+    let l = sym c.is_led.ensures ∙ c.if-is_led.true in
+    rw (signed-passed c.to_i32.result c.number_in-n.result c.to_i32.ensures, c.to_i32.ensures, c.number_in-n.ensures) (natural-good s l (omega (arith, c.number_in-n.ensures, c.if-n-lt2147483648.true)))
+
+pub returns : goal.returns
+returns c =
+    let s = c.args.s.now in
+    c.not_read.ensures ∙ ⊎_elim (λ w. natural-large s (omega (arith, w.1.ensures, w.2.left))) (λ w. natural-led s (sym c.is_led.ensures ∙ w.left)) c.if-is_led.branch

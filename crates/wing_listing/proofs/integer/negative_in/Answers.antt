@@ -1,0 +1,29 @@
+-- Each return is a law of what digits after a minus sign spell.
+use Prim.Native.Nat.{◌-◌}
+use mathlib.Core.Path.{◌∙◌}
+use mathlib.Core.Logic.{⊎_elim}
+use native.Mathlib.Omega.{arith}
+use borrow.Author.Rules.{rules}
+use Rattle.wing_listing.proofs.Printing.Values.{signed-passed}
+use Rattle.wing_listing.proofs.Texts.Numbers.{negative-good, negative-none, negative-zero, negative-large}
+use Rattle.wing_listing.proofs.integer.negative_in.Goals as goal
+
+pub overflow_cast-n : goal.overflow_cast-n
+overflow_cast-n c =
+    let s = c.args.s.now in
+    let g = negative-good s c.if-s-gt0.true c.if-s-ne48.true (omega (arith, c.number_in-n.ensures, c.if-n-le2147483648.true)) in
+    omega (arith, c.number_in-n.ensures, g.0)
+
+pub returns-then-n-le2147483648 : goal.returns-then-n-le2147483648
+returns-then-n-le2147483648 c =
+    let s = c.args.s.now in
+    let g = negative-good s c.if-s-gt0.true c.if-s-ne48.true (omega (arith, c.number_in-n.ensures, c.if-n-le2147483648.true)) in
+    rw (signed-passed c.to_i32.result (0x100000000 - c.number_in-n.result) c.to_i32.ensures, c.to_i32.ensures, c.number_in-n.ensures) g.1
+
+pub returns : goal.returns
+returns c =
+    let s = c.args.s.now in
+    c.not_read.ensures ∙ ⊎_elim
+    (λ w. negative-large s (omega (arith, w.3.ensures, w.4.left)))
+    (⊎_elim (λ w. negative-zero s w.2.left) (λ w. negative-none s (omega (arith, w.left))))
+    c.if-s-gt0.branch

@@ -1,0 +1,27 @@
+-- Each return is a side of `is_value`.
+use mathlib.Core.Path.{ap, ◌∙◌}
+use borrow.Author.Rules.{rules}
+use borrow.Author.Tests.{eq-eqb, ne_eqb}
+use Rattle.wing_listing.specs.Reading.{is_value}
+use Rattle.wing_listing.proofs.Texts.Values.{read-formed}
+use Rattle.wing_listing.proofs.line.is_value.Goals as goal
+
+pub returns-then-kind-eq105 : goal.returns-then-kind-eq105
+unfolding is_value
+returns-then-kind-eq105 c = simp (eq-eqb _ _ c.if-kind-eq105.true) (ap (λ r. r.formed) c.integer_in-x.ensures ∙ read-formed c.args.s.now)
+
+pub returns-then-s-eq8 : goal.returns-then-s-eq8
+unfolding is_value
+returns-then-s-eq8 c = simp (ne_eqb _ _ c.if-kind-eq105.false, eq-eqb _ _ c.if-kind-eq102.true, eq-eqb _ _ c.if-s-eq8.true) c.are_pairs.ensures
+
+pub returns-then-kind-eq102 : goal.returns-then-kind-eq102
+unfolding is_value
+returns-then-kind-eq102 c = simp (ne_eqb _ _ c.if-kind-eq105.false, eq-eqb _ _ c.if-kind-eq102.true, ne_eqb _ _ c.if-s-eq8.false)
+
+pub returns-then-kind-eq115 : goal.returns-then-kind-eq115
+unfolding is_value
+returns-then-kind-eq115 c = simp (ne_eqb _ _ c.if-kind-eq105.false, ne_eqb _ _ c.if-kind-eq102.false, eq-eqb _ _ c.if-kind-eq115.true) c.are_pairs-then-kind-eq115.ensures
+
+pub returns : goal.returns
+unfolding is_value
+returns c = simp (ne_eqb _ _ c.if-kind-eq105.false, ne_eqb _ _ c.if-kind-eq102.false, ne_eqb _ _ c.if-kind-eq115.false)

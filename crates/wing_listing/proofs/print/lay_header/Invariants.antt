@@ -1,0 +1,17 @@
+use Prim.Native.Nat.{◌-◌, ◌≤◌}
+use mathlib.Core.Path.{◌≡◌, refl, sym, ap, ◌∙◌}
+use native.Mathlib.Omega.{arith}
+use borrow.Author.Rules.{rules}
+use lib.ListN.{length, drop, length-set, drop_of_length-le}
+use lib.Seq.{sets}
+use Rattle.wing_listing.specs.Parts.{ended}
+use Rattle.wing_listing.specs.Listing.{header}
+use Rattle.wing_listing.proofs.Printing.Lines.{lay-next}
+use Rattle.wing_listing.proofs.print.lay_header.Given as goal
+
+abbrev pub invariant-loop-i : goal.invariant-loop-i
+invariant-loop-i l =
+    (l.i ≤ 14) × (length l.out ≡ length l.text) × (sets l.out l.i (drop l.i (ended header)) ≡ sets l.text 0 (ended header))
+
+abbrev pub decreases-loop-i : goal.decreases-loop-i
+decreases-loop-i l = 14 - l.i

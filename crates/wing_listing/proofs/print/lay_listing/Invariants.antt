@@ -1,0 +1,19 @@
+use Prim.Native.Nat.{◌+◌, ◌-◌, ◌≤◌}
+use mathlib.Core.Path.{◌≡◌, refl, sym, ap, ◌∙◌}
+use native.Mathlib.Omega.{arith}
+use borrow.Author.Rules.{rules}
+use lib.ListN.{length}
+use lib.Seq.{sets}
+use Rattle.wing_wire.proofs.Laws.{writer-laws}
+use Rattle.wing_mirror.specs.Table.{table as table_of}
+use Rattle.wing_mirror.proofs.Calls.Sends.{row-formed}
+use Rattle.wing_listing.specs.Listing.{printed}
+use Rattle.wing_listing.proofs.Printing.Lines.{left, left-all, left-next, left_less, left-none, row_in, printed-size, listed}
+use Rattle.wing_listing.proofs.print.lay_listing.Given as goal
+
+abbrev pub invariant-loop-number : goal.invariant-loop-number
+invariant-loop-number l =
+    (length l.out ≡ length l.table) × (l.at + length (left l.initial.out l.number l.count) ≡ length (printed (table_of l.count l.initial.out))) × (length (printed (table_of l.count l.initial.out)) ≤ length l.out) × (sets l.out l.at (left l.initial.out l.number l.count) ≡ sets l.table 14 (left l.initial.out 0 l.count))
+
+abbrev pub decreases-loop-number : goal.decreases-loop-number
+decreases-loop-number l = l.initial.out - l.number

@@ -1,0 +1,25 @@
+use Prim.Native.Nat.{◌+◌, ◌-◌, ◌≤◌}
+use mathlib.Core.Path.{◌≡◌, sym, ap, ◌∙◌}
+use native.Mathlib.Omega.{arith}
+use borrow.Author.Rules.{rules}
+use mir.Syntax.{w32}
+use mir.Val.{to_z, of_z}
+use lib.Dec.{ltb}
+use lib.ListN.{length, drop}
+use Rattle.wing_node.specs.Refusal.{no_fault}
+use Rattle.wing_mirror.specs.Rows.{nothing}
+use Rattle.wing_listing.specs.Parts.{newline, parted}
+use Rattle.wing_listing.specs.Reading.{lines_from}
+use Rattle.wing_listing.specs.Steps.{id_before, scanned_as}
+use Rattle.wing_listing.proofs.Texts.Drops.{drop-none}
+use Rattle.wing_listing.proofs.Texts.Turns.{not_equal, line, line-within, the-line, turn-unended, turn-bad, turn-again, judged-why, judged-id}
+use Rattle.wing_listing.proofs.Texts.Scans.{lines_end, counted, counted-all}
+use Rattle.wing_listing.proofs.scan.scan_lines.Given as goal
+
+abbrev pub invariant-loop-at : goal.invariant-loop-at
+invariant-loop-at l =
+    (l.at ≤ length l.text) × (2 ≤ l.number) × (l.number ≤ l.at + 2) ×
+    (counted (l.number - 2) (lines_from l.number (id_before (ltb 2 l.number) (to_z w32 l.before)) (parted newline (drop l.at l.text))) ≡ scanned_as (lines_from 2 nothing (parted newline l.text)))
+
+abbrev pub decreases-loop-at : goal.decreases-loop-at
+decreases-loop-at l = length l.text - l.at

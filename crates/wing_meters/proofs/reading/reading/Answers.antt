@@ -1,0 +1,39 @@
+-- The window after the step is the one with the reading in it, and what is kept up of it gives its figures (`kept-told`).
+use mathlib.Core.Bool.{true}
+use mathlib.Core.Path.{◌≡◌, sym, ap, ◌∙◌}
+use lib.ListN.{length}
+use mir.Syntax.{w16}
+use mir.Val.{to_z, of_z}
+use Rattle.wing_meters.specs.Afresh.{figures_of}
+use Rattle.wing_meters.specs.Window.{window, taking, kept_in, sound_window}
+use Rattle.wing_meters.specs.Kept.{told_kept}
+use Rattle.wing_meters.specs.Calls.{taken}
+use Rattle.wing_meters.specs.declared.figures.Told.{Told}
+use Rattle.wing_meters.specs.declared.window.Window.{Window}
+use Rattle.wing_meters.proofs.Soundness.{sound}
+use Rattle.wing_meters.proofs.Windows.{kept-told, sound-taking}
+use Rattle.wing_meters.proofs.Follows.{size-taking, reading-sound, reading-unsound}
+use borrow.Author.Rules.{rules}
+use Rattle.wing_meters.proofs.reading.reading.Goals as goal
+
+pub step-after-requires : goal.step-after-requires
+step-after-requires c = (search rules, sym c.is_sound_lent.ensures.0 ∙ c.if-is_sound_lent.true)
+
+pub returns-then-is_sound_lent : goal.returns-then-is_sound_lent
+returns-then-is_sound_lent c =
+    let a = c.args in
+    let w = a.w in
+    let size : length w.levels ≡ 256 = search rules in
+    let e : sound_window w ≡ true = sym c.is_sound_lent.ensures.0 ∙ c.if-is_sound_lent.true in
+    let k : to_z w16 (of_z w16 a.x) ≡ a.x = search rules in
+    let after : window c.step-after.result c.step-after.new.1.0 ≡ taking w a.x = c.step-after.ensures.0 ∙ ap (taking w) k in
+    let told : told_kept (taking w a.x).control ≡ figures_of (kept_in (taking w a.x)) =
+    sym (kept-told (taking w a.x) (sound-taking w (sound w e) size a.x) (size-taking w a.x size)) in
+    ap (λ (t : Told). taken t (window c.step-after.result c.step-after.new.1.0)) c.tell-told.ensures ∙
+    (ap (λ (v : Window). taken (told_kept v.control) v) after ∙
+    (ap (λ (t : Told). taken t (taking w a.x)) told ∙ sym (reading-sound w a.x e)))
+
+pub returns : goal.returns
+returns c =
+    let a = c.args in
+    sym (reading-unsound a.w a.x (sym c.is_sound_lent.ensures.0 ∙ c.if-is_sound_lent.false))

@@ -1,0 +1,62 @@
+-- The sum and the largest are kept up (`sum-taking`, `top-taking`), so that they are those of the levels after it.
+use Prim.Native.Nat.{ℕ, ◌<◌}
+use mathlib.Core.Path.{◌≡◌, refl, sym, ap, ◌∙◌}
+use native.Mathlib.Omega.{arith}
+use lib.ListN.{set, length-set}
+use mir.Syntax.{w16}
+use mir.Val.{to_z, of_z}
+use Rattle.wing_meters.specs.Level.{level_of, greatest}
+use Rattle.wing_meters.specs.Window.{window, control, grown, onward, taking}
+use Rattle.wing_meters.proofs.Soundness.{sound, next-below}
+use Rattle.wing_meters.proofs.Windows.{next-in, sum-taking, leaving-le, top-taking, in-range, sound-taking}
+use Rattle.wing_meters.proofs.Sums.{set-le}
+use borrow.Author.Rules.{rules}
+use Rattle.wing_meters.proofs.reading.step.Goals as goal
+
+pub bounds-levels-at : goal.bounds-levels-at
+bounds-levels-at c =
+    let a = c.args in
+    let w = window a.c a.levels.now in
+    let s = sound w c.requires.1 in
+    next-in w s c.requires.0
+
+pub bounds-levels-at-2 : goal.bounds-levels-at-2
+bounds-levels-at-2 c = slice-read-left c
+
+pub onward-requires : goal.onward-requires
+onward-requires c =
+    let a = c.args in
+    let w = window a.c a.levels.now in
+    let s = sound w c.requires.1 in
+    next-below a.c s.placed
+
+pub top_after-requires : goal.top_after-requires
+top_after-requires c =
+    let a = c.args in
+    let w = window a.c a.levels.now in
+    let s = sound w c.requires.1 in
+    top-taking w s c.requires.0 c.level_of-came.result
+
+pub sum_after-requires : goal.sum_after-requires
+sum_after-requires c =
+    let a = c.args in
+    let w = window a.c a.levels.now in
+    let s = sound w c.requires.1 in
+    let r = in-range w s c.requires.0 (λ k h. omega (arith, c.type_inv.levels k)) in
+    (leaving-le w s c.requires.0, omega arith)
+
+pub returns : goal.returns
+unfolding taking
+returns c =
+    let a = c.args in
+    let w = window a.c a.levels.now in
+    let s = sound w c.requires.1 in
+    let size = c.requires.0 in
+    let k : to_z w16 (of_z w16 a.x) ≡ a.x = search rules in
+    let v : c.level_of-came.result ≡ level_of a.x = c.level_of-came.ensures ∙ ap level_of k in
+    let low : c.level_of-came.result < 65536 = search rules in
+    let most = set-le a.levels.now a.c.next (level_of a.x) 65535 (λ k h. omega (arith, c.type_inv.levels k)) (omega arith) in
+    let range = in-range (taking w a.x) (sound-taking w s size a.x) (length-set a.levels.now a.c.next (level_of a.x) ∙ size) most in
+    rw
+    (c.grown.ensures, c.onward.ensures, c.top_after.ensures, c.sum_after.ensures, v, sym (sum-taking w s size (level_of a.x)))
+    (refl, range)

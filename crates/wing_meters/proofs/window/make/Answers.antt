@@ -1,0 +1,17 @@
+-- The three branches of `made_of`.
+use borrow.Author.Tests.{lt-leb, lt-ltb, le-leb, le-ltb}
+use Rattle.wing_meters.specs.Calls.{made_of}
+use borrow.Author.Rules.{rules}
+use Rattle.wing_meters.proofs.window.make.Goals as goal
+
+pub returns-then-width-lt1 : goal.returns-then-width-lt1
+unfolding made_of
+returns-then-width-lt1 c = simp (lt-ltb _ _ c.if-width-lt1.true, c.no_window.ensures)
+
+pub returns-then-width-gt256 : goal.returns-then-width-gt256
+unfolding made_of
+returns-then-width-gt256 c = simp (le-ltb _ _ c.if-width-lt1.false, lt-ltb _ _ c.if-width-gt256.true, c.no_window-then-width-gt256.ensures)
+
+pub returns : goal.returns
+unfolding made_of
+returns c = simp (le-ltb _ _ c.if-width-lt1.false, le-ltb _ _ c.if-width-gt256.false, c.fresh.ensures)

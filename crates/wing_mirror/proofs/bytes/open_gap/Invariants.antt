@@ -1,0 +1,12 @@
+use Rattle.wing_mirror.proofs.Tables.Moves.{moved, no_move, again}
+use lib.ListN.{length, length-set}
+use native.Mathlib.Omega.{arith}
+use mathlib.Core.Path.{◌≡◌, ◌∙◌}
+use Prim.Native.Nat.{◌≤◌, ◌-◌}
+use Rattle.wing_mirror.proofs.bytes.open_gap.Given as goal
+
+abbrev pub invariant-loop-i : goal.invariant-loop-i
+invariant-loop-i l = (l.end ≤ l.i) × (l.i ≤ l.w) × (length l.buf ≡ length l.from) × (l.buf ≡ moved l.from l.i l.w l.initial.buf)
+
+abbrev pub decreases-loop-i : goal.decreases-loop-i
+decreases-loop-i l = l.i - l.end

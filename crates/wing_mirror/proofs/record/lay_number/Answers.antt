@@ -1,0 +1,21 @@
+-- The stores of the kind, of the length by `put_u16` and of the bits by `put_u32`, each laid at its place (`field-sets`), are those of `laid_from` in
+-- order.
+use Rattle.wing_node.specs.Digits.{digits_in}
+use Prim.Native.Nat.{ℕ}
+use mathlib.Core.Path.{◌≡◌, ◌∙◌, ap}
+use mathlib.Core.List.{List}
+use native.Mathlib.Omega.{arith}
+use lib.ListN.{set, length-set}
+use lib.Seq.{sets}
+use Rattle.wing_node.specs.Field.{bytes_of}
+use Rattle.wing_node.proofs.Numerals.Placed.{field-sets}
+use borrow.Author.Rules.{rules}
+use Rattle.wing_mirror.proofs.record.lay_number.Goals as goal
+
+pub returns : goal.returns
+unfolding digits_in
+returns c =
+    let o = c.args.out.now in
+    let k = c.args.kind in
+    let e : c.put_u16.new.0 ≡ sets (set o 4 k) 6 (bytes_of 2 4) = field-sets 2 4 6 (set o 4 k) _ _ (omega arith) (omega (arith, length-set o 4 k)) c.put_u16.ensures in
+    field-sets 4 c.args.bits 8 c.put_u16.new.0 _ _ (omega arith) (omega (arith, c.put_u16.auto.0, length-set o 4 k)) c.put_u32.ensures ∙ ap (λ (l : List ℕ). sets l 8 (bytes_of 4 c.args.bits)) e

@@ -1,0 +1,54 @@
+-- The contract of `lay_head` leaves id and origin over zeros, and each arm lays kind, length and payload of its variant over that, which is the record
+-- (`record-laid`).
+use Prim.Native.Nat.{ℕ}
+use mathlib.Core.Path.{◌≡◌, ◌∙◌, ap}
+use native.Mathlib.Omega.{arith}
+use mir.Facts.{to_z-of_z}
+use mir.Syntax.{w32}
+use mir.Val.{to_z, of_z}
+use lib.ListN.{length, take, length-replicate}
+use Rattle.wing_node.specs.Field.{bytes_of}
+use Rattle.wing_node.specs.Signed.{unsigned}
+use Rattle.wing_node.specs.Value.{NodeValue, integer, float, string, node_value}
+use Rattle.wing_mirror.specs.Entry.{entry}
+use Rattle.wing_mirror.specs.Record.{kind_of, payload_of, record_of, laid_from}
+use Rattle.wing_mirror.proofs.Tables.Laying.{record-laid, short}
+use borrow.Author.Rules.{rules}
+use Rattle.wing_mirror.proofs.record.lay_record.Goals as goal
+
+pub lay_number-requires : goal.lay_number-requires
+lay_number-requires c =
+    omega (arith, c.lay_head.auto.0, ap length c.requires.0, length-replicate {A = ℕ} 264 0)
+
+pub lay_number-requires-in-Float : goal.lay_number-requires-in-Float
+lay_number-requires-in-Float c =
+    omega (arith, c.lay_head.auto.0, ap length c.requires.0, length-replicate {A = ℕ} 264 0)
+
+pub lay_string-requires : goal.lay_string-requires
+unfolding node_value
+lay_string-requires c =
+    let v = c.value-in-String-1.given in
+    (omega (arith, c.lay_head.auto.0, ap length c.requires.0, length-replicate {A = ℕ} 264 0), short (take v.0.0 c.args.string.now) (rw v.1 at c.requires.1))
+
+pub returns-in-Integer : goal.returns-in-Integer
+unfolding kind_of payload_of node_value
+returns-in-Integer c =
+    let a = c.args in
+    let v = c.value-1.given in
+    let x = v.0.0 in
+    let back : to_z w32 (of_z w32 x) ≡ x = search rules in
+    rw v.1 (record-laid a.id (integer x) a.origin a.out.now c.lay_head.new.0 _ c.requires.0 (rw (to_z-of_z c.ranges.id) at c.lay_head.ensures) (c.lay_number.ensures ∙ ap (λ (u : ℕ). laid_from c.lay_head.new.0 0 (bytes_of 4 u)) (c.of_i32.ensures ∙ ap (unsigned 31) back)))
+
+pub returns-in-Float : goal.returns-in-Float
+unfolding kind_of payload_of node_value
+returns-in-Float c =
+    let a = c.args in
+    let v = c.value-in-Float-1.given in
+    rw v.1 (record-laid a.id (float v.0.0) a.origin a.out.now c.lay_head.new.0 _ c.requires.0 (rw (to_z-of_z c.ranges.id) at c.lay_head.ensures) c.lay_number-in-Float.ensures)
+
+pub returns-in-String : goal.returns-in-String
+unfolding kind_of payload_of node_value
+returns-in-String c =
+    let a = c.args in
+    let v = c.value-in-String-1.given in
+    rw v.1 (record-laid a.id (string (take v.0.0 a.string.now)) a.origin a.out.now c.lay_head.new.0 _ c.requires.0 (rw (to_z-of_z c.ranges.id) at c.lay_head.ensures) c.lay_string.ensures)

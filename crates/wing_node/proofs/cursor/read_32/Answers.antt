@@ -1,0 +1,28 @@
+-- Each return is a case of `read_at` (`read-refused`, `read_short`, `read-there`), and the number is what `u32_at` says of a whole field.
+use mathlib.Core.Path.{sym, refl, ap, ◌∙◌}
+use Prim.Native.Nat.{◌-◌, ◌≤◌}
+use native.Mathlib.Omega.{arith}
+use lib.ListN.{length}
+use Rattle.wing_node.specs.Cursor.{stopped, nothing, number, size, right, value_of, content_at}
+use Rattle.wing_node.proofs.Numerals.Placed.{field-whole}
+use Rattle.wing_node.proofs.Bodies.Cases.{read-refused, read_short, read-there}
+use borrow.Author.Rules.{rules}
+use Rattle.wing_node.proofs.cursor.read_32.Goals as goal
+
+pub returns-then-is_refused : goal.returns-then-is_refused
+returns-then-is_refused c = c.refuse.ensures ∙ sym (read-refused (number 4) _ _ (sym c.is_refused.ensures ∙ c.if-is_refused.true))
+
+pub returns-then-left-lt4 : goal.returns-then-left-lt4
+unfolding size
+returns-then-left-lt4 c =
+    let k = c.args.c in
+    let whole = sym c.is_refused.ensures ∙ c.if-is_refused.false in
+    c.refuse-then-left-lt4.ensures ∙ ap (λ x. nothing (stopped k x)) c.by_number.ensures ∙ sym (read_short (number 4) _ k whole (omega arith))
+
+pub returns : goal.returns
+unfolding size right value_of content_at
+returns c =
+    let k = c.args.c in
+    let body = c.args.body.now in
+    let here : 4 ≤ length body - k.at = omega arith in
+    simp (read-there (number 4) body k (sym c.is_refused.ensures ∙ c.if-is_refused.false) here refl, c.u32_at.ensures, field-whole 4 body k.at here)

@@ -1,0 +1,22 @@
+-- Each arm is `item_at` at the types that it takes, by the contract of the function that it calls.
+use mathlib.Core.Path.{◌≡◌, refl}
+use mathlib.Core.List.{[], ◌∷◌}
+use Rattle.wing_node.specs.Cursor.{reads, after}
+use Rattle.wing_node.specs.Definition.{item_at}
+use Rattle.wing_node.specs.declared.definition.Item.TheVariants.{None}
+use Rattle.wing_node.proofs.Arms.{by_arm}
+use borrow.Author.Rules.{rules}
+use Rattle.wing_node.proofs.definition.read_item.Goals as goal
+
+pub returns-in-StringEnum : goal.returns-in-StringEnum
+returns-in-StringEnum c = simp (c.in-StringEnum.is, c.string_item.ensures)
+
+pub returns-in-FloatEnum : goal.returns-in-FloatEnum
+returns-in-FloatEnum c = simp (c.in-FloatEnum.is, c.float_item.ensures)
+
+pub returns-in_default : goal.returns-in_default
+unfolding item_at reads after
+returns-in_default c =
+    let start = c.args in
+    by_arm (λ t. record { item = None; next = start.c } ≡ item_at t start.body.now start.c) (0 ∷ 1 ∷ 2 ∷ 3 ∷ 4 ∷ 7 ∷ []) start.kind c.in_default.keys3
+    (refl, (refl, (refl, (refl, (refl, (refl, tt))))))

@@ -1,0 +1,21 @@
+use mathlib.Core.Path.{◌≡◌, refl, ◌∙◌, ap, sym}
+use Prim.Native.Nat.{◌+◌, ◌-◌}
+use native.Mathlib.Omega.{arith}
+use lib.ListN.{length, drop}
+use borrow.Author.Tests.{eq-eqb, ne_eqb}
+use Rattle.wing_node.specs.Refusal.{first_fault}
+use Rattle.wing_node.specs.Standing.{extent}
+use Rattle.wing_node.specs.Definition.{items_of}
+use Rattle.wing_node.specs.Writer.{texts_fault}
+use Rattle.wing_node.proofs.Bodies.Checks.{items-extent, items-texts, no-extent, no-texts}
+use Rattle.wing_node.proofs.Bodies.Faults.{first-assoc, first-none}
+use borrow.Author.Rules.{rules}
+use Rattle.wing_node.proofs.writer.items_fault.Given as goal
+
+abbrev pub invariant-loop-left : goal.invariant-loop-left
+invariant-loop-left l =
+    (l.passed.at + extent (items_of l.kind l.left) (drop l.passed.at l.items) ≡ extent (items_of l.kind l.count) l.items) ×
+    (first_fault l.passed.fault (texts_fault (items_of l.kind l.left) (drop l.passed.at l.items)) ≡ first_fault l.initial.passed.fault (texts_fault (items_of l.kind l.count) l.items))
+
+abbrev pub decreases-loop-left : goal.decreases-loop-left
+decreases-loop-left l = l.left

@@ -1,0 +1,15 @@
+-- `copy` lays the bytes over the part of the output that it is lent, which is that place of the whole (`part-sets`).
+use mathlib.Core.Path.{◌≡◌, refl, ◌∙◌, ap}
+use Prim.Native.Nat.{◌+◌, ◌-◌}
+use native.Mathlib.Omega.{arith}
+use lib.ListN.{length}
+use borrow.Rule.Slice.PartMut.{put_mid}
+use Rattle.wing_node.proofs.Bodies.Lays.{part-sets}
+use borrow.Author.Rules.{rules}
+use Rattle.wing_node.proofs.writer.lay.Goals as goal
+
+pub returns : goal.returns
+returns c =
+    let args = c.args in
+    let n : args.at + length args.src.now - args.at ≡ length args.src.now = omega arith in
+    (refl, ap (put_mid args.at (args.at + length args.src.now - args.at) args.out.now) c.copy.ensures ∙ part-sets args.out.now args.src.now args.at _ n (omega arith))

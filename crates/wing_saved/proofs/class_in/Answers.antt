@@ -1,0 +1,67 @@
+-- Each arm is the entry of the list with that number, and a number that is none of 0 to 10 is past its end (`over-seven`, `over-nine`).
+use mathlib.Core.Path.{◌≡◌, sym}
+use mathlib.Core.List.{[], ◌∷◌, ◌++◌}
+use Prim.Native.Nat.{◌≤◌}
+use native.Mathlib.Omega.{arith}
+use lib.ListN.{get_or-eq_default}
+use Rattle.wing_node.proofs.Eight.{over-seven}
+use Rattle.wing_wire.specs.Token.{classes}
+use Rattle.wing_saved.specs.Saved.{class_in}
+use Rattle.wing_wire.specs.declared.token.Class.TheVariants.{LongCount}
+use Rattle.wing_wire.proofs.Reading.Nine.{over-nine}
+use Rattle.wing_saved.proofs.class_in.Goals as goal
+
+pub returns-in-0 : goal.returns-in-0
+unfolding class_in
+returns-in-0 c = simp c.in-0.is
+
+pub returns-in-1 : goal.returns-in-1
+unfolding class_in
+returns-in-1 c = simp c.in-1.is
+
+pub returns-in-2 : goal.returns-in-2
+unfolding class_in
+returns-in-2 c = simp c.in-2.is
+
+pub returns-in-3 : goal.returns-in-3
+unfolding class_in
+returns-in-3 c = simp c.in-3.is
+
+pub returns-in-4 : goal.returns-in-4
+unfolding class_in
+returns-in-4 c = simp c.in-4.is
+
+pub returns-in-5 : goal.returns-in-5
+unfolding class_in
+returns-in-5 c = simp c.in-5.is
+
+pub returns-in-6 : goal.returns-in-6
+unfolding class_in
+returns-in-6 c = simp c.in-6.is
+
+pub returns-in-7 : goal.returns-in-7
+unfolding class_in
+returns-in-7 c = simp c.in-7.is
+
+pub returns-in-8 : goal.returns-in-8
+unfolding class_in
+returns-in-8 c = simp c.in-8.is
+
+pub returns-in-9 : goal.returns-in-9
+unfolding class_in
+returns-in-9 c = simp c.in-9.is
+
+pub returns-in-10 : goal.returns-in-10
+unfolding class_in
+returns-in-10 c = simp c.in-10.is
+
+pub returns-in_default : goal.returns-in_default
+unfolding class_in
+returns-in_default c =
+    let r = c.in_default.rest in
+    let n = c.args.n in
+    let e = over-seven n r.0.0.0.0.0.0.0.0.0.0.1 r.0.0.0.0.0.0.0.0.0.1 r.0.0.0.0.0.0.0.0.1 r.0.0.0.0.0.0.0.1 r.0.0.0.0.0.0.1 r.0.0.0.0.0.1 r.0.0.0.0.1 r.0.0.0.1 in
+    let nine : 10 ≤ n = over-nine n e r.0.0.1 r.0.1 in
+    let ten : n ≡ 10 → ⊥ = r.1 in
+    let past : 11 ≤ n = omega arith in
+    sym (get_or-eq_default (classes ++ (LongCount ∷ [])) _ past)

@@ -1,0 +1,19 @@
+-- The bytes of a field each are stored at their places and those of four written by `put_i32` and `put_u32`, which are the fields in their order (law
+-- `fields-put`).
+use mathlib.Core.Path.{◌≡◌, ◌∙◌}
+use mir.Facts.{to_z-of_z}
+use mir.Val.{to_z, of_z}
+use mir.Syntax.{w8, w32}
+use Rattle.wing_saved.specs.Saved.{head_under}
+use Rattle.wing_saved.proofs.Saving.Heads.{fields-put}
+use borrow.Author.Rules.{rules}
+use Rattle.wing_saved.proofs.head_of.Goals as goal
+
+pub returns : goal.returns
+unfolding head_under
+returns c =
+    let a = c.args.c in
+    let k : to_z w8 (of_z w8 a.escape.channel) ≡ a.escape.channel = to_z-of_z (record { sfits = c.struct_told-1.given.1.0.1 }) in
+    let l : to_z w32 (of_z w32 a.node) ≡ a.node = to_z-of_z (record { sfits = c.struct_told-2-1.given.1.0.1 }) in
+    fields-put _ _ _ _ _ _ _ _ _ _ _ _ c.put_i32.ensures c.put_u32.ensures c.put_u32-2.ensures c.put_u32-3.ensures c.put_u32-4.ensures
+    ∙ rw (c.flag.ensures, c.of_i8.ensures, c.pending_flag.ensures, c.pending_byte.ensures, c.fields_of-k.ensures, k, l)

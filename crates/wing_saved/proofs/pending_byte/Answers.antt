@@ -1,0 +1,12 @@
+-- Each arm is the line of `pending_byte_of` with that variant.
+use borrow.Author.Rules.{rules}
+use Rattle.wing_saved.specs.Saved.{pending_byte_of}
+use Rattle.wing_saved.proofs.pending_byte.Goals as goal
+
+pub returns-in-None : goal.returns-in-None
+unfolding pending_byte_of
+returns-in-None c = simp c.in-None.is
+
+pub returns-in-Byte : goal.returns-in-Byte
+unfolding pending_byte_of
+returns-in-Byte c = simp c.in-Byte.is

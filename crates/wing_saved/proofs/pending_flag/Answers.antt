@@ -1,0 +1,12 @@
+-- Each arm is the line of `pending_flag` with that variant.
+use borrow.Author.Rules.{rules}
+use Rattle.wing_saved.specs.Saved.{pending_flag}
+use Rattle.wing_saved.proofs.pending_flag.Goals as goal
+
+pub returns-in-None : goal.returns-in-None
+unfolding pending_flag
+returns-in-None c = simp c.in-None.is
+
+pub returns-in-Byte : goal.returns-in-Byte
+unfolding pending_flag
+returns-in-Byte c = simp c.in-Byte.is

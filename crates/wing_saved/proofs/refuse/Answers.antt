@@ -1,0 +1,8 @@
+-- The contract of `State::fresh` gives the state beside the refusal.
+use borrow.Author.Rules.{rules}
+use Rattle.wing_saved.specs.Saved.{loaded_as}
+use Rattle.wing_saved.proofs.refuse.Goals as goal
+
+pub returns : goal.returns
+unfolding loaded_as
+returns c = rw c.fresh.ensures

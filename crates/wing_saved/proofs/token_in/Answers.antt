@@ -1,0 +1,23 @@
+-- Each arm is the branch of `token_in` with that kind; the contracts of `class_in` and `low_16` give the class of a number and the counts.
+use borrow.Author.Tests.{ne_eqb}
+use Rattle.wing_saved.specs.Saved.{token_in}
+use borrow.Author.Rules.{rules}
+use Rattle.wing_saved.proofs.token_in.Goals as goal
+
+pub returns-in-1 : goal.returns-in-1
+unfolding token_in
+returns-in-1 c = simp (c.in-1.is, c.class_in-class.ensures, c.low_16.ensures)
+
+pub returns-in-2 : goal.returns-in-2
+unfolding token_in
+returns-in-2 c = simp (c.in-2.is, c.low_16-in-2.ensures, c.low_16-in-2-2.ensures)
+
+pub returns-in-3 : goal.returns-in-3
+unfolding token_in
+returns-in-3 c = simp c.in-3.is
+
+pub returns-in_default : goal.returns-in_default
+unfolding token_in
+returns-in_default c =
+    let r = c.in_default.rest in
+    simp (ne_eqb _ _ r.0.0.1, ne_eqb _ _ r.0.1, ne_eqb _ _ r.1)

@@ -1,0 +1,32 @@
+-- The invariant: the first i bytes are laid escaped, in at most twice as many; a turn lays one more (`escaped-df`, `escaped-other`), and the law
+-- `then` joins it on.
+use lib.Seq.{take_all}
+use borrow.Author.Rules.{rules}
+use Prim.Native.Nat.{◌+◌, ◌-◌, ◌*◌, ◌≤◌, ◌<◌}
+use mathlib.Core.Path.{◌≡◌}
+use mathlib.Core.Logic.{⊎_elim}
+use native.Mathlib.Omega.{arith}
+use lib.ListN.{length, take}
+use Rattle.wing_wire.specs.Write.{escaped, Laid}
+use Rattle.wing_wire.proofs.Writing.Lays.{then, nothing, escaped-df, escaped-other}
+use Rattle.wing_wire.proofs.laying.lay_escaped.Goals as goal
+
+pub loop-i-init : goal.loop-i-init
+unfolding escaped
+loop-i-init c = (search rules, search rules, search rules, nothing _ _)
+
+pub loop-i-preserved : goal.loop-i-preserved
+loop-i-preserved c =
+    let s = c.args.bytes.now in
+    let i = c.loop-i.i in
+    let h : i < length s = omega arith in
+    ⊎_elim
+    (λ w. rw (w.5, w.6) (search rules, search rules, search rules, rw (escaped-df s i h w.0.taken) (then c.loop-i.invariant.3 (then c.lay-next.ensures w.2.ensures))))
+    (λ w. rw (w.1, w.2) (search rules, search rules, search rules, rw (escaped-other s i h w.0.left) (then c.loop-i.invariant.3 c.lay-next.ensures)))
+    c.if-bytes-i.branch
+
+pub returns : goal.returns
+returns c =
+    let s = c.args.bytes.now in
+    let e : take c.loop-i.i s ≡ s = take_all c.loop-i.i s (omega arith) in
+    (rw e at c.loop-i.invariant.3, omega arith)

@@ -1,0 +1,17 @@
+use lib.Seq.{take_all}
+use borrow.Author.Rules.{rules}
+use Prim.Native.Nat.{◌+◌, ◌-◌, ◌*◌, ◌≤◌, ◌<◌}
+use mathlib.Core.Path.{◌≡◌}
+use mathlib.Core.Logic.{⊎_elim}
+use native.Mathlib.Omega.{arith}
+use lib.ListN.{length, take}
+use Rattle.wing_wire.specs.Write.{escaped, Laid}
+use Rattle.wing_wire.proofs.Writing.Lays.{then, nothing, escaped-df, escaped-other}
+use Rattle.wing_wire.proofs.laying.lay_escaped.Given as goal
+
+abbrev pub invariant-loop-i : goal.invariant-loop-i
+invariant-loop-i l =
+    (l.i ≤ length l.initial.out) × (l.next ≤ l.bytes + 2 * l.i) × (length l.out ≡ length l.at) × Laid (escaped (take l.i l.initial.out)) l.bytes l.at l.out l.next
+
+abbrev pub decreases-loop-i : goal.decreases-loop-i
+decreases-loop-i l = length l.initial.out - l.i

@@ -1,0 +1,17 @@
+use borrow.Author.Rules.{rules}
+use Prim.Native.Nat.{◌+◌, ◌-◌}
+use mathlib.Core.Path.{◌≡◌, sym, ap, ◌∙◌}
+use native.Mathlib.Omega.{arith}
+use lib.ListN.{length, length-append}
+use lib.Seq.{sets, length-sets}
+use Rattle.wing_wire.specs.Meter.{keep_alive, keep_alives}
+use Rattle.wing_wire.proofs.Writing.Lays.{goes_on, in-part}
+use Rattle.wing_wire.proofs.Writing.Requests.{one-alive}
+use Rattle.wing_wire.proofs.meter.lay_keep_alives.Given as goal
+
+abbrev pub invariant-loop-id : goal.invariant-loop-id
+invariant-loop-id l =
+    (length l.out ≡ length l.last_id) × (l.at + length (keep_alives l.initial.out l.id) ≡ length (keep_alives l.initial.out l.port)) × (sets l.out l.at (keep_alives l.initial.out l.id) ≡ sets l.last_id 0 (keep_alives l.initial.out l.port))
+
+abbrev pub decreases-loop-id : goal.decreases-loop-id
+decreases-loop-id l = l.id

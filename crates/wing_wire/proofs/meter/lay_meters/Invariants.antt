@@ -1,0 +1,17 @@
+use borrow.Author.Rules.{rules}
+use Prim.Native.Nat.{◌+◌, ◌-◌, ◌*◌, ◌≤◌}
+use mathlib.Core.Path.{◌≡◌}
+use native.Mathlib.Omega.{arith}
+use lib.ListN.{length, take}
+use Rattle.wing_wire.specs.Write.{Laid}
+use Rattle.wing_wire.specs.Meter.{meters_bytes}
+use Rattle.wing_wire.proofs.Writing.Lays.{then, nothing}
+use Rattle.wing_wire.proofs.Writing.Requests.{meters-more}
+use Rattle.wing_wire.proofs.meter.lay_meters.Given as goal
+
+abbrev pub invariant-loop-i : goal.invariant-loop-i
+invariant-loop-i l =
+    (l.i ≤ l.meters) × (l.next ≤ l.count + 3 * l.i) × (length l.out ≡ length l.at) × Laid (meters_bytes (take l.i l.initial.out)) l.count l.at l.out l.next
+
+abbrev pub decreases-loop-i : goal.decreases-loop-i
+decreases-loop-i l = l.meters - l.i

@@ -1,0 +1,15 @@
+-- `request_head` opened is the bytes and fields of the lays one after the other, which the law `then` joins.
+use native.Mathlib.Omega.{arith}
+use Rattle.wing_wire.specs.Meter.{request_head}
+use Rattle.wing_wire.proofs.Writing.Lays.{then}
+use borrow.Author.Rules.{rules}
+use Rattle.wing_wire.proofs.meter.lay_request_head.Goals as goal
+
+pub returns : goal.returns
+unfolding request_head
+returns c =
+    (
+      then c.lay-at.ensures (then c.lay-at-2.ensures (then c.lay-at-3.ensures (then c.lay_16-at.ensures.laid
+          (then c.lay-at-4.ensures (then c.lay_16-at-2.ensures.laid (then c.lay_16-at-3.ensures.laid c.lay.ensures)))))),
+      omega (arith, c.lay-at.ensures.next),
+    )

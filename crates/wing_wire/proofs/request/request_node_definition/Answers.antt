@@ -1,0 +1,8 @@
+-- The contract of `write-request` with the byte dd.
+use mir.Facts.{to_z-of_z}
+use borrow.Author.Rules.{rules}
+use Rattle.wing_wire.proofs.request.request_node_definition.Goals as goal
+
+pub returns : goal.returns
+returns c =
+    rw (to_z-of_z c.ranges.id) at c.write_request.ensures

@@ -1,0 +1,18 @@
+-- Each arm is the line of `suffix_bytes` with that variant: after the id that `lay_id` lays comes nothing or one byte, and the law `then` joins them.
+use mir.Facts.{to_z-of_z}
+use Rattle.wing_wire.proofs.Writing.Lays.{then, nothing}
+use Rattle.wing_wire.specs.Command.{id_bytes, suffix_bytes}
+use borrow.Author.Rules.{rules}
+use Rattle.wing_wire.proofs.set.lay_format.Goals as goal
+
+pub returns-in-None : goal.returns-in-None
+unfolding id_bytes suffix_bytes
+returns-in-None c =
+    let z = to_z-of_z c.ranges.id in
+    rw c.in-None.is (then (rw z at c.lay_id-at.ensures.laid) (nothing _ _))
+
+pub returns-in-Byte : goal.returns-in-Byte
+unfolding id_bytes suffix_bytes
+returns-in-Byte c =
+    let z = to_z-of_z c.ranges.id in
+    rw c.in-Byte.is (then (rw z at c.lay_id-at.ensures.laid) c.lay.ensures)

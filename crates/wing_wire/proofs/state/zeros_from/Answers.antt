@@ -1,0 +1,19 @@
+-- The invariant: the bytes from the start on are all 0 exactly if those joined so far are and those from i on are; a turn joins one more
+-- (`one_more`).
+use Prim.Native.Nat.{◌-◌}
+use mathlib.Core.Path.{◌≡◌, refl, sym, ◌∙◌}
+use lib.Dec.{eqb}
+use lib.ListN.{length, drop}
+use borrow.Author.Rules.{rules}
+use Rattle.wing_node.specs.Bool.{and}
+use Rattle.wing_wire.specs.State.{zeros}
+use Rattle.wing_wire.proofs.Reading.Zeros.{one_more, no_more}
+use Rattle.wing_wire.proofs.state.zeros_from.Goals as goal
+
+pub loop-i-preserved : goal.loop-i-preserved
+loop-i-preserved c =
+    c.loop-i.invariant ∙ one_more c.args.store.now c.loop-i.i c.loop-i.bits c.loop-i-test.true
+
+pub returns : goal.returns
+returns c =
+    sym (c.loop-i.invariant ∙ no_more c.args.store.now c.loop-i.i c.loop-i.bits c.loop-i-test.false)

@@ -1,0 +1,14 @@
+use borrow.Author.Rules.{rules}
+use mathlib.Core.Path.{◌≡◌, refl, sym, ◌∙◌}
+use Prim.Native.Nat.{◌-◌}
+use native.Mathlib.Omega.{arith}
+use lib.ListN.{length, drop}
+use Rattle.wing_wire.specs.Plain.{string_ahead}
+use Rattle.wing_wire.proofs.Reading.Inners.{inner-more, string-turn, string-stops, string-ends}
+use Rattle.wing_wire.proofs.stream.string_ahead.Given as goal
+
+abbrev pub invariant-loop-i : goal.invariant-loop-i
+invariant-loop-i l = (length l.store ≡ length l.bytes) × (string_ahead l.want l.left l.bytes l.initial.store (drop l.initial.store l.at) ≡ string_ahead l.want l.l l.store l.i (drop l.i l.at))
+
+abbrev pub decreases-loop-i : goal.decreases-loop-i
+decreases-loop-i l = length l.at - l.i
