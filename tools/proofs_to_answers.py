@@ -88,6 +88,9 @@ def resolve(fn, goal_place, state, segs, head):
                 segs = segs[len(best[1]):]
                 state = ("path", best[0])
             elif seg in ("args", "ranges", "auto", "fn", "type_inv", "type-inv", "utf8"):
+                seg = seg.replace("-", "_")
+                if segs:
+                    segs[0] = segs[0].replace("-", "_")
                 state = ("path", f"{head}.{seg}")
             elif seg == "requires":
                 pre = fn.e.get("pre")
@@ -101,12 +104,19 @@ def resolve(fn, goal_place, state, segs, head):
         elif kind == "label":
             i = state[1]
             name, parent, lab, callee, more = fn.e["places"][i][:5]
-            best = None
+            best = own = None
+            if len(state) > 2:
+                segs = state[2] + segs
+            part = False
             for q in fn.chain(goal_place):
                 arm = fn.e["arms"][q]
                 if not arm:
                     continue
                 for field, old, path in arm[2]:
+                    if flat(old) == flat(lab[0]) and field.endswith("-own") and not path and own is None:
+                        own = f"{head}.{arm[0]}.{field}"
+                    if flat(old) == flat(lab[0]) and len(segs) < len(path) and [norm(s) for s in segs] == [norm(s) for s in path[: len(segs)]]:
+                        part = True
                     if flat(old) == flat(lab[0]) and [norm(s) for s in segs[: len(path)]] == [norm(s) for s in path]:
                         if field.endswith("-own"):
                             continue
@@ -115,6 +125,11 @@ def resolve(fn, goal_place, state, segs, head):
             if best:
                 segs = segs[len(best[1]):]
                 state = ("path", best[0])
+                continue
+            if part:
+                return ("label", i, segs)
+            if own:
+                state = ("path", own)
                 continue
             if re.match(r"(shared-)?slice-known|array-known|mut-slice-known", norm(lab[0])) and segs[0] == "given":
                 var = None
@@ -138,8 +153,21 @@ def resolve(fn, goal_place, state, segs, head):
                 cl = fn.e["clauses"][i]
                 f = cl.get("fields") if isinstance(cl, dict) else None
                 state = ("ens", f"{base}.ensures", f) if f else ("path", f"{base}.ensures")
+            elif seg in ("new", "auto") and segs and callee and callee in fn.e["params"]:
+                k = 0
+                while segs and segs[0] == "1" and len(segs) > 1 and segs[1] in "01":
+                    segs.pop(0)
+                    k += 1
+                if segs and segs[0].isdigit():
+                    k += int(segs.pop(0))
+                    ps = fn.e["params"][callee]
+                    state = ("path", f"{base}.{seg}.{ps[k]}")
+                else:
+                    state = ("path", f"{base}.{seg}")
             else:
                 # a name of the source in the label's fields
+                if seg not in ("result", "ensures", "true", "false", "invariant", "given", "branch"):
+                    seg = seg.replace("-", "_")
                 state = ("path", f"{base}.{seg}")
         elif kind == "ens":
             seg = segs.pop(0)
@@ -291,9 +319,8 @@ def convert(path):
             b = re.match(re.escape(name) + r"\s+(.*?)\s*=(?=\s)", body, re.S)
             params = b.group(1).split()
             body = body[b.end():]
-            un = [v for v, c in zip(vars_, changed) if not c]
             ch = [v for v, c in zip(vars_, changed) if c]
-            want = [f"l.{v}" for v in un] + [f"l.initial.{v}" for v in ch] + [f"l.{v}" for v in ch]
+            want = [f"l.initial.{v}" if c else f"l.{v}" for v, c in zip(vars_, changed)] + [f"l.{v}" for v in ch]
             if len(want) != len(params):
                 said.append(f"{rel}: {what} of {loop}: {params} against {vars_} {changed}")
                 continue

@@ -186,6 +186,8 @@ pair-there : (f : Field) (count n : ℕ) (pairs : List Pair) (rest : List ℕ) �
     There f (beyond (times n (f ∷ string ∷ [])) (laid_all (times count (f ∷ string ∷ [])) (in_row pairs) ++ rest)) (get_or pairs n ([], []))
 unfolding times laid_all extent
 pair-there f zero n pairs rest l h = absurd (omega arith)
+pair-there f (suc count) zero [] rest l h = elim h [ ]
+pair-there f (suc count) (suc n) [] rest l h = elim h [ ]
 pair-there f (suc count) zero (p ∷ pairs) rest l (more a (more b hs)) =
     record { tail = laid_all (times count (f ∷ string ∷ [])) (in_row pairs) ++ rest; here = simp append_assoc; first = a; second = b }
 pair-there f (suc count) (suc n) (p ∷ pairs) rest l (more a (more b hs)) =

@@ -58,7 +58,7 @@ returns-in-10 c = simp c.in-10.is
 pub returns-in_default : goal.returns-in_default
 unfolding class_in
 returns-in_default c =
-    let r = c.in_default.rest in
+    let r = c.in_default.in_default-own.rest in
     let n = c.args.n in
     let e = over-seven n r.0.0.0.0.0.0.0.0.0.0.1 r.0.0.0.0.0.0.0.0.0.1 r.0.0.0.0.0.0.0.0.1 r.0.0.0.0.0.0.0.1 r.0.0.0.0.0.0.1 r.0.0.0.0.0.1 r.0.0.0.0.1 r.0.0.0.1 in
     let nine : 10 ≤ n = over-nine n e r.0.0.1 r.0.1 in

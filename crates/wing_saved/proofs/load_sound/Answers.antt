@@ -13,12 +13,12 @@ pub returns-then-is_sound : goal.returns-then-is_sound
 unfolding sound_only loaded_as
 returns-then-is_sound c =
     let a = c.args in
-    let e : c.lay.new.0 ≡ a.bytes.now = c.lay.ensures ∙ laid_same a.bytes.now (replicate body_limit 0) (length-replicate {A = ℕ} body_limit 0 ∙ sym (search rules)) in
+    let e : c.lay.new.out ≡ a.bytes.now = c.lay.ensures ∙ laid_same a.bytes.now (replicate body_limit 0) (length-replicate {A = ℕ} body_limit 0 ∙ sym (search rules)) in
     rw (← e) (simp (← c.is_sound.ensures, c.if-is_sound.true))
 
 pub returns : goal.returns
 unfolding sound_only
 returns c =
     let a = c.args in
-    let e : c.lay.new.0 ≡ a.bytes.now = c.lay.ensures ∙ laid_same a.bytes.now (replicate body_limit 0) (length-replicate {A = ℕ} body_limit 0 ∙ sym (search rules)) in
+    let e : c.lay.new.out ≡ a.bytes.now = c.lay.ensures ∙ laid_same a.bytes.now (replicate body_limit 0) (length-replicate {A = ℕ} body_limit 0 ∙ sym (search rules)) in
     rw (← e) (simp (← c.is_sound.ensures, c.if-is_sound.false, c.refuse.ensures))

@@ -19,5 +19,5 @@ returns-in-3 c = simp c.in-3.is
 pub returns-in_default : goal.returns-in_default
 unfolding token_in
 returns-in_default c =
-    let r = c.in_default.rest in
+    let r = c.in_default.in_default-own.rest in
     simp (ne_eqb _ _ r.0.0.1, ne_eqb _ _ r.0.1, ne_eqb _ _ r.1)

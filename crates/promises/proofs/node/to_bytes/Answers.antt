@@ -12,7 +12,7 @@ use Rattle.promises.proofs.node.to_bytes.Goals as goal
 pub returns : goal.returns
 returns c =
     let args = c.args in
-    let l = lent args.name.now args.long-name.now args.items.now in
+    let l = lent args.name.now args.long_name.now args.items.now in
     let t = c.struct_told-1.given in
     let w : InWidth args.d =
     record {

@@ -10,6 +10,6 @@ use Rattle.promises.proofs.wire.keep_alive_meters.Goals as goal
 
 pub returns : goal.returns
 returns c =
-    let bytes = keep_alives c.args.port c.args.last-id in
+    let bytes = keep_alives c.args.port c.args.last_id in
     let out = c.args.out.now in
     subst (λ (x : WriteEffect). CommandCall bytes out x.answer x.out) (sym c.keep_alive_meters.ensures) (command-writes bytes out)

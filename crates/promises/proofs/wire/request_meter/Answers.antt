@@ -10,5 +10,5 @@ use Rattle.promises.proofs.wire.request_meter.Goals as goal
 pub returns : goal.returns
 returns c =
     let out = c.args.out.now in
-    subst (λ (x : RequestEffect). MeterCall c.args.port c.args.last-id c.args.meters c.args.count out x.answer x.out)
-    (sym c.request_meter.ensures) (meters-write c.args.port c.args.last-id c.args.meters c.args.count out)
+    subst (λ (x : RequestEffect). MeterCall c.args.port c.args.last_id c.args.meters c.args.count out x.answer x.out)
+    (sym c.request_meter.ensures) (meters-write c.args.port c.args.last_id c.args.meters c.args.count out)

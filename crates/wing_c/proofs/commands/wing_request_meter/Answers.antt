@@ -12,4 +12,4 @@ returns c =
     let whole : length c.meters_of-array.result ≡ 64 = search rules in
     request-as c.request_meter.result c.requested.ensures
     (c.request_meter.ensures ∙
-    request-same a.port a.last-id a.meters.now c.meters_of-array.result a.out.now whole c.meters_of-array.ensures)
+    request-same a.port a.last_id a.meters.now c.meters_of-array.result a.out.now whole c.meters_of-array.ensures)

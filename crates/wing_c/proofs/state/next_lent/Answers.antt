@@ -10,6 +10,6 @@ use Rattle.wing_c.proofs.state.next_lent.Goals as goal
 
 pub returns : goal.returns
 returns c =
-    next-left (state_of c.args.c c.args.store.now) c.args.bytes.now c.args.out.now c.advance-r.result c.advance-r.new.1.0 c.requires.0 c.requires.1 c.advance-r.ensures
+    next-left (state_of c.args.c c.args.store.now) c.args.bytes.now c.args.out.now c.advance-r.result c.advance-r.new.store c.requires.0 c.requires.1 c.advance-r.ensures
     c.release.ensures
-    (c.copy_front.ensures ∙ ap (λ (n : ℕ). over (take n c.advance-r.new.1.0) c.args.out.now) c.bytes_of.ensures)
+    (c.copy_front.ensures ∙ ap (λ (n : ℕ). over (take n c.advance-r.new.store) c.args.out.now) c.bytes_of.ensures)

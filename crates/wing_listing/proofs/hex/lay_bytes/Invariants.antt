@@ -10,7 +10,7 @@ use Rattle.wing_listing.proofs.Texts.Hexes.{length_from, pairs-hex, from-turn}
 use Rattle.wing_listing.proofs.hex.lay_bytes.Given as goal
 
 abbrev pub invariant-loop-i : goal.invariant-loop-i
-invariant-loop-i l = (length l.out ≡ length l.at) × (l.out ≡ sets l.at l.s (take l.i (from_pairs l.n)))
+invariant-loop-i l = (length l.out ≡ length l.initial.out) × (l.out ≡ sets l.initial.out l.at (take l.i (from_pairs l.s)))
 
 abbrev pub decreases-loop-i : goal.decreases-loop-i
-decreases-loop-i l = l.initial.out - l.i
+decreases-loop-i l = l.n - l.i

@@ -10,7 +10,7 @@ use Rattle.wing_listing.proofs.hex.lay_pairs.Given as goal
 
 abbrev pub invariant-loop-i : goal.invariant-loop-i
 invariant-loop-i l =
-    (l.i ≤ length l.initial.out) × (length l.out ≡ length l.at) × (sets l.out (l.s + 2 * l.i) (pairs_of (drop l.i l.initial.out)) ≡ sets l.at l.s (pairs_of l.initial.out))
+    (l.i ≤ length l.s) × (length l.out ≡ length l.initial.out) × (sets l.out (l.at + 2 * l.i) (pairs_of (drop l.i l.s)) ≡ sets l.initial.out l.at (pairs_of l.s))
 
 abbrev pub decreases-loop-i : goal.decreases-loop-i
-decreases-loop-i l = length l.initial.out - l.i
+decreases-loop-i l = length l.s - l.i

@@ -78,8 +78,8 @@ loop-number-preserved c =
     let t = c.args.text.now in
     (
       omega arith,
-      same_len_mid (264 * c.loop-number.number) (264 * c.loop-number.number + 264 - 264 * c.loop-number.number) c.loop-number.table c.lay_line.new.0 c.lay_line.auto.0 ∙ c.loop-number.invariant.1,
-      turn-laid t c.args.count c.loop-number.number c.loop-number.at c.requires.0 h (c.loop-number.invariant.3 h) c.find.result c.find.ensures c.lay_line.new.0 c.loop-number.table c.args.table.now c.lay_line.ensures c.loop-number.invariant.2,
+      same_len_mid (264 * c.loop-number.number) (264 * c.loop-number.number + 264 - 264 * c.loop-number.number) c.loop-number.table c.lay_line.new.out c.lay_line.auto.out ∙ c.loop-number.invariant.1,
+      turn-laid t c.args.count c.loop-number.number c.loop-number.at c.requires.0 h (c.loop-number.invariant.3 h) c.find.result c.find.ensures c.lay_line.new.out c.loop-number.table c.args.table.now c.lay_line.ensures c.loop-number.invariant.2,
       (λ g. turn-left t c.args.count c.loop-number.number c.loop-number.at c.requires.0 h (c.loop-number.invariant.3 h) c.find.result c.find.ensures),
     )
 

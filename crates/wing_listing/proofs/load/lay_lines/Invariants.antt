@@ -15,8 +15,8 @@ use Rattle.wing_listing.proofs.load.lay_lines.Given as goal
 
 abbrev pub invariant-loop-number : goal.invariant-loop-number
 invariant-loop-number l =
-    (l.number ≤ l.initial.table) × (length l.table ≡ length l.text) × (l.table ≡ laid width (map record_of (take l.number (entries_in (reading_of l.count)))) l.text) ×
-    (l.number < l.initial.table → Left (drop l.at l.count) (drop l.number (entries_in (reading_of l.count))))
+    (l.number ≤ l.count) × (length l.table ≡ length l.initial.table) × (l.table ≡ laid width (map record_of (take l.number (entries_in (reading_of l.text)))) l.initial.table) ×
+    (l.number < l.count → Left (drop l.at l.text) (drop l.number (entries_in (reading_of l.text))))
 
 abbrev pub decreases-loop-number : goal.decreases-loop-number
-decreases-loop-number l = l.initial.table - l.number
+decreases-loop-number l = l.count - l.number

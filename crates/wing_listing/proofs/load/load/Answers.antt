@@ -19,4 +19,4 @@ lay_lines-requires c =
 
 pub returns : goal.returns
 returns c =
-    load-done c.args.text.now c.args.table.now c.check-s.result c.answer-a.result c.fresh.result c.lay_lines.new.0 (c.check-s.ensures ∙ ap (checked_as c.args.text.now) c.places.ensures) c.answer-a.ensures c.fresh.ensures c.lay_lines.ensures
+    load-done c.args.text.now c.args.table.now c.check-s.result c.answer-a.result c.fresh.result c.lay_lines.new.table (c.check-s.ensures ∙ ap (checked_as c.args.text.now) c.places.ensures) c.answer-a.ensures c.fresh.ensures c.lay_lines.ensures

@@ -20,7 +20,7 @@ lay_header-requires c =
 pub loop-number-init : goal.loop-number-init
 loop-number-init c =
     let a = c.args in
-    let k = c.lay_header.auto.0 in
+    let k = c.lay_header.auto.out in
     let e = ap length (left-all a.count a.table.now) in
     let p = printed-size (table_of a.table.now a.count) in
     (refl, omega arith, omega arith, refl)
@@ -38,7 +38,7 @@ loop-number-preserved c =
     let n = a.count in
     let h = c.loop-number-test.true in
     let l = left_less n c.loop-number.number b h in
-    let q = c.print_record-at.auto.0 in (
+    let q = c.print_record-at.auto.out in (
       q ∙ c.loop-number.invariant.0,
       omega (arith, c.print_record-at.ensures.next),
       omega arith,
@@ -51,6 +51,6 @@ returns c =
     let t = table_of a.table.now a.count in
     let z = left-none a.count c.loop-number.number a.table.now c.loop-number-test.false in
     record {
-      bytes = sym (ap (sets c.loop-number.out c.loop-number.at) z) ∙ c.loop-number.invariant.3 ∙ ap (sets c.lay_header.new.0 14) (sym (left-all a.count a.table.now)) ∙ listed t a.out.now c.lay_header.new.0 c.lay_header.ensures;
+      bytes = sym (ap (sets c.loop-number.out c.loop-number.at) z) ∙ c.loop-number.invariant.3 ∙ ap (sets c.lay_header.new.out 14) (sym (left-all a.count a.table.now)) ∙ listed t a.out.now c.lay_header.new.out c.lay_header.ensures;
       next = omega (arith, ap length z);
     }

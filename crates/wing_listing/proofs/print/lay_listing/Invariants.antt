@@ -13,7 +13,7 @@ use Rattle.wing_listing.proofs.print.lay_listing.Given as goal
 
 abbrev pub invariant-loop-number : goal.invariant-loop-number
 invariant-loop-number l =
-    (length l.out ≡ length l.table) × (l.at + length (left l.initial.out l.number l.count) ≡ length (printed (table_of l.count l.initial.out))) × (length (printed (table_of l.count l.initial.out)) ≤ length l.out) × (sets l.out l.at (left l.initial.out l.number l.count) ≡ sets l.table 14 (left l.initial.out 0 l.count))
+    (length l.out ≡ length l.initial.out) × (l.at + length (left l.count l.number l.table) ≡ length (printed (table_of l.table l.count))) × (length (printed (table_of l.table l.count)) ≤ length l.out) × (sets l.out l.at (left l.count l.number l.table) ≡ sets l.initial.out 14 (left l.count 0 l.table))
 
 abbrev pub decreases-loop-number : goal.decreases-loop-number
-decreases-loop-number l = l.initial.out - l.number
+decreases-loop-number l = l.count - l.number

@@ -11,12 +11,12 @@ use Rattle.wing_listing.proofs.row.lay_value.Goals as goal
 
 pub overflow_add-result : goal.overflow_add-result
 overflow_add-result c =
-    let l = integer-laid c.args.rec.now c.requires.0 c.i32_at.result c.put_decimal.result c.args.at c.args.out.now c.put_decimal.new.0 c.if-rec-eq0.true c.i32_at.ensures c.put_decimal.ensures c.requires.2 in
+    let l = integer-laid c.args.rec.now c.requires.0 c.i32_at.result c.put_decimal.result c.args.at c.args.out.now c.put_decimal.new.out c.if-rec-eq0.true c.i32_at.ensures c.put_decimal.ensures c.requires.2 in
     search rules
 
 pub returns-then-rec-eq0 : goal.returns-then-rec-eq0
 returns-then-rec-eq0 c =
-    integer-laid c.args.rec.now c.requires.0 c.i32_at.result c.put_decimal.result c.args.at c.args.out.now c.put_decimal.new.0 c.if-rec-eq0.true c.i32_at.ensures c.put_decimal.ensures c.requires.2
+    integer-laid c.args.rec.now c.requires.0 c.i32_at.result c.put_decimal.result c.args.at c.args.out.now c.put_decimal.new.out c.if-rec-eq0.true c.i32_at.ensures c.put_decimal.ensures c.requires.2
 
 pub slice_bounds-lay_pairs-end : goal.slice_bounds-lay_pairs-end
 slice_bounds-lay_pairs-end c =

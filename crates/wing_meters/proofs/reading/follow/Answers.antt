@@ -31,7 +31,7 @@ figures_in-requires c =
     let here = window c.loop-i.after c.loop-i.levels in
     let x = get_or a.xs.now c.loop-i.i (pos 0) in
     let k : to_z w16 (of_z w16 x) ≡ x = search rules in
-    let after : window c.step-after.result c.step-after.new.1.0 ≡ taking here x = c.step-after.ensures.0 ∙ ap (taking here) k in
+    let after : window c.step-after.result c.step-after.new.levels ≡ taking here x = c.step-after.ensures.0 ∙ ap (taking here) k in
     (subst (λ (w : Window). 1 ≤ w.control.held) (sym after) (holds-one here x c.loop-i.invariant.sound c.loop-i.invariant.size), c.step-after.ensures.1)
 
 pub lay_row-requires : goal.lay_row-requires
@@ -44,12 +44,12 @@ loop-i-preserved c =
     let here = window c.loop-i.after c.loop-i.levels in
     let x = get_or xs c.loop-i.i (pos 0) in
     let k : to_z w16 (of_z w16 x) ≡ x = search rules in
-    let after : window c.step-after.result c.step-after.new.1.0 ≡ taking here x = c.step-after.ensures.0 ∙ ap (taking here) k in
-    let row : c.lay_row.new.0 ≡ sets c.loop-i.out (5 * c.loop-i.i) (row_of (figures_kept c.step-after.result)) =
+    let after : window c.step-after.result c.step-after.new.levels ≡ taking here x = c.step-after.ensures.0 ∙ ap (taking here) k in
+    let row : c.lay_row.new.out ≡ sets c.loop-i.out (5 * c.loop-i.i) (row_of (figures_kept c.step-after.result)) =
     c.lay_row.ensures ∙ ap (λ (f : Figures). sets c.loop-i.out (5 * c.loop-i.i) (row_of f)) c.figures_in.ensures in
     let laid = row ∙ ap (λ (w : Window). sets c.loop-i.out (5 * c.loop-i.i) (row_of (figures_kept w.control))) after in
     let first = window a.c a.levels.now in
-    subst (λ (o : List ℤ). Onward first xs a.out.now (window c.step-after.result c.step-after.new.1.0) o (c.loop-i.i + 1)) (sym laid)
+    subst (λ (o : List ℤ). Onward first xs a.out.now (window c.step-after.result c.step-after.new.levels) o (c.loop-i.i + 1)) (sym laid)
     (subst
     (λ (w : Window). Onward first xs a.out.now w (sets c.loop-i.out (5 * c.loop-i.i) (row_of (figures_kept (taking here x).control))) (c.loop-i.i + 1)) (sym after)
     (onward-turns first xs a.out.now here c.loop-i.out c.loop-i.i c.loop-i.invariant x c.loop-i-test.true refl c.requires.2))

@@ -18,7 +18,7 @@ use Rattle.wing_meters.proofs.Follows.{Onward, onward-begins, onward-turns, onwa
 use Rattle.wing_meters.proofs.reading.follow.Given as goal
 
 abbrev pub invariant-loop-i : goal.invariant-loop-i
-invariant-loop-i l = Onward (window l.initial.after l.xs) l.initial.levels l.initial.out (window l.after l.levels) l.out l.i
+invariant-loop-i l = Onward (window l.initial.after l.initial.levels) l.xs l.initial.out (window l.after l.levels) l.out l.i
 
 abbrev pub decreases-loop-i : goal.decreases-loop-i
-decreases-loop-i l = length l.initial.levels - l.i
+decreases-loop-i l = length l.xs - l.i

@@ -26,10 +26,10 @@ returns-then-is_sound_lent c =
     let size : length w.levels ≡ 256 = search rules in
     let e : sound_window w ≡ true = sym c.is_sound_lent.ensures.0 ∙ c.if-is_sound_lent.true in
     let k : to_z w16 (of_z w16 a.x) ≡ a.x = search rules in
-    let after : window c.step-after.result c.step-after.new.1.0 ≡ taking w a.x = c.step-after.ensures.0 ∙ ap (taking w) k in
+    let after : window c.step-after.result c.step-after.new.levels ≡ taking w a.x = c.step-after.ensures.0 ∙ ap (taking w) k in
     let told : told_kept (taking w a.x).control ≡ figures_of (kept_in (taking w a.x)) =
     sym (kept-told (taking w a.x) (sound-taking w (sound w e) size a.x) (size-taking w a.x size)) in
-    ap (λ (t : Told). taken t (window c.step-after.result c.step-after.new.1.0)) c.tell-told.ensures ∙
+    ap (λ (t : Told). taken t (window c.step-after.result c.step-after.new.levels)) c.tell-told.ensures ∙
     (ap (λ (v : Window). taken (told_kept v.control) v) after ∙
     (ap (λ (t : Told). taken t (taking w a.x)) told ∙ sym (reading-sound w a.x e)))
 

@@ -26,7 +26,7 @@ pub returns-then-is_sound_lent : goal.returns-then-is_sound_lent
 returns-then-is_sound_lent c =
     let a = c.args in
     let e = sym c.is_sound_lent.ensures.0 ∙ c.if-is_sound_lent.true in
-    ap (λ (w : Window). rows_effect (followed (Rows (length a.xs.now)) w) c.follow-after.new.1.1.1.0) c.follow-after.ensures.levels_after ∙
+    ap (λ (w : Window). rows_effect (followed (Rows (length a.xs.now)) w) c.follow-after.new.out) c.follow-after.ensures.levels_after ∙
     (ap (λ (o : List ℤ). rows_effect (followed (Rows (length a.xs.now)) (after_all a.w a.xs.now)) o) c.follow-after.ensures.out_after ∙
     sym (readings-taken a.w a.xs.now a.out.now e (omega (arith, c.if-out-xs.false))))
 

@@ -6,7 +6,7 @@ use Prim.Native.Nat.{◌≤◌, ◌-◌}
 use Rattle.wing_mirror.proofs.bytes.open_gap.Given as goal
 
 abbrev pub invariant-loop-i : goal.invariant-loop-i
-invariant-loop-i l = (l.end ≤ l.i) × (l.i ≤ l.w) × (length l.buf ≡ length l.from) × (l.buf ≡ moved l.from l.i l.w l.initial.buf)
+invariant-loop-i l = (l.from ≤ l.i) × (l.i ≤ l.end) × (length l.buf ≡ length l.initial.buf) × (l.buf ≡ moved l.initial.buf l.i l.end l.w)
 
 abbrev pub decreases-loop-i : goal.decreases-loop-i
-decreases-loop-i l = l.i - l.end
+decreases-loop-i l = l.i - l.from

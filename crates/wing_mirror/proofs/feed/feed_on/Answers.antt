@@ -35,26 +35,26 @@ slice_bounds-advance-end c = let h = c.loop-a.invariant.2.within in search rules
 pub overflow_add-i : goal.overflow_add-i
 overflow_add-i c =
     let few = c.requires.3 in
-    let h = inside full-laws c.loop-a.invariant.2 c.advance-r.result c.advance-r.new.1.0 c.advance-r.ensures in
+    let h = inside full-laws c.loop-a.invariant.2 c.advance-r.result c.advance-r.new.store c.advance-r.ensures in
     search rules
 
 pub returns-then-is_more : goal.returns-then-is_more
 unfolding fed_all
 returns-then-is_more c =
     let m = sym c.is_more.ensures ∙ c.if-is_more.true in
-    ap taken_feed (ended full-laws c.loop-a.invariant.2 c.advance-r.result c.advance-r.new.1.0 c.advance-r.ensures m)
+    ap taken_feed (ended full-laws c.loop-a.invariant.2 c.advance-r.result c.advance-r.new.store c.advance-r.ensures m)
 
 pub keep_answer-t-requires : goal.keep_answer-t-requires
 keep_answer-t-requires c =
     let l = c.loop-a.invariant in
-    let w = answer-bounded full-laws l.2 c.advance-r.result c.advance-r.new.1.0 c.advance-r.ensures in
+    let w = answer-bounded full-laws l.2 c.advance-r.result c.advance-r.new.store c.advance-r.ensures in
     let f = l.2.few in
     (l.2.ready, omega arith, omega arith, w.within)
 
 pub loop-a-smaller : goal.loop-a-smaller
 loop-a-smaller c =
     let m = sym c.is_more.ensures ∙ c.if-is_more.false in
-    omega (arith, less-left full-laws c.loop-a.invariant.2 c.advance-r.result c.advance-r.new.1.0 c.advance-r.ensures m)
+    omega (arith, less-left full-laws c.loop-a.invariant.2 c.advance-r.result c.advance-r.new.store c.advance-r.ensures m)
 
 pub loop-a-preserved : goal.loop-a-preserved
 loop-a-preserved c =
@@ -62,4 +62,4 @@ loop-a-preserved c =
     let m = sym c.is_more.ensures ∙ c.if-is_more.false in
     let node = c.advance-r.result.control.node in
     let back : to_z w32 (of_z w32 node) ≡ node = to_z-of_z (record { sfits = c.struct_told-1.given.1.0.1 }) in
-    (search rules, search rules, again full-laws l.2 c.advance-r.result c.advance-r.new.1.0 c.advance-r.ensures m c.release.new.0 c.release.ensures (tally_of c.keep_answer-t.result c.keep_answer-t.new.0) (rw back at c.keep_answer-t.ensures))
+    (search rules, search rules, again full-laws l.2 c.advance-r.result c.advance-r.new.store c.advance-r.ensures m c.release.new.store c.release.ensures (tally_of c.keep_answer-t.result c.keep_answer-t.new.table) (rw back at c.keep_answer-t.ensures))

@@ -18,7 +18,7 @@ use Rattle.wing_mirror.proofs.feed.feed_on.Given as goal
 
 abbrev pub invariant-loop-a : goal.invariant-loop-a
 invariant-loop-a l =
-    (length l.store ≡ length l.bytes) × (length l.table ≡ length l.initial.c) × FeedInvariant full l.initial.table (fed l.count l.bytes (table_tally (table_of l.initial.c l.initial.store) zero_counts)) l.c l.store (tally_of l.t l.table) l.i
+    (length l.store ≡ length l.initial.store) × (length l.table ≡ length l.initial.table) × FeedInvariant full l.bytes (fed l.initial.c l.initial.store (table_tally (table_of l.initial.table l.count) zero_counts)) l.c l.store (tally_of l.t l.table) l.i
 
 abbrev pub decreases-loop-a : goal.decreases-loop-a
-decreases-loop-a l = left l.initial.table l.c l.i
+decreases-loop-a l = left l.bytes l.c l.i

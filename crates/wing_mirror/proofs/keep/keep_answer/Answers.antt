@@ -31,16 +31,14 @@ keep_value-requires-in-Float c =
 pub keep_value-requires-in-String : goal.keep_value-requires-in-String
 unfolding node_value
 keep_value-requires-in-String c =
-    let a = c.a-in-String-1.given in
-    let w = rw a.1 at c.requires.3 in
-    (c.requires.0, c.requires.1, short-front a.0.0 c.args.store.now w.0)
+    let w = rw c.in-String.is at c.requires.3 in
+    (c.requires.0, c.requires.1, short-front c.in-String.n c.args.store.now w.0)
 
 pub slice_bounds-body_mark-end : goal.slice_bounds-body_mark-end
 slice_bounds-body_mark-end c =
-    let a = c.a-in-Body-1.given in
-    let w : a.0.0 ≤ body_limit = rw a.1 at c.requires.3 in
+    let w : c.in-Body.n ≤ body_limit = rw c.in-Body.is at c.requires.3 in
     let n = c.requires.2 in
-    sym (length-take-le a.0.0 c.args.store.now (omega arith))
+    sym (length-take-le c.in-Body.n c.args.store.now (omega arith))
 
 pub returns-in-More : goal.returns-in-More
 unfolding event_of keep_event
@@ -49,9 +47,8 @@ returns-in-More c = rw c.in-More.is
 pub returns-in-Integer : goal.returns-in-Integer
 unfolding event_of node_value
 returns-in-Integer c =
-    let a = c.a-1.given in
-    let back : to_z w32 (of_z w32 a.0.0) ≡ a.0.0 = search rules in
-    rw a.1 (rw (to_z-of_z c.ranges.node, back) at c.keep_value.ensures)
+    let back : to_z w32 (of_z w32 c.in-Integer.x) ≡ c.in-Integer.x = search rules in
+    rw c.in-Integer.is (rw (to_z-of_z c.ranges.node, back) at c.keep_value.ensures)
 
 pub returns-in-Float : goal.returns-in-Float
 unfolding event_of node_value

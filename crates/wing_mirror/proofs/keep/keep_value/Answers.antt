@@ -24,11 +24,11 @@ returns-then-k c =
     let v = node_value c.args.value c.args.string.now in
     let e = c.lay_record.ensures ∙ ap (λ (x : ℤ). record_of (entry x v Console)) (to_z-of_z c.ranges.node) in
     let t = table c.args.table.now c.args.t.count in
-    rw c.mark.ensures (rw c.if-k.true at (put-kept full c.args.node v t c.args.t.counts c.lay_record.new.0 c.put-k.result c.put-k.new.0 refl e (◌∙◌ {b = put_row 264 c.lay_record.new.0 t} c.put-k.ensures (put_is c.lay_record.new.0 t))))
+    rw c.mark.ensures (rw c.if-k.true at (put-kept full c.args.node v t c.args.t.counts c.lay_record.new.out c.put-k.result c.put-k.new.table refl e (◌∙◌ {b = put_row 264 c.lay_record.new.out t} c.put-k.ensures (put_is c.lay_record.new.out t))))
 
 pub returns : goal.returns
 returns c =
     let v = node_value c.args.value c.args.string.now in
     let e = c.lay_record.ensures ∙ ap (λ (x : ℤ). record_of (entry x v Console)) (to_z-of_z c.ranges.node) in
     let t = table c.args.table.now c.args.t.count in
-    rw c.mark-2.ensures (rw c.if-k.false at (put-kept full c.args.node v t c.args.t.counts c.lay_record.new.0 c.put-k.result c.put-k.new.0 refl e (◌∙◌ {b = put_row 264 c.lay_record.new.0 t} c.put-k.ensures (put_is c.lay_record.new.0 t))))
+    rw c.mark-2.ensures (rw c.if-k.false at (put-kept full c.args.node v t c.args.t.counts c.lay_record.new.out c.put-k.result c.put-k.new.table refl e (◌∙◌ {b = put_row 264 c.lay_record.new.out t} c.put-k.ensures (put_is c.lay_record.new.out t))))

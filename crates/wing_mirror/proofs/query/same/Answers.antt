@@ -10,7 +10,7 @@ use Rattle.wing_mirror.proofs.query.same.Goals as goal
 pub same_records-requires : goal.same_records-requires
 same_records-requires c =
     let a = c.args in
-    (room full (table a.a.now a.count-a) (sym c.is_usable.ensures ∙ c.if-is_usable.true), room full (table a.b.now a.count-b) (sym c.is_usable-then-is_usable.ensures ∙ c.if-is_usable-2.true))
+    (room full (table a.a.now a.count_a) (sym c.is_usable.ensures ∙ c.if-is_usable.true), room full (table a.b.now a.count_b) (sym c.is_usable-then-is_usable.ensures ∙ c.if-is_usable-2.true))
 
 pub returns-then-same_records : goal.returns-then-same_records
 unfolding same_answer

@@ -19,14 +19,14 @@ slice_bounds-same_bytes-end-then-count_a-count_b c = sym (length-take-le _ _ (om
 pub same_bytes-requires : goal.same_bytes-requires
 same_bytes-requires c =
     let a = c.args in
-    length-take-le (264 * a.count-a) a.a.now (omega arith) ∙ sym (length-take-le (264 * a.count-a) a.b.now (omega arith))
+    length-take-le (264 * a.count_a) a.a.now (omega arith) ∙ sym (length-take-le (264 * a.count_a) a.b.now (omega arith))
 
 pub returns-then-count_a-count_b : goal.returns-then-count_a-count_b
 unfolding same_tables
 returns-then-count_a-count_b c =
     let a = c.args in
     let e = c.if-count_a-count_b.true in
-    rw (eq-eqb a.count-a a.count-b e) (c.same_bytes.ensures ∙ rows-bytes 264 a.count-a a.a.now a.b.now (omega arith) (omega arith) ∙ ap (λ (n : ℕ). same_rows (records 264 a.count-a a.a.now) (records 264 n a.b.now)) e)
+    rw (eq-eqb a.count_a a.count_b e) (c.same_bytes.ensures ∙ rows-bytes 264 a.count_a a.a.now a.b.now (omega arith) (omega arith) ∙ ap (λ (n : ℕ). same_rows (records 264 a.count_a a.a.now) (records 264 n a.b.now)) e)
 
 pub returns : goal.returns
 unfolding same_tables

@@ -23,4 +23,4 @@ send_record-sent-requires c =
 pub returns : goal.returns
 returns c =
     let e = c.send_record-sent.ensures ∙ ap (λ (r : List ℕ). write_of (order_in r) c.args.out.now) c.row.ensures in
-    rw c.size_in.ensures (laid-whole c.send_record-sent.result (order_in (row_at c.args.number c.args.table.now)) c.args.out.now c.send_record-sent.new.0 e c.requires.2)
+    rw c.size_in.ensures (laid-whole c.send_record-sent.result (order_in (row_at c.args.number c.args.table.now)) c.args.out.now c.send_record-sent.new.out e c.requires.2)

@@ -15,7 +15,7 @@ use Rattle.wing_mirror.proofs.recall.lay_recall.Given as goal
 
 abbrev pub invariant-loop-number : goal.invariant-loop-number
 invariant-loop-number l =
-    (length l.out ≡ length l.table) × (l.at + length (left l.initial.out l.number l.count) ≡ length (recall_bytes full (table_of l.count l.initial.out))) × (length (recall_bytes full (table_of l.count l.initial.out)) ≤ length l.out) × (sets l.out l.at (left l.initial.out l.number l.count) ≡ sets l.table 2 (left l.initial.out 0 l.count))
+    (length l.out ≡ length l.initial.out) × (l.at + length (left l.count l.number l.table) ≡ length (recall_bytes full (table_of l.table l.count))) × (length (recall_bytes full (table_of l.table l.count)) ≤ length l.out) × (sets l.out l.at (left l.count l.number l.table) ≡ sets l.initial.out 2 (left l.count 0 l.table))
 
 abbrev pub decreases-loop-number : goal.decreases-loop-number
-decreases-loop-number l = l.initial.out - l.number
+decreases-loop-number l = l.count - l.number

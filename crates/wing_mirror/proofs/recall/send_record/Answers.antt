@@ -30,12 +30,11 @@ returns-in-Integer c =
     let w = c.value_in-value.result in
     let o = origin_of (origin_byte c.args.rec.now) in
     let h = entry-held id w o (payload_in c.args.rec.now) c.args.rec.now c.id_in-id.ensures c.value_in-value.ensures refl in
-    let v = c.value-1.given in
-    let x = v.0.0 in
+    let x = c.in-Integer.x in
     let back-i : to_z w32 (of_z w32 id) ≡ id = search rules in
     let back-x : to_z w32 (of_z w32 x) ≡ x = search (rules, c.known_told-1) in
     rw (back-i, back-x) at c.set_int.ensures
-    ∙ ap (λ (e : Entry). write_of (set_of e) c.args.out.now) (integer-held id w o (payload_in c.args.rec.now) c.args.rec.now h x v.1)
+    ∙ ap (λ (e : Entry). write_of (set_of e) c.args.out.now) (integer-held id w o (payload_in c.args.rec.now) c.args.rec.now h x c.in-Integer.is)
 
 pub returns-in-Float : goal.returns-in-Float
 returns-in-Float c =
@@ -43,10 +42,9 @@ returns-in-Float c =
     let w = c.value_in-value.result in
     let o = origin_of (origin_byte c.args.rec.now) in
     let h = entry-held id w o (payload_in c.args.rec.now) c.args.rec.now c.id_in-id.ensures c.value_in-value.ensures refl in
-    let v = c.value-in-Float-1.given in
     let back-i : to_z w32 (of_z w32 id) ≡ id = search rules in
     rw back-i at c.set_float.ensures
-    ∙ ap (λ (e : Entry). write_of (set_of e) c.args.out.now) (float-held id w o (payload_in c.args.rec.now) c.args.rec.now h v.0.0 v.1)
+    ∙ ap (λ (e : Entry). write_of (set_of e) c.args.out.now) (float-held id w o (payload_in c.args.rec.now) c.args.rec.now h c.in-Float.bits c.in-Float.is)
 
 pub returns-in-String : goal.returns-in-String
 unfolding entry_in
@@ -56,11 +54,10 @@ returns-in-String c =
     let o = origin_of (origin_byte c.args.rec.now) in
     let h = entry-held id w o (payload_in c.args.rec.now) c.args.rec.now c.id_in-id.ensures c.value_in-value.ensures refl in
     let r = c.args.rec.now in
-    let v = c.value-in-String-1.given in
-    let n = v.0.0 in
+    let n = c.in-String.n in
     let p = c.payload-bytes.result.now in
     let back-i : to_z w32 (of_z w32 id) ≡ id = search rules in
-    let held : entry id (string (take n p)) o ≡ entry_in r = ap (λ (q : List ℕ). entry id (string (take n q)) o) c.payload-bytes.ensures ∙ string-held id w o (payload_in r) r h n v.1 in
+    let held : entry id (string (take n p)) o ≡ entry_in r = ap (λ (q : List ℕ). entry id (string (take n q)) o) c.payload-bytes.ensures ∙ string-held id w o (payload_in r) r h n c.in-String.is in
     let good : storable (string (take n p)) ≡ true = ap (λ (e : Entry). storable e.value) held ∙ read-storable r c.requires.0 (λ i. omega (arith, c.type_inv.rec i)) c.requires.1 in
     rw back-i at c.set_string.ensures
     ∙ string-sent id n c.least-len.result p c.args.out.now c.least-len.ensures good

@@ -17,5 +17,5 @@ unfolding digits_in
 returns c =
     let o = c.args.out.now in
     let k = c.args.kind in
-    let e : c.put_u16.new.0 ≡ sets (set o 4 k) 6 (bytes_of 2 4) = field-sets 2 4 6 (set o 4 k) _ _ (omega arith) (omega (arith, length-set o 4 k)) c.put_u16.ensures in
-    field-sets 4 c.args.bits 8 c.put_u16.new.0 _ _ (omega arith) (omega (arith, c.put_u16.auto.0, length-set o 4 k)) c.put_u32.ensures ∙ ap (λ (l : List ℕ). sets l 8 (bytes_of 4 c.args.bits)) e
+    let e : c.put_u16.new.out ≡ sets (set o 4 k) 6 (bytes_of 2 4) = field-sets 2 4 6 (set o 4 k) _ _ (omega arith) (omega (arith, length-set o 4 k)) c.put_u16.ensures in
+    field-sets 4 c.args.bits 8 c.put_u16.new.out _ _ (omega arith) (omega (arith, c.put_u16.auto.out, length-set o 4 k)) c.put_u32.ensures ∙ ap (λ (l : List ℕ). sets l 8 (bytes_of 4 c.args.bits)) e

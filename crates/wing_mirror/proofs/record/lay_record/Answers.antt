@@ -18,37 +18,33 @@ use Rattle.wing_mirror.proofs.record.lay_record.Goals as goal
 
 pub lay_number-requires : goal.lay_number-requires
 lay_number-requires c =
-    omega (arith, c.lay_head.auto.0, ap length c.requires.0, length-replicate {A = ℕ} 264 0)
+    omega (arith, c.lay_head.auto.out, ap length c.requires.0, length-replicate {A = ℕ} 264 0)
 
 pub lay_number-requires-in-Float : goal.lay_number-requires-in-Float
 lay_number-requires-in-Float c =
-    omega (arith, c.lay_head.auto.0, ap length c.requires.0, length-replicate {A = ℕ} 264 0)
+    omega (arith, c.lay_head.auto.out, ap length c.requires.0, length-replicate {A = ℕ} 264 0)
 
 pub lay_string-requires : goal.lay_string-requires
 unfolding node_value
 lay_string-requires c =
-    let v = c.value-in-String-1.given in
-    (omega (arith, c.lay_head.auto.0, ap length c.requires.0, length-replicate {A = ℕ} 264 0), short (take v.0.0 c.args.string.now) (rw v.1 at c.requires.1))
+    (omega (arith, c.lay_head.auto.out, ap length c.requires.0, length-replicate {A = ℕ} 264 0), short (take c.in-String.n c.args.string.now) (rw c.in-String.is at c.requires.1))
 
 pub returns-in-Integer : goal.returns-in-Integer
 unfolding kind_of payload_of node_value
 returns-in-Integer c =
     let a = c.args in
-    let v = c.value-1.given in
-    let x = v.0.0 in
+    let x = c.in-Integer.x in
     let back : to_z w32 (of_z w32 x) ≡ x = search rules in
-    rw v.1 (record-laid a.id (integer x) a.origin a.out.now c.lay_head.new.0 _ c.requires.0 (rw (to_z-of_z c.ranges.id) at c.lay_head.ensures) (c.lay_number.ensures ∙ ap (λ (u : ℕ). laid_from c.lay_head.new.0 0 (bytes_of 4 u)) (c.of_i32.ensures ∙ ap (unsigned 31) back)))
+    rw c.in-Integer.is (record-laid a.id (integer x) a.origin a.out.now c.lay_head.new.out _ c.requires.0 (rw (to_z-of_z c.ranges.id) at c.lay_head.ensures) (c.lay_number.ensures ∙ ap (λ (u : ℕ). laid_from c.lay_head.new.out 0 (bytes_of 4 u)) (c.of_i32.ensures ∙ ap (unsigned 31) back)))
 
 pub returns-in-Float : goal.returns-in-Float
 unfolding kind_of payload_of node_value
 returns-in-Float c =
     let a = c.args in
-    let v = c.value-in-Float-1.given in
-    rw v.1 (record-laid a.id (float v.0.0) a.origin a.out.now c.lay_head.new.0 _ c.requires.0 (rw (to_z-of_z c.ranges.id) at c.lay_head.ensures) c.lay_number-in-Float.ensures)
+    rw c.in-Float.is (record-laid a.id (float c.in-Float.bits) a.origin a.out.now c.lay_head.new.out _ c.requires.0 (rw (to_z-of_z c.ranges.id) at c.lay_head.ensures) c.lay_number-in-Float.ensures)
 
 pub returns-in-String : goal.returns-in-String
 unfolding kind_of payload_of node_value
 returns-in-String c =
     let a = c.args in
-    let v = c.value-in-String-1.given in
-    rw v.1 (record-laid a.id (string (take v.0.0 a.string.now)) a.origin a.out.now c.lay_head.new.0 _ c.requires.0 (rw (to_z-of_z c.ranges.id) at c.lay_head.ensures) c.lay_string.ensures)
+    rw c.in-String.is (record-laid a.id (string (take c.in-String.n a.string.now)) a.origin a.out.now c.lay_head.new.out _ c.requires.0 (rw (to_z-of_z c.ranges.id) at c.lay_head.ensures) c.lay_string.ensures)

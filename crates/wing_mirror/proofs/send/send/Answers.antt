@@ -23,24 +23,21 @@ pub returns-in-Integer : goal.returns-in-Integer
 unfolding node_value
 returns-in-Integer c =
     let a = c.args in
-    let v = c.value-1.given in
-    let x = v.0.0 in
+    let x = c.in-Integer.x in
     let back : to_z w32 (of_z w32 x) ≡ x = search rules in
-    rw (to_z-of_z c.ranges.id, back) at c.set_int.ensures ∙ ap (λ (w : NodeValue). write_of (set_bytes a.id w) a.out.now) (simp v.1)
+    rw (to_z-of_z c.ranges.id, back) at c.set_int.ensures ∙ ap (λ (w : NodeValue). write_of (set_bytes a.id w) a.out.now) (simp c.in-Integer.is)
 
 pub returns-in-Float : goal.returns-in-Float
 unfolding node_value
 returns-in-Float c =
     let a = c.args in
-    let v = c.value-in-Float-1.given in
-    rw (to_z-of_z c.ranges.id) at c.set_float.ensures ∙ ap (λ (w : NodeValue). write_of (set_bytes a.id w) a.out.now) (simp v.1)
+    rw (to_z-of_z c.ranges.id) at c.set_float.ensures ∙ ap (λ (w : NodeValue). write_of (set_bytes a.id w) a.out.now) (simp c.in-Float.is)
 
 pub returns-in-String : goal.returns-in-String
 unfolding node_value
 returns-in-String c =
     let a = c.args in
-    let v = c.value-in-String-1.given in
-    let n = v.0.0 in
-    let same : string (take n a.string.now) ≡ node_value a.value a.string.now = simp v.1 in
+    let n = c.in-String.n in
+    let same : string (take n a.string.now) ≡ node_value a.value a.string.now = simp c.in-String.is in
     let good : storable (string (take n a.string.now)) ≡ true = rw same c.requires in
     rw (to_z-of_z c.ranges.id) at c.set_string.ensures ∙ string-sent a.id n c.least-len.result a.string.now a.out.now c.least-len.ensures good ∙ ap (λ (w : NodeValue). write_of (set_bytes a.id w) a.out.now) same

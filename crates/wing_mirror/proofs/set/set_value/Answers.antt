@@ -26,14 +26,14 @@ pub returns-then-has_room : goal.returns-then-has_room
 returns-then-has_room c =
     let a = c.args in
     let v = node_value a.value a.string.now in
-    let rec = c.lay_record.new.0 in
+    let rec = c.lay_record.new.out in
     let z = to_z-of_z c.ranges.id in
-    kept-so full a.id v (table a.table.now a.count) a.out.now (sym c.is_usable.ensures ∙ c.if-is_usable.true) refl c.requires rec (rw z at c.lay_record.ensures) c.has_room.result c.has_room.ensures c.if-has_room.true c.send-written.result c.send-written.new.0 (rw z at c.send-written.ensures) c.keep_written.result c.keep_written.new.0 c.keep_written.ensures
+    kept-so full a.id v (table a.table.now a.count) a.out.now (sym c.is_usable.ensures ∙ c.if-is_usable.true) refl c.requires rec (rw z at c.lay_record.ensures) c.has_room.result c.has_room.ensures c.if-has_room.true c.send-written.result c.send-written.new.out (rw z at c.send-written.ensures) c.keep_written.result c.keep_written.new.table c.keep_written.ensures
 
 pub returns-then-is_usable : goal.returns-then-is_usable
 returns-then-is_usable c =
     let a = c.args in
-    rw c.refused.ensures (no_room full a.id (node_value a.value a.string.now) (table a.table.now a.count) a.out.now (sym c.is_usable.ensures ∙ c.if-is_usable.true) refl c.requires c.lay_record.new.0 (rw (to_z-of_z c.ranges.id) at c.lay_record.ensures) c.has_room.result c.has_room.ensures c.if-has_room.false)
+    rw c.refused.ensures (no_room full a.id (node_value a.value a.string.now) (table a.table.now a.count) a.out.now (sym c.is_usable.ensures ∙ c.if-is_usable.true) refl c.requires c.lay_record.new.out (rw (to_z-of_z c.ranges.id) at c.lay_record.ensures) c.has_room.result c.has_room.ensures c.if-has_room.false)
 
 pub returns : goal.returns
 returns c =

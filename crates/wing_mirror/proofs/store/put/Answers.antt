@@ -19,7 +19,7 @@ lay-requires c =
 pub returns-then-position : goal.returns-then-position
 returns-then-position c =
     let a = c.args in
-    over-it a.width a.table.now a.rec.now a.count c.requires.0 c.requires.1 c.key.result c.key.ensures c.search-position.result c.search-position.ensures c.lay.new.0 c.if-position.true c.lay.ensures
+    over-it a.width a.table.now a.rec.now a.count c.requires.0 c.requires.1 c.key.result c.key.ensures c.search-position.result c.search-position.ensures c.lay.new.out c.if-position.true c.lay.ensures
 
 pub open_gap-requires : goal.open_gap-requires
 open_gap-requires c =
@@ -33,12 +33,12 @@ lay-requires-then-count-places_of c =
     let a = c.args in
     let most = in_table a.width a.table.now a.rec.now a.count c.requires.0 c.requires.1 c.key.result c.key.ensures c.search-position.result c.search-position.ensures in
     let all = free-fits a.width a.count (length a.table.now) (rw c.places_of.ensures at c.if-count-places_of.true) in
-    omega (arith, most, all, c.open_gap.auto.0)
+    omega (arith, most, all, c.open_gap.auto.buf)
 
 pub returns-then-count-places_of : goal.returns-then-count-places_of
 returns-then-count-places_of c =
     let a = c.args in
-    new-one a.width a.table.now a.rec.now a.count c.requires.0 c.requires.1 c.key.result c.key.ensures c.search-position.result c.search-position.ensures c.open_gap.new.0 c.lay-then-count-places_of.new.0 c.if-position.false (rw c.places_of.ensures at c.if-count-places_of.true) c.open_gap.ensures c.lay-then-count-places_of.ensures
+    new-one a.width a.table.now a.rec.now a.count c.requires.0 c.requires.1 c.key.result c.key.ensures c.search-position.result c.search-position.ensures c.open_gap.new.buf c.lay-then-count-places_of.new.out c.if-position.false (rw c.places_of.ensures at c.if-count-places_of.true) c.open_gap.ensures c.lay-then-count-places_of.ensures
 
 pub returns : goal.returns
 returns c =

@@ -10,7 +10,7 @@ returns c =
     let args = c.args in
     let parent : to_z w32 (of_z w32 args.d.parent_id) ≡ args.d.parent_id = search rules in
     let own : to_z w32 (of_z w32 args.d.id) ≡ args.d.id = search rules in
-    let min : to_z w32 (of_z w32 args.min-int) ≡ args.min-int = search rules in
-    let max : to_z w32 (of_z w32 args.max-int) ≡ args.max-int = search rules in
+    let min : to_z w32 (of_z w32 args.min_int) ≡ args.min_int = search rules in
+    let max : to_z w32 (of_z w32 args.max_int) ≡ args.max_int = search rules in
     let steps : to_z w32 (of_z w32 args.steps) ≡ args.steps = search rules in
     rw (parent, own, min, max, steps) (simp (c.type_number.ensures, c.unit_number.ensures))

@@ -1,4 +1,5 @@
 -- The bytes from the first item to the place that `past_items` comes to; the other details have none.
+use borrow.Enum.Refused.{opened}
 use mathlib.Core.Path.{◌≡◌, refl, ◌∙◌}
 use mathlib.Core.List.{List, [], ◌∷◌}
 use Prim.Native.Nat.{ℕ}
@@ -27,4 +28,4 @@ returns-in-Items c =
 pub returns-in_default : goal.returns-in_default
 returns-in_default c =
     let args = c.args in
-    (c.part_of-in_default.ensures.0, c.part_of-in_default.ensures.1, c.part_of-in_default.ensures.2 ∙ no_bytes args.body.now args.kind args.details c.in_default.keys2)
+    (c.part_of-in_default.ensures.0, c.part_of-in_default.ensures.1, c.part_of-in_default.ensures.2 ∙ no_bytes args.body.now args.kind args.details (opened c.in_default.in_default-own.keys2))

@@ -13,7 +13,7 @@ pub returns-in-LinearFloat : goal.returns-in-LinearFloat
 unfolding details_at times
 returns-in-LinearFloat c =
     let start = c.args in
-    c.floats.ensures ∙ by_arm (λ t. details_at LinearFloat start.body.now start.c ≡ details_at t start.body.now start.c) (1 ∷ 2 ∷ []) start.kind c.in-LinearFloat.keys1 (refl, (refl, tt))
+    c.floats.ensures ∙ by_arm (λ t. details_at LinearFloat start.body.now start.c ≡ details_at t start.body.now start.c) (1 ∷ 2 ∷ []) start.kind c.in-LinearFloat.in-LinearFloat-own.keys1 (refl, (refl, tt))
 
 pub returns-in-Integer : goal.returns-in-Integer
 returns-in-Integer c = simp (c.in-Integer.is, c.integers.ensures)
@@ -34,4 +34,4 @@ pub returns-in-Node : goal.returns-in-Node
 unfolding details_at reads after times
 returns-in-Node c =
     let start = c.args in
-    by_arm (λ t. record { details = None; next = start.c } ≡ details_at t start.body.now start.c) (0 ∷ 3 ∷ []) start.kind c.in-Node.keys6 (refl, (refl, tt))
+    by_arm (λ t. record { details = None; next = start.c } ≡ details_at t start.body.now start.c) (0 ∷ 3 ∷ []) start.kind c.in-Node.in-Node-own.keys6 (refl, (refl, tt))

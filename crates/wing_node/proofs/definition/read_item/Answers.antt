@@ -1,4 +1,5 @@
 -- Each arm is `item_at` at the types that it takes, by the contract of the function that it calls.
+use borrow.Enum.Refused.{opened}
 use mathlib.Core.Path.{◌≡◌, refl}
 use mathlib.Core.List.{[], ◌∷◌}
 use Rattle.wing_node.specs.Cursor.{reads, after}
@@ -18,5 +19,5 @@ pub returns-in_default : goal.returns-in_default
 unfolding item_at reads after
 returns-in_default c =
     let start = c.args in
-    by_arm (λ t. record { item = None; next = start.c } ≡ item_at t start.body.now start.c) (0 ∷ 1 ∷ 2 ∷ 3 ∷ 4 ∷ 7 ∷ []) start.kind c.in_default.keys3
+    by_arm (λ t. record { item = None; next = start.c } ≡ item_at t start.body.now start.c) (0 ∷ 1 ∷ 2 ∷ 3 ∷ 4 ∷ 7 ∷ []) start.kind (opened c.in_default.in_default-own.keys3)
     (refl, (refl, (refl, (refl, (refl, (refl, tt))))))

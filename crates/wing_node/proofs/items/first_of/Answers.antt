@@ -1,4 +1,5 @@
 -- Each arm is the line of `walk_from` with the variants that it takes.
+use borrow.Enum.Refused.{opened}
 use mathlib.Core.Path.{◌≡◌, refl}
 use mathlib.Core.List.{[], ◌∷◌}
 use types.Run.{OneOf, miss}
@@ -22,4 +23,4 @@ pub returns-in-Items : goal.returns-in-Items
 returns-in-Items c = simp c.in-Items.is
 
 pub returns-in_default : goal.returns-in_default
-returns-in_default c = without-items c.args.details c.in_default.keys2 c.args.kind
+returns-in_default c = without-items c.args.details (opened c.in_default.in_default-own.keys2) c.args.kind

@@ -40,5 +40,5 @@ returns-in-7 c = simp c.in-7.is
 pub returns-in_default : goal.returns-in_default
 unfolding unit_of
 returns-in_default c =
-    let r = c.in_default.rest in
+    let r = c.in_default.in_default-own.rest in
     sym (get_or-eq_default units _ (over-seven c.args.n r.0.0.0.0.0.0.0.1 r.0.0.0.0.0.0.1 r.0.0.0.0.0.1 r.0.0.0.0.1 r.0.0.0.1 r.0.0.1 r.0.1 r.1))

@@ -27,4 +27,4 @@ loop-i-preserved c =
     c.loop-i.invariant ∙ ascii-passed 4 s c.loop-i.i (sym c.ascii_4.ensures ∙ c.loop-i-test.true)
 
 pub returns : goal.returns
-returns c = longest-by _ (c.good_from.ensures ∙ sym c.loop-i.invariant)
+returns c = let p = longest-by _ (c.good_from.ensures ∙ sym c.loop-i.invariant) in record { value = p.0; longest = p.1 }

@@ -11,4 +11,5 @@ pub returns : goal.returns
 unfolding utf8
 returns c =
     let s = c.args.s.now in
-    decides-by s (ap (λ n. eqb n (length s)) c.good_len.ensures.value)
+    let p = decides-by s (ap (λ n. eqb n (length s)) c.good_len.ensures.value) in
+    record { value = p.0; decides = p.1 }

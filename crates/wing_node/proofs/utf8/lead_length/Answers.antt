@@ -32,6 +32,6 @@ returns-else-lead-lt245 c =
 
 pub returns-in_default : goal.returns-in_default
 returns-in_default c =
-    let n = c.in_default.rest in
+    let n = c.in_default.in_default-own.rest in
     rw (← (lead c.args.lead (search rules)).long, ← c.class_of-class.ensures)
     (simp (ne_eqb _ _ n.1, ne_eqb _ _ n.0.1, ne_eqb _ _ n.0.0.1, ne_eqb _ _ n.0.0.0.1))

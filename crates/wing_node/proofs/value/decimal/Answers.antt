@@ -19,4 +19,4 @@ returns c =
     let x = c.args.x in
     let e = rw (to_z-of_z c.ranges.x) at c.put_decimal-k.ensures.0 in
     let o = rw (to_z-of_z c.ranges.x) at c.put_decimal-k.ensures.1 in
-    answered (decimal x) c.put_decimal-k.new.0 c.put_decimal-k.result e (o ∙ put-zeros (decimal x) 256 (omega (arith, decimal-few x c.ranges.x)))
+    answered (decimal x) c.put_decimal-k.new.out c.put_decimal-k.result e (o ∙ put-zeros (decimal x) 256 (omega (arith, decimal-few x c.ranges.x)))

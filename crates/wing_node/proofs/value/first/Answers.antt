@@ -11,10 +11,10 @@ pub returns-then-n-lt256 : goal.returns-then-n-lt256
 returns-then-n-lt256 c =
     let a = c.args in
     let l : length a.bytes ≡ 256 = search rules in
-    answered (take a.n a.bytes) c.zero_from.new.1.0 a.n (omega (arith, length-take a.n a.bytes, l, c.if-n-lt256.true)) (c.zero_from.ensures ∙ zeroed_first 256 a.n a.bytes l)
+    answered (take a.n a.bytes) c.zero_from.new.out a.n (omega (arith, length-take a.n a.bytes, l, c.if-n-lt256.true)) (c.zero_from.ensures ∙ zeroed_first 256 a.n a.bytes l)
 
 pub returns-else-n-lt256 : goal.returns-else-n-lt256
 returns-else-n-lt256 c =
     let a = c.args in
     let l : length a.bytes ≡ 256 = search rules in
-    answered (take a.n a.bytes) c.zero_from.new.1.0 256 (omega (arith, length-take a.n a.bytes, l, c.if-n-lt256.false)) (c.zero_from.ensures ∙ zeroed_first 256 a.n a.bytes l)
+    answered (take a.n a.bytes) c.zero_from.new.out 256 (omega (arith, length-take a.n a.bytes, l, c.if-n-lt256.false)) (c.zero_from.ensures ∙ zeroed_first 256 a.n a.bytes l)

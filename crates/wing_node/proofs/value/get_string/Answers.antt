@@ -10,10 +10,9 @@ use Rattle.wing_node.proofs.value.get_string.Goals as goal
 pub returns-in-Integer : goal.returns-in-Integer
 unfolding node_value string_in
 returns-in-Integer c =
-    let v = c.v-1.given in
-    let x = v.0.0 in
+    let x = c.in-Integer.x in
     let back : to_z w32 (of_z w32 x) ≡ x = search rules in
-    c.decimal.ensures ∙ ap (λ y. answer_of (some (decimal y))) back ∙ simp v.1
+    c.decimal.ensures ∙ ap (λ y. answer_of (some (decimal y))) back ∙ simp c.in-Integer.is
 
 pub returns-in-Float : goal.returns-in-Float
 unfolding node_value string_in answer_of

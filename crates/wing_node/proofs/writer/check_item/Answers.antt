@@ -1,4 +1,5 @@
 -- Each arm is the fields of an item of its types: the second string stands where the first ends, the float bits take four bytes.
+use borrow.Enum.Refused.{opened}
 use mathlib.Core.Path.{◌≡◌, refl, ◌∙◌}
 use mathlib.Core.List.{[], ◌∷◌}
 use Prim.Native.Nat.{◌+◌, ◌<◌}
@@ -36,5 +37,5 @@ returns-in_default c =
     let args = c.args in
     let s = drop args.at args.items.now in
     let z : args.at ≡ args.at + 0 = omega arith in
-    by_arm (λ t. (args.at ≡ args.at + extent (item_of t) s) × (no_fault ≡ texts_fault (item_of t) s)) (0 ∷ 1 ∷ 2 ∷ 3 ∷ 4 ∷ 7 ∷ []) args.kind c.in_default.keys3
+    by_arm (λ t. (args.at ≡ args.at + extent (item_of t) s) × (no_fault ≡ texts_fault (item_of t) s)) (0 ∷ 1 ∷ 2 ∷ 3 ∷ 4 ∷ 7 ∷ []) args.kind (opened c.in_default.in_default-own.keys3)
     ((z, refl), ((z, refl), ((z, refl), ((z, refl), ((z, refl), ((z, refl), tt))))))

@@ -27,7 +27,7 @@ pub lay_limits-requires : goal.lay_limits-requires
 unfolding extent size
 lay_limits-requires c =
     let args = c.args in
-    by_arm (λ t. args.at + extent (map form (added t)) [] ≤ length args.out.now → args.at + 8 ≤ length args.out.now) (1 ∷ 2 ∷ []) args.kind c.in-LinearFloat.keys1
+    by_arm (λ t. args.at + extent (map form (added t)) [] ≤ length args.out.now → args.at + 8 ≤ length args.out.now) (1 ∷ 2 ∷ []) args.kind c.in-LinearFloat.in-LinearFloat-own.keys1
     (λ h. omega arith, (λ h. omega arith, tt)) c.requires.1
 
 pub lay_limits-requires-in-Integer : goal.lay_limits-requires-in-Integer
@@ -41,14 +41,14 @@ returns-in-LinearFloat c =
     let args = c.args in
     let d = args.d in
     let x₀ = args.out.now in
-    let x₁ = c.lay_limits.new.0 in
-    let x₂ = c.put_i32.new.0 in
-    let back : to_z w32 (of_z w32 d.steps) ≡ d.steps = to_z-of_z (record { sfits = c.struct_told-1.given.1.1.1.1.1.1.1.1.1.1.0.1 }) in
-    let room : args.at + 12 ≤ length x₀ = by_arm (λ t. args.at + extent (map form (added t)) [] ≤ length x₀ → args.at + 12 ≤ length x₀) (1 ∷ 2 ∷ []) args.kind c.in-LinearFloat.keys1 (λ h. h, (λ h. h, tt)) c.requires.1 in
+    let x₁ = c.lay_limits.new.out in
+    let x₂ = c.put_i32.new.out in
+    let back : to_z w32 (of_z w32 d.steps) ≡ d.steps = search rules in
+    let room : args.at + 12 ≤ length x₀ = by_arm (λ t. args.at + extent (map form (added t)) [] ≤ length x₀ → args.at + 12 ≤ length x₀) (1 ∷ 2 ∷ []) args.kind c.in-LinearFloat.in-LinearFloat-own.keys1 (λ h. h, (λ h. h, tt)) c.requires.1 in
     let e₂ : x₂ ≡ sets x₁ (args.at + 8) (bytes_of 4 (unsigned 31 d.steps)) =
-    field-sets 4 _ _ x₁ x₂ _ (omega arith) (omega (arith, c.lay_limits.auto.0)) c.put_i32.ensures ∙ ap (λ x. sets x₁ (args.at + 8) (bytes_of 4 (unsigned 31 x))) back in
+    field-sets 4 _ _ x₁ x₂ _ (omega arith) (omega (arith, c.lay_limits.auto.out)) c.put_i32.ensures ∙ ap (λ x. sets x₁ (args.at + 8) (bytes_of 4 (unsigned 31 x))) back in
     let all = limits-steps d.min_float d.max_float (unsigned 31 d.steps) args.at x₀ x₁ x₂ c.lay_limits.ensures e₂ in
-    by_arm (λ t. t ≡ type_given d → x₂ ≡ sets x₀ args.at (laid_by (holds d (lent [] [] [])) (added t))) (1 ∷ 2 ∷ []) args.kind c.in-LinearFloat.keys1
+    by_arm (λ t. t ≡ type_given d → x₂ ≡ sets x₀ args.at (laid_by (holds d (lent [] [] [])) (added t))) (1 ∷ 2 ∷ []) args.kind c.in-LinearFloat.in-LinearFloat-own.keys1
     (λ e. rw (← e) all, (λ e. rw (← e) all, tt)) c.requires.0
 
 pub returns-in-Integer : goal.returns-in-Integer
@@ -57,9 +57,9 @@ returns-in-Integer c =
     let args = c.args in
     let d = args.d in
     let x₀ = args.out.now in
-    let x₁ = c.lay_limits-in-Integer.new.0 in
-    let back : to_z w32 (of_z w32 d.min_int) ≡ d.min_int = to_z-of_z (record { sfits = c.struct_told-in-Integer-1.given.1.1.1.1.1.1.1.1.0.1 }) in
-    let back2 : to_z w32 (of_z w32 d.max_int) ≡ d.max_int = to_z-of_z (record { sfits = c.struct_told-in-Integer-2-1.given.1.1.1.1.1.1.1.1.1.0.1 }) in
+    let x₁ = c.lay_limits-in-Integer.new.out in
+    let back : to_z w32 (of_z w32 d.min_int) ≡ d.min_int = search rules in
+    let back2 : to_z w32 (of_z w32 d.max_int) ≡ d.max_int = search rules in
     let min : c.of_i32.result ≡ unsigned 31 d.min_int = c.of_i32.ensures ∙ ap (unsigned 31) back in
     let max : c.of_i32-in-Integer.result ≡ unsigned 31 d.max_int = c.of_i32-in-Integer.ensures ∙ ap (unsigned 31) back2 in
     let both : x₁ ≡ sets x₀ args.at (bytes_of 4 (unsigned 31 d.min_int) ++ bytes_of 4 (unsigned 31 d.max_int)) =
@@ -73,17 +73,17 @@ returns-in-StringEnum c =
     let args = c.args in
     let d = args.d in
     let x₀ = args.out.now in
-    let x₁ = c.put_u16.new.0 in
-    let room : args.at + 2 ≤ length x₀ = by_arm (λ t. args.at + extent (map form (added t)) [] ≤ length x₀ → args.at + 2 ≤ length x₀) (5 ∷ 6 ∷ []) args.kind c.in-StringEnum.keys3 (λ h. h, (λ h. h, tt)) c.requires.1 in
+    let x₁ = c.put_u16.new.out in
+    let room : args.at + 2 ≤ length x₀ = by_arm (λ t. args.at + extent (map form (added t)) [] ≤ length x₀ → args.at + 2 ≤ length x₀) (5 ∷ 6 ∷ []) args.kind c.in-StringEnum.in-StringEnum-own.keys3 (λ h. h, (λ h. h, tt)) c.requires.1 in
     let all = one-laid x₀ x₁ args.at (bytes_of 2 d.count) (field-sets 2 _ _ x₀ x₁ _ (omega arith) (omega arith) c.put_u16.ensures) in
-    by_arm (λ t. x₁ ≡ sets x₀ args.at (laid_by (holds d (lent [] [] [])) (added t))) (5 ∷ 6 ∷ []) args.kind c.in-StringEnum.keys3 (all, (all, tt))
+    by_arm (λ t. x₁ ≡ sets x₀ args.at (laid_by (holds d (lent [] [] [])) (added t))) (5 ∷ 6 ∷ []) args.kind c.in-StringEnum.in-StringEnum-own.keys3 (all, (all, tt))
 
 pub returns-in-String : goal.returns-in-String
 unfolding laid_all laid extent size
 returns-in-String c =
     let args = c.args in
     let x₀ = args.out.now in
-    let x₁ = c.put_u16-in-String.new.0 in
+    let x₁ = c.put_u16-in-String.new.out in
     let room = rw c.in-String.is at c.requires.1 in
     rw c.in-String.is (one-laid x₀ x₁ args.at (bytes_of 2 args.d.max_len) (field-sets 2 _ _ x₀ x₁ _ (omega arith) (omega (arith, room)) c.put_u16-in-String.ensures))
 
@@ -92,4 +92,4 @@ unfolding laid_all
 returns-in-Node c =
     let args = c.args in
     let x₀ = args.out.now in
-    by_arm (λ t. x₀ ≡ sets x₀ args.at (laid_by (holds args.d (lent [] [] [])) (added t))) (0 ∷ 3 ∷ []) args.kind c.in-Node.keys5 (refl, (refl, tt))
+    by_arm (λ t. x₀ ≡ sets x₀ args.at (laid_by (holds args.d (lent [] [] [])) (added t))) (0 ∷ 3 ∷ []) args.kind c.in-Node.in-Node-own.keys5 (refl, (refl, tt))

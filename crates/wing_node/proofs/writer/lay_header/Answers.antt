@@ -19,7 +19,7 @@ use Rattle.wing_node.proofs.writer.lay_header.Goals as goal
 pub lay_string-end-requires : goal.lay_string-end-requires
 unfolding laid
 lay_string-end-requires c =
-    (omega (arith, c.lay_ids.auto.0, c.lay_string-at.auto.0, c.lay_string-at.ensures.0), omega arith)
+    (omega (arith, c.lay_ids.auto.out, c.lay_string-at.auto.out, c.lay_string-at.ensures.0), omega arith)
 
 pub overflow_add-result : goal.overflow_add-result
 unfolding laid
@@ -32,14 +32,14 @@ returns c =
     let args = c.args in
     let d = args.d in
     let x₀ = args.out.now in
-    let x₁ = c.lay_ids.new.0 in
-    let x₃ = c.lay_string-end.new.0 in
+    let x₁ = c.lay_ids.new.out in
+    let x₃ = c.lay_string-end.new.out in
     let n = c.lay_string-end.result in
     let parent : to_z w32 (of_z w32 d.parent_id) ≡ d.parent_id = search rules in
     let own : to_z w32 (of_z w32 d.id) ≡ d.id = search rules in
     let e₁ : x₁ ≡ sets x₀ 0 (bytes_of 4 (unsigned 31 d.parent_id) ++ (bytes_of 4 (unsigned 31 d.id) ++ bytes_of 2 d.index)) =
     c.lay_ids.ensures ∙ (λ j. sets x₀ 0 (bytes_of 4 (unsigned 31 (parent j)) ++ (bytes_of 4 (unsigned 31 (own j)) ++ bytes_of 2 d.index))) in
-    let room : 2 ≤ length x₃ - n = omega (arith, c.lay_string-end.ensures.0, c.lay_string-at.ensures.0, c.lay_string-end.auto.0, c.lay_string-at.auto.0, c.lay_ids.auto.0, c.requires) in
-    let e₄ : c.put_u16.new.0 ≡ sets x₃ n (bytes_of 2 (flags_of d.node_type d.unit d.read_only)) =
+    let room : 2 ≤ length x₃ - n = omega (arith, c.lay_string-end.ensures.0, c.lay_string-at.ensures.0, c.lay_string-end.auto.out, c.lay_string-at.auto.out, c.lay_ids.auto.out, c.requires) in
+    let e₄ : c.put_u16.new.out ≡ sets x₃ n (bytes_of 2 (flags_of d.node_type d.unit d.read_only)) =
     field-sets 2 _ n x₃ _ _ (omega arith) room c.put_u16.ensures ∙ ap (λ f. sets x₃ n (bytes_of 2 f)) c.flags_of.ensures in
-    header-laid d args.name.now args.long-name.now x₀ x₁ c.lay_string-at.new.0 x₃ c.put_u16.new.0 c.lay_string-at.result n e₁ c.lay_string-at.ensures c.lay_string-end.ensures e₄
+    header-laid d args.name.now args.long_name.now x₀ x₁ c.lay_string-at.new.out x₃ c.put_u16.new.out c.lay_string-at.result n e₁ c.lay_string-at.ensures c.lay_string-end.ensures e₄

@@ -25,5 +25,5 @@ text_fault-requires-2 c = omega (arith, c.if-long_name-gt255.false)
 pub returns : goal.returns
 returns c =
     let args = c.args in
-    let names : c.first_fault-names.result ≡ first_fault (text_fault args.name.now) (text_fault args.long-name.now) = c.first_fault-names.ensures ∙ (λ j. first_fault (c.text_fault.ensures j) (c.text_fault-2.ensures j)) in
-    rw names at c.fields_fault.ensures ∙ lent-names args.d (lent args.name.now args.long-name.now args.items.now) c.if-name-gt255.false c.if-long_name-gt255.false
+    let names : c.first_fault-names.result ≡ first_fault (text_fault args.name.now) (text_fault args.long_name.now) = c.first_fault-names.ensures ∙ (λ j. first_fault (c.text_fault.ensures j) (c.text_fault-2.ensures j)) in
+    rw names at c.fields_fault.ensures ∙ lent-names args.d (lent args.name.now args.long_name.now args.items.now) c.if-name-gt255.false c.if-long_name-gt255.false

@@ -10,27 +10,27 @@ use Rattle.wing_node.proofs.writer.to_bytes.Goals as goal
 pub returns-in-Refused : goal.returns-in-Refused
 returns-in-Refused c =
     let args = c.args in
-    effect-refused args.d (lent args.name.now args.long-name.now args.items.now) args.out.now _ (sym c.in-Refused.is ∙ c.lent_fault-fault.ensures)
+    effect-refused args.d (lent args.name.now args.long_name.now args.items.now) args.out.now _ (sym c.in-Refused.is ∙ c.lent_fault-fault.ensures)
 
 pub overflow_add-len-2 : goal.overflow_add-len-2
 overflow_add-len-2 c =
     let args = c.args in
-    omega (arith, names-short args.d (lent args.name.now args.long-name.now args.items.now) args.out.now (sym c.in-None.is ∙ c.lent_fault-fault.ensures))
+    omega (arith, names-short args.d (lent args.name.now args.long_name.now args.items.now) args.out.now (sym c.in-None.is ∙ c.lent_fault-fault.ensures))
 
 pub overflow_add-len-3 : goal.overflow_add-len-3
 overflow_add-len-3 c =
     let args = c.args in
-    omega (arith, c.added_len.ensures, added-small c.type_of-kind.result, names-short args.d (lent args.name.now args.long-name.now args.items.now) args.out.now (sym c.in-None.is ∙ c.lent_fault-fault.ensures))
+    omega (arith, c.added_len.ensures, added-small c.type_of-kind.result, names-short args.d (lent args.name.now args.long_name.now args.items.now) args.out.now (sym c.in-None.is ∙ c.lent_fault-fault.ensures))
 
 pub overflow_add-len-4 : goal.overflow_add-len-4
 overflow_add-len-4 c =
     let args = c.args in
-    omega (arith, c.added_len.ensures, added-small c.type_of-kind.result, names-short args.d (lent args.name.now args.long-name.now args.items.now) args.out.now (sym c.in-None.is ∙ c.lent_fault-fault.ensures))
+    omega (arith, c.added_len.ensures, added-small c.type_of-kind.result, names-short args.d (lent args.name.now args.long_name.now args.items.now) args.out.now (sym c.in-None.is ∙ c.lent_fault-fault.ensures))
 
 pub returns-then-len-gt4096 : goal.returns-then-len-gt4096
 returns-then-len-gt4096 c =
     let args = c.args in
-    let l = lent args.name.now args.long-name.now args.items.now in
+    let l = lent args.name.now args.long_name.now args.items.now in
     let none = sym c.in-None.is ∙ c.lent_fault-fault.ensures in
     let size = body-size args.d l c.type_of-kind.result c.added_len.result c.type_of-kind.ensures c.added_len.ensures in
     effect-large args.d l args.out.now none (omega (arith, size, c.if-len-gt4096.true))
@@ -38,7 +38,7 @@ returns-then-len-gt4096 c =
 pub returns-then-out-len : goal.returns-then-out-len
 returns-then-out-len c =
     let args = c.args in
-    let l = lent args.name.now args.long-name.now args.items.now in
+    let l = lent args.name.now args.long_name.now args.items.now in
     let none = sym c.in-None.is ∙ c.lent_fault-fault.ensures in
     let size = body-size args.d l c.type_of-kind.result c.added_len.result c.type_of-kind.ensures c.added_len.ensures in
     effect-short args.d l args.out.now none (omega (arith, size, c.if-len-gt4096.false)) (omega (arith, size, c.if-out-len.true))
@@ -46,14 +46,14 @@ returns-then-out-len c =
 pub lay_body-requires : goal.lay_body-requires
 lay_body-requires c =
     let args = c.args in
-    let l = lent args.name.now args.long-name.now args.items.now in
+    let l = lent args.name.now args.long_name.now args.items.now in
     let short = names-short args.d l args.out.now (sym c.in-None.is ∙ c.lent_fault-fault.ensures) in
-    ((c.type_of-kind.ensures, short.0, short.1), omega (arith, c.added_len.ensures, c.if-out-len.false))
+    record { kind_value = (c.type_of-kind.ensures, short.0, short.1); in_bounds = omega (arith, c.added_len.ensures, c.if-out-len.false) }
 
 pub returns : goal.returns
 returns c =
     let args = c.args in
-    let l = lent args.name.now args.long-name.now args.items.now in
+    let l = lent args.name.now args.long_name.now args.items.now in
     let none = sym c.in-None.is ∙ c.lent_fault-fault.ensures in
     let size = body-size args.d l c.type_of-kind.result c.added_len.result c.type_of-kind.ensures c.added_len.ensures in
     (λ j. body_effect (Bytes (size j)) (c.lay_body.ensures j)) ∙

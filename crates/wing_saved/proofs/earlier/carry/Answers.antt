@@ -14,5 +14,5 @@ pub returns : goal.returns
 returns c =
     let a = c.args in
     let k : to_z w32 (of_z w32 a.c.node) ≡ a.c.node = search rules in
-    let e : c.lay.new.0 ≡ a.bytes.now = c.lay.ensures ∙ laid_same a.bytes.now (replicate body_limit 0) (length-replicate {A = ℕ} body_limit 0 ∙ sym (search rules)) in
+    let e : c.lay.new.out ≡ a.bytes.now = c.lay.ensures ∙ laid_same a.bytes.now (replicate body_limit 0) (length-replicate {A = ℕ} body_limit 0 ∙ sym (search rules)) in
     c.loaded.ensures ∙ rw (c.carry_over.ensures, carried-result _, k, e, c.narrow-was.ensures)

@@ -11,7 +11,7 @@ use Rattle.wing_wire.proofs.laying.lay_escaped.Given as goal
 
 abbrev pub invariant-loop-i : goal.invariant-loop-i
 invariant-loop-i l =
-    (l.i ≤ length l.initial.out) × (l.next ≤ l.bytes + 2 * l.i) × (length l.out ≡ length l.at) × Laid (escaped (take l.i l.initial.out)) l.bytes l.at l.out l.next
+    (l.i ≤ length l.bytes) × (l.next ≤ l.at + 2 * l.i) × (length l.out ≡ length l.initial.out) × Laid (escaped (take l.i l.bytes)) l.at l.initial.out l.out l.next
 
 abbrev pub decreases-loop-i : goal.decreases-loop-i
-decreases-loop-i l = length l.initial.out - l.i
+decreases-loop-i l = length l.bytes - l.i

@@ -12,7 +12,7 @@ use Rattle.wing_wire.proofs.meter.fill_readings.Given as goal
 
 abbrev pub invariant-loop-i : goal.invariant-loop-i
 invariant-loop-i l =
-    (l.i ≤ l.initial.out) × (length l.out ≡ length l.count) × (l.out ≡ take l.i (readings (drop 4 l.packet)) ++ drop l.i l.count)
+    (l.i ≤ l.count) × (length l.out ≡ length l.initial.out) × (l.out ≡ take l.i (readings (drop 4 l.packet)) ++ drop l.i l.initial.out)
 
 abbrev pub decreases-loop-i : goal.decreases-loop-i
-decreases-loop-i l = l.initial.out - l.i
+decreases-loop-i l = l.count - l.i

@@ -12,13 +12,13 @@ use Rattle.wing_wire.proofs.meter.keep_alive_meters.Goals as goal
 
 pub returns-then-out-keep_alives_len : goal.returns-then-out-keep_alives_len
 returns-then-out-keep_alives_len c =
-    let m : length c.args.out.now < length (keep_alives c.args.port c.args.last-id) = omega (arith, c.keep_alives_len.ensures) in
-    short (keep_alives c.args.port c.args.last-id) c.args.out.now m
+    let m : length c.args.out.now < length (keep_alives c.args.port c.args.last_id) = omega (arith, c.keep_alives_len.ensures) in
+    short (keep_alives c.args.port c.args.last_id) c.args.out.now m
 
 pub lay_keep_alives-requires : goal.lay_keep_alives-requires
 lay_keep_alives-requires c =
-    ⊎_elim (λ w. omega (arith, w.1.ensures)) (λ w. omega (arith, keep-alives-le c.args.port c.args.last-id)) c.if-out-last_id.branch
+    ⊎_elim (λ w. omega (arith, w.1.ensures)) (λ w. omega (arith, keep-alives-le c.args.port c.args.last_id)) c.if-out-last_id.branch
 
 pub returns : goal.returns
 returns c =
-    written c.lay_keep_alives.ensures (⊎_elim (λ w. omega (arith, w.1.ensures)) (λ w. omega (arith, keep-alives-le c.args.port c.args.last-id)) c.if-out-last_id.branch)
+    written c.lay_keep_alives.ensures (⊎_elim (λ w. omega (arith, w.1.ensures)) (λ w. omega (arith, keep-alives-le c.args.port c.args.last_id)) c.if-out-last_id.branch)

@@ -11,7 +11,7 @@ use Rattle.wing_wire.proofs.meter.lay_meters.Given as goal
 
 abbrev pub invariant-loop-i : goal.invariant-loop-i
 invariant-loop-i l =
-    (l.i ≤ l.meters) × (l.next ≤ l.count + 3 * l.i) × (length l.out ≡ length l.at) × Laid (meters_bytes (take l.i l.initial.out)) l.count l.at l.out l.next
+    (l.i ≤ l.count) × (l.next ≤ l.at + 3 * l.i) × (length l.out ≡ length l.initial.out) × Laid (meters_bytes (take l.i l.meters)) l.at l.initial.out l.out l.next
 
 abbrev pub decreases-loop-i : goal.decreases-loop-i
-decreases-loop-i l = l.meters - l.i
+decreases-loop-i l = l.count - l.i

@@ -9,7 +9,7 @@ use Rattle.wing_wire.proofs.Reading.Overs.{over-turn, length_over, over-least}
 use Rattle.wing_wire.proofs.reader.copy_front.Given as goal
 
 abbrev pub invariant-loop-i : goal.invariant-loop-i
-invariant-loop-i l = (l.i ≤ l.initial.out) × (l.initial.out ≡ min (min l.most (length l.n)) (length l.s)) × (l.out ≡ over (take l.i l.n) l.s)
+invariant-loop-i l = (l.i ≤ l.most) × (l.most ≡ min (min l.n (length l.s)) (length l.initial.out)) × (l.out ≡ over (take l.i l.s) l.initial.out)
 
 abbrev pub decreases-loop-i : goal.decreases-loop-i
-decreases-loop-i l = l.initial.out - l.i
+decreases-loop-i l = l.most - l.i

@@ -18,5 +18,5 @@ returns-in-3 c = rw c.in-3.is
 
 pub returns-in_default : goal.returns-in_default
 returns-in_default c =
-    let r = c.in_default.rest in
+    let r = c.in_default.in_default-own.rest in
     sym (lt-ltb _ _ (below_power c.args.value c.args.units c.ranges.value.fits r.0.0.0.1 r.0.0.1 r.0.1 r.1))

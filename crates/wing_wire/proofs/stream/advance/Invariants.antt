@@ -9,7 +9,7 @@ use Rattle.wing_wire.proofs.Reading.Plains.{whole, once-whole, once-less, whole-
 use Rattle.wing_wire.proofs.stream.advance.Given as goal
 
 abbrev pub invariant-loop-d : goal.invariant-loop-d
-invariant-loop-d l = (length l.store ≡ length l.bytes) × (whole l.initial.store (stepped_effect (step_effect l.initial.t l.bytes) 0) ≡ whole l.initial.store (stepped_effect (step_effect l.t l.store) l.i))
+invariant-loop-d l = (length l.store ≡ length l.initial.store) × (whole l.bytes (stepped_effect (step_effect l.initial.t l.initial.store) 0) ≡ whole l.bytes (stepped_effect (step_effect l.t l.store) l.i))
 
 abbrev pub decreases-loop-d : goal.decreases-loop-d
-decreases-loop-d l = 2 * (length l.initial.store - l.i) + pending_count l.t.control.escape.pending
+decreases-loop-d l = 2 * (length l.bytes - l.i) + pending_count l.t.control.escape.pending

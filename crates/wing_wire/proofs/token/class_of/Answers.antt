@@ -49,7 +49,7 @@ returns-in-9 c = simp c.in-9.is
 pub returns-in_default : goal.returns-in_default
 unfolding class_of
 returns-in_default c =
-    let r = c.in_default.rest in
+    let r = c.in_default.in_default-own.rest in
     let n = c.args.n in
     let e = over-seven n r.0.0.0.0.0.0.0.0.0.1 r.0.0.0.0.0.0.0.0.1 r.0.0.0.0.0.0.0.1 r.0.0.0.0.0.0.1 r.0.0.0.0.0.1 r.0.0.0.0.1 r.0.0.0.1 r.0.0.1 in
     sym (get_or-eq_default classes _ (over-nine n e r.0.1 r.1))

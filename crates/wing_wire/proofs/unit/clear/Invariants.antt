@@ -10,7 +10,7 @@ use Rattle.wing_wire.proofs.Reading.Clears.{cleared-turn, cleared-all}
 use Rattle.wing_wire.proofs.unit.clear.Given as goal
 
 abbrev pub invariant-loop-i : goal.invariant-loop-i
-invariant-loop-i l = (length l.store ≡ length l.n) × (l.i ≤ l.initial.store) × (l.store ≡ cleared l.i l.n) × (l.initial.store ≤ length l.n) × (cleared l.initial.store l.n ≡ cleared l.end l.n)
+invariant-loop-i l = (length l.store ≡ length l.initial.store) × (l.i ≤ l.end) × (l.store ≡ cleared l.i l.initial.store) × (l.end ≤ length l.initial.store) × (cleared l.end l.initial.store ≡ cleared l.n l.initial.store)
 
 abbrev pub decreases-loop-i : goal.decreases-loop-i
-decreases-loop-i l = l.initial.store - l.i
+decreases-loop-i l = l.end - l.i
