@@ -80,7 +80,7 @@ pub data InTable : List StreamUnit → TokenResult → Type 0 where
   -- d5, d6: 32 float bits
   float_bits : (t : ℕ) (a : Bool) (us : List StreamUnit) → From 0xd5 0xd6 t → Further 4 us → InTable (stream_unit t a ∷ us) (event (value (float (big (values us)))))
   -- d7: 32 bits: new current node, no event
-  new_node : (a : Bool) (us : List StreamUnit) → Further 4 us → InTable (stream_unit 0xd7 a ∷ us) (new_node (signed 31 (big (values us))))
+  new_node_d7 : (a : Bool) (us : List StreamUnit) → Further 4 us → InTable (stream_unit 0xd7 a ∷ us) (new_node (signed 31 (big (values us))))
   -- d2, d9: two units, one unit, no event
   skips_two : (a : Bool) (us : List StreamUnit) → Further 2 us → InTable (stream_unit 0xd2 a ∷ us) nothing
   skips_one : (a : Bool) (us : List StreamUnit) → Further 1 us → InTable (stream_unit 0xd9 a ∷ us) nothing

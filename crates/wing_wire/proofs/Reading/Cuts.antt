@@ -23,7 +23,7 @@ use Rattle.wing_wire.specs.Stream.{Fed}
 use Rattle.wing_wire.specs.Reader.{Event, value, body, end, refused, event_of}
 use Rattle.wing_wire.specs.Range.{AreBytes, no_bytes, byte_then, PendingByte, no_pending, pending_byte}
 use Rattle.wing_wire.specs.Units.{StreamUnit, stream_unit, pending_units, byte_units, settled, units_of}
-use Rattle.wing_wire.specs.Tokens.{values, appended, Further, TokenResult, event, nothing, new_node, string_of, InForce, short, long, InTable, integer_t, string_80, string_c0, string_d0, string_d1, integer_16, integer_32, float_bits, new_node, skips_two, skips_one, end_unit, bodies, count_over, counts_zero, no_event, Cut, token, waits, CutOf, node_after, through, between, after, Holds, handed_on, Read, Tokens, UnitsAreBytes}
+use Rattle.wing_wire.specs.Tokens.{values, appended, Further, TokenResult, event, nothing, new_node, string_of, InForce, short, long, InTable, integer_t, string_80, string_c0, string_d0, string_d1, integer_16, integer_32, float_bits, new_node_d7, skips_two, skips_one, end_unit, bodies, count_over, counts_zero, no_event, Cut, token, waits, CutOf, node_after, through, between, after, Holds, handed_on, Read, Tokens, UnitsAreBytes}
 use Rattle.wing_wire.specs.declared.state.Escape.{Escape}
 use Rattle.wing_wire.specs.declared.state.Pending.{Pending}
 use Rattle.wing_wire.specs.declared.state.Pending.TheVariants.{None, Byte}
@@ -219,7 +219,7 @@ module _ (t : ℕ) (a : Bool) where
       (λ l. upto t 0xd3 (λ k. same l k (record { number = 2; result = λ us. event (value (integer (signed 15 (big (values us))))); token = λ us f. integer_16 a us f }))
       (λ l. upto t 0xd4 (λ k. same l k (record { number = 4; result = λ us. event (value (integer (signed 31 (big (values us))))); token = λ us f. integer_32 a us f }))
       (λ l. upto t 0xd6 (λ k. record { number = 4; result = λ us. event (value (float (big (values us)))); token = λ us f. float_bits t a us (l, k) f })
-      (λ l. upto t 0xd7 (λ k. same l k (record { number = 4; result = λ us. new_node (signed 31 (big (values us))); token = λ us f. new_node a us f }))
+      (λ l. upto t 0xd7 (λ k. same l k (record { number = 4; result = λ us. new_node (signed 31 (big (values us))); token = λ us f. new_node_d7 a us f }))
       (λ l. upto t 0xd8 (λ k. wants-none t a nothing (no_event t a (inr (inl (l, k)))))
       (λ l. upto t 0xd9 (λ k. same l k (record { number = 1; result = λ us. nothing; token = λ us f. skips_one a us f }))
       (λ l. upto t 0xdd (λ k. wants-none t a nothing (no_event t a (inr (inr (inl (l, k))))))

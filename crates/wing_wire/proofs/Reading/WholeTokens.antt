@@ -26,7 +26,7 @@ use Rattle.wing_wire.specs.Stream.{after_unit, Fed, handle}
 use Rattle.wing_wire.specs.Reader.{Event, value, body, end, refused, event_of}
 use Rattle.wing_wire.specs.Range.{AreBytes, no_bytes, byte_then}
 use Rattle.wing_wire.specs.Units.{StreamUnit, stream_unit, unit_taken, units_taken}
-use Rattle.wing_wire.specs.Tokens.{empty_store, values, appended, Further, From, Rest, TokenResult, event, nothing, new_node, string_of, between, after, Holds, Token, InForce, short, long, InTable, integer_t, string_80, string_c0, string_d0, string_d1, integer_16, integer_32, float_bits, new_node, skips_two, skips_one, end_unit, bodies, count_over, counts_zero, no_event}
+use Rattle.wing_wire.specs.Tokens.{empty_store, values, appended, Further, From, Rest, TokenResult, event, nothing, new_node, string_of, between, after, Holds, Token, InForce, short, long, InTable, integer_t, string_80, string_c0, string_d0, string_d1, integer_16, integer_32, float_bits, new_node_d7, skips_two, skips_one, end_unit, bodies, count_over, counts_zero, no_event}
 use Rattle.wing_wire.specs.declared.token.Class.{Class}
 use Rattle.wing_wire.specs.declared.token.Class.TheVariants.{NoEvent, Integer, String, Length, Int16, Int32, Float, Node, End, Count, LongCount}
 use Rattle.wing_wire.specs.declared.state.Escape.{Escape}
@@ -493,7 +493,7 @@ module _ {M : Type 0} (h : ℤ → Event → M → M) where
       number-token 0xd3 a Int16 1 vs (event (value (integer (signed 15 (big (values vs)))))) refl refl (omega arith) f (λ e node m. rw low)
   row us g (integer_32 a vs f) = number-token 0xd4 a Int32 3 vs (event (value (integer (signed 31 (big (values vs)))))) refl refl (omega arith) f (λ e node m. refl)
   row us g (float_bits t a vs r f) = number-token t a Float 3 vs (event (value (float (big (values vs))))) (rule-float t r) refl (omega arith) f (λ e node m. refl)
-  row us g (new_node a vs f) = number-token 0xd7 a Node 3 vs (new_node (signed 31 (big (values vs)))) refl refl (omega arith) f (λ e n m. refl)
+  row us g (new_node_d7 a vs f) = number-token 0xd7 a Node 3 vs (new_node (signed 31 (big (values vs)))) refl refl (omega arith) f (λ e n m. refl)
   row us g (skips_two a vs f) = number-token 0xd2 a NoEvent 1 vs nothing refl refl (omega arith) f (λ e node m. refl)
   row us g (skips_one a vs f) = number-token 0xd9 a NoEvent 0 vs nothing refl refl (omega arith) f (λ e node m. refl)
   row us g (end_unit a) = one_unit 0xde a End (event end) refl (λ e node m. refl)

@@ -7,6 +7,7 @@ use native.Mathlib.Omega.{arith}
 use Rattle.wing_wire.proofs.Writing.Lays.{stored, past}
 use borrow.Author.Rules.{rules}
 use Rattle.wing_wire.proofs.laying.lay.Goals as goal
+use Rattle.wing_wire.proofs.laying.lay.Goals.{then-at-out, else-at-out}
 
 pub returns : goal.returns
-returns c = ⊎_elim (λ w. rw w.1 (stored _ _ _)) (λ w. rw w.1 (past _ _ _ (omega arith))) c.if-at-out.branch
+returns c = elim c.if-at-out.branch [ then-at-out w ↦ rw w.out-is (stored _ _ _) | else-at-out w ↦ rw w.out-is (past _ _ _ (omega arith)) ]

@@ -10,6 +10,7 @@ use lib.ListN.{length, take}
 use Rattle.wing_wire.specs.Write.{escaped, Laid}
 use Rattle.wing_wire.proofs.Writing.Lays.{then, nothing, escaped-df, escaped-other}
 use Rattle.wing_wire.proofs.laying.lay_escaped.Goals as goal
+use Rattle.wing_wire.proofs.laying.lay_escaped.Goals.{then-bytes-i, else-bytes-i}
 
 pub loop-i-init : goal.loop-i-init
 unfolding escaped
@@ -20,13 +21,13 @@ loop-i-preserved c =
     let s = c.args.bytes.now in
     let i = c.loop-i.i in
     let h : i < length s = omega arith in
-    ⊎_elim
-    (λ w. rw (w.5, w.6) (search rules, search rules, search rules, rw (escaped-df s i h w.0.taken) (then c.loop-i.invariant.3 (then c.lay-next.ensures w.2.ensures))))
-    (λ w. rw (w.1, w.2) (search rules, search rules, search rules, rw (escaped-other s i h w.0.left) (then c.loop-i.invariant.3 c.lay-next.ensures)))
-    c.if-bytes-i.branch
+    elim c.if-bytes-i.branch [
+      | then-bytes-i w ↦ rw (w.out-is, w.next-is) (search rules, search rules, search rules, rw (escaped-df s i h w.if-bytes-i.true) (then c.loop-i.invariant.3 (then c.lay-next.ensures w.lay-next-then-bytes-i.ensures)))
+      | else-bytes-i w ↦ rw (w.out-is, w.next-is) (search rules, search rules, search rules, rw (escaped-other s i h w.if-bytes-i.false) (then c.loop-i.invariant.3 c.lay-next.ensures))
+    ]
 
 pub returns : goal.returns
 returns c =
     let s = c.args.bytes.now in
     let e : take c.loop-i.i s ≡ s = take_all c.loop-i.i s (omega arith) in
-    (rw e at c.loop-i.invariant.3, omega arith)
+    record { laid = rw e at c.loop-i.invariant.3; upper_bound = omega arith }

@@ -8,4 +8,4 @@ use Rattle.wing_wire.proofs.laying.lay_id.Goals as goal
 pub returns : goal.returns
 returns c =
     let z = to_z-of_z c.ranges.id in
-    (then c.lay-at.ensures (rw (c.of_i32.ensures, z) at c.lay_32.ensures.laid), omega arith)
+    record { laid = then c.lay-at.ensures (rw (c.of_i32.ensures, z) at c.lay_32.ensures.laid); upper_bound = omega arith }

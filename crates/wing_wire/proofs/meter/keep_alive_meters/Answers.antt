@@ -9,6 +9,7 @@ use Rattle.wing_wire.specs.Meter.{keep_alives}
 use mathlib.Core.Logic.{⊎_elim}
 use borrow.Author.Rules.{rules}
 use Rattle.wing_wire.proofs.meter.keep_alive_meters.Goals as goal
+use Rattle.wing_wire.proofs.meter.keep_alive_meters.Goals.{then-out-last_id+else-out-keep_alives_len, else-out-last_id}
 
 pub returns-then-out-keep_alives_len : goal.returns-then-out-keep_alives_len
 returns-then-out-keep_alives_len c =
@@ -17,8 +18,8 @@ returns-then-out-keep_alives_len c =
 
 pub lay_keep_alives-requires : goal.lay_keep_alives-requires
 lay_keep_alives-requires c =
-    ⊎_elim (λ w. omega (arith, w.1.ensures)) (λ w. omega (arith, keep-alives-le c.args.port c.args.last_id)) c.if-out-last_id.branch
+    elim c.if-out-last_id.branch [ then-out-last_id+else-out-keep_alives_len w ↦ omega arith | else-out-last_id w ↦ omega (arith, keep-alives-le c.args.port c.args.last_id) ]
 
 pub returns : goal.returns
 returns c =
-    written c.lay_keep_alives.ensures (⊎_elim (λ w. omega (arith, w.1.ensures)) (λ w. omega (arith, keep-alives-le c.args.port c.args.last_id)) c.if-out-last_id.branch)
+    written c.lay_keep_alives.ensures (elim c.if-out-last_id.branch [ then-out-last_id+else-out-keep_alives_len w ↦ omega arith | else-out-last_id w ↦ omega (arith, keep-alives-le c.args.port c.args.last_id) ])

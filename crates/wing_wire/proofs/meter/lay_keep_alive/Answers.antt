@@ -8,8 +8,8 @@ use Rattle.wing_wire.proofs.meter.lay_keep_alive.Goals as goal
 pub returns : goal.returns
 unfolding keep_alive
 returns c =
-    (
-      then c.lay-at.ensures (then c.lay-at-2.ensures (then c.lay-at-3.ensures
-          (then c.lay_16-at.ensures.laid (then c.lay_16-at-2.ensures.laid (then c.lay-at-4.ensures c.lay.ensures))))),
-      omega arith,
-    )
+    record {
+      laid = then c.lay-at.ensures (then c.lay-at-2.ensures (then c.lay-at-3.ensures
+          (then c.lay_16-at.ensures.laid (then c.lay_16-at-2.ensures.laid (then c.lay-at-4.ensures c.lay.ensures)))));
+      upper_bound = omega arith;
+    }

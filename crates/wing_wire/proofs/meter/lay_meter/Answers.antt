@@ -9,9 +9,9 @@ use Rattle.wing_wire.proofs.meter.lay_meter.Goals as goal
 pub returns-in-Alone : goal.returns-in-Alone
 unfolding item_bytes
 returns-in-Alone c =
-    (rw (sym c.item_of-item.ensures ∙ c.in-Alone.is) c.lay.ensures, omega arith)
+    record { laid = rw (sym c.item_of-item.ensures ∙ c.in-Alone.is) c.lay.ensures; upper_bound = omega arith }
 
 pub returns-in-Indexed : goal.returns-in-Indexed
 unfolding item_bytes
 returns-in-Indexed c =
-    (rw (sym c.item_of-item.ensures ∙ c.in-Indexed.is) (then c.lay-next.ensures c.lay_8.ensures.laid), omega arith)
+    record { laid = rw (sym c.item_of-item.ensures ∙ c.in-Indexed.is) (then c.lay-next.ensures c.lay_8.ensures.laid); upper_bound = omega arith }

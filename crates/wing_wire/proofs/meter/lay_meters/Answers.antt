@@ -16,11 +16,11 @@ loop-i-init c = (search rules, search rules, search rules, nothing _ _)
 
 pub loop-i-preserved : goal.loop-i-preserved
 loop-i-preserved c =
-    let ms = c.args.t3 in
+    let ms = c.args.meters in
     let l : length ms ≡ 64 = search rules in
     (search rules, omega arith, search rules, rw (meters-more ms c.loop-i.i (omega arith)) (then c.loop-i.invariant.3 c.lay_meter-next.ensures.laid))
 
 pub returns : goal.returns
 returns c =
     let e : c.loop-i.i ≡ c.args.count = omega arith in
-    (rw e at c.loop-i.invariant.3, omega arith)
+    record { laid = rw e at c.loop-i.invariant.3; upper_bound = omega arith }

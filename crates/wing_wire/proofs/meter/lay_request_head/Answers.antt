@@ -8,8 +8,8 @@ use Rattle.wing_wire.proofs.meter.lay_request_head.Goals as goal
 pub returns : goal.returns
 unfolding request_head
 returns c =
-    (
-      then c.lay-at.ensures (then c.lay-at-2.ensures (then c.lay-at-3.ensures (then c.lay_16-at.ensures.laid
-          (then c.lay-at-4.ensures (then c.lay_16-at-2.ensures.laid (then c.lay_16-at-3.ensures.laid c.lay.ensures)))))),
-      omega (arith, c.lay-at.ensures.next),
-    )
+    record {
+      laid = then c.lay-at.ensures (then c.lay-at-2.ensures (then c.lay-at-3.ensures (then c.lay_16-at.ensures.laid
+          (then c.lay-at-4.ensures (then c.lay_16-at-2.ensures.laid (then c.lay_16-at-3.ensures.laid c.lay.ensures))))));
+      upper_bound = omega (arith, c.lay-at.ensures.next);
+    }

@@ -15,13 +15,13 @@ returns-then-bytes-le65536 c =
     let l : length c.args.s.store ≡ body_limit = search rules in
     let e = next-event c.args.s c.args.bytes.now l in
     simp (← c.is_sound.ensures, c.if-is_sound.true, le-leb _ _ c.if-bytes-le65536.true, c.read_on.ensures)
-    (refl, simp (← c.is_sound.ensures, c.if-is_sound.true, le-leb _ _ c.if-bytes-le65536.true) at e)
+    (record { value = refl; result_value = simp (← c.is_sound.ensures, c.if-is_sound.true, le-leb _ _ c.if-bytes-le65536.true) at e })
 
 pub returns-then-is_sound : goal.returns-then-is_sound
 unfolding next_of next_event event_of
 returns-then-is_sound c =
-    simp (← c.is_sound.ensures, c.if-is_sound.true, lt-leb _ _ c.if-bytes-le65536.false, c.refuse.ensures) (refl, refl)
+    simp (← c.is_sound.ensures, c.if-is_sound.true, lt-leb _ _ c.if-bytes-le65536.false, c.refuse.ensures) (record { value = refl; result_value = refl })
 
 pub returns : goal.returns
 unfolding next_of next_event event_of
-returns c = simp (← c.is_sound.ensures, c.if-is_sound.false, c.refuse-2.ensures) (refl, refl)
+returns c = simp (← c.is_sound.ensures, c.if-is_sound.false, c.refuse-2.ensures) (record { value = refl; result_value = refl })

@@ -10,6 +10,7 @@ use borrow.Author.Rules.{rules}
 use Rattle.wing_wire.specs.Unit.{cleared}
 use Rattle.wing_wire.proofs.Reading.Clears.{cleared-turn, cleared-all}
 use Rattle.wing_wire.proofs.unit.clear.Goals as goal
+use Rattle.wing_wire.proofs.unit.clear.Goals.{then-n-store, else-n-store}
 
 pub loop-i-init : goal.loop-i-init
 loop-i-init c =
@@ -17,10 +18,10 @@ loop-i-init c =
     let n = c.args.n in
     let e = c.if-n-store.end in
     let bound : (e ≤ length d) × (cleared e d ≡ cleared n d) =
-    ⊎_elim
-    (λ w. (omega (arith, w.0.taken, w.1), ap (λ (x : ℕ). cleared x d) w.1))
-    (λ w. (omega (arith, w.1), ap (λ (x : ℕ). cleared x d) w.1 ∙ cleared-all n d w.0.left))
-    c.if-n-store.branch in
+    elim c.if-n-store.branch [
+      | then-n-store w ↦ (omega (arith, w.end-is), ap (λ (x : ℕ). cleared x d) w.end-is)
+      | else-n-store w ↦ (omega (arith, w.end-is), ap (λ (x : ℕ). cleared x d) w.end-is ∙ cleared-all n d w.if-n-store.false)
+    ] in
     (refl, omega arith, refl, bound.0, bound.1)
 
 pub loop-i-preserved : goal.loop-i-preserved

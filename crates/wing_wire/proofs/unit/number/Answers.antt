@@ -38,7 +38,7 @@ returns-in-Int16 c =
     let x = c.to_i16-x.result in
     let back : to_z w16 (of_z w16 x) ≡ x = search rules in
     let fits : SFits w16 x = search rules in
-    let wide : to_z w32 (of_z w32 x) ≡ x = to_z-of_z (record { sfits = omega (arith, fits.sfits) }) in
+    let wide : to_z w32 (of_z w32 x) ≡ x = to_z-of_z {w = w32} (record { sfits = omega (arith, fits.sfits) }) in
     simp (c.taken_of-in-Int16.ensures, c.in-Int16.is) (rw (back, wide, to_z-of_z c.ranges.node, c.to_i16-x.ensures))
 
 pub returns-in-Int32 : goal.returns-in-Int32
