@@ -86,7 +86,7 @@ module _ {A : Type 0} (key : A → ℕ) where
 
       go : Cmp (key x) (key y) → Swapped
       go (low l) = apart (λ e. omega arith)
-      go (same e) = rw e
+      go (same e) = simp (e, eq-eqb (key y) (key y) refl)
       go (high l) = apart (λ e. omega arith)
 
   pub distinct-swap : (x y : A) (zs : List A) → distinct key (x ∷ (y ∷ zs)) ≡ distinct key (y ∷ (x ∷ zs))

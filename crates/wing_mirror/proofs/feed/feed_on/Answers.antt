@@ -61,5 +61,5 @@ loop-a-preserved c =
     let l = c.loop-a.invariant in
     let m = sym c.is_more.ensures ∙ c.if-is_more.false in
     let node = c.advance-r.result.control.node in
-    let back : to_z w32 (of_z w32 node) ≡ node = to_z-of_z (record { sfits = c.struct_told-1.given.1.0.1 }) in
+    let back : to_z w32 (of_z w32 node) ≡ node = search rules in
     (search rules, search rules, again full-laws l.2 c.advance-r.result c.advance-r.new.store c.advance-r.ensures m c.release.new.store c.release.ensures (tally_of c.keep_answer-t.result c.keep_answer-t.new.table) (rw back at c.keep_answer-t.ensures))

@@ -14,11 +14,10 @@ use borrow.Author.Rules.{rules}
 use Rattle.wing_mirror.proofs.recall.lay_order.Goals as goal
 
 pub send_record-sent-requires : goal.send_record-sent-requires
-send_record-sent-requires c =
-    (
-      ap length c.row.ensures ∙ row-wide 264 c.args.number c.args.table.now c.requires.0,
-      ap well_formed c.row.ensures ∙ c.requires.1,
-    )
+send_record-sent-requires c = (
+  ap length c.row.ensures ∙ row-wide 264 c.args.number c.args.table.now c.requires.0,
+  ap well_formed c.row.ensures ∙ c.requires.1,
+)
 
 pub returns : goal.returns
 returns c =

@@ -32,7 +32,7 @@ returns-in-Integer c =
     let h = entry-held id w o (payload_in c.args.rec.now) c.args.rec.now c.id_in-id.ensures c.value_in-value.ensures refl in
     let x = c.in-Integer.x in
     let back-i : to_z w32 (of_z w32 id) ≡ id = search rules in
-    let back-x : to_z w32 (of_z w32 x) ≡ x = search (rules, c.known_told-1) in
+    let back-x : to_z w32 (of_z w32 x) ≡ x = search rules in
     rw (back-i, back-x) at c.set_int.ensures
     ∙ ap (λ (e : Entry). write_of (set_of e) c.args.out.now) (integer-held id w o (payload_in c.args.rec.now) c.args.rec.now h x c.in-Integer.is)
 
