@@ -42,7 +42,7 @@ pub read-passed : (x : IntegerRead) (s : List ℕ) → x ≡ integer_read s → 
 unfolding is_integer fits32
 read-passed x s r e =
     let v : x.value ≡ integer_of s = ap (λ y. y.value) r ∙ read-value s e in
-    rw v (to_z-of_z (record { sfits = ltb-true (mag (integer_of s)) (2 ^ 31) (and_right (is_signed s) (fits32 (integer_of s)) e) }))
+    rw v (to_z-of_z {w = w32} (record { sfits = ltb-true (mag (integer_of s)) (2 ^ 31) (and_right (is_signed s) (fits32 (integer_of s)) e) }))
 
 -- ---- what is wrong
 

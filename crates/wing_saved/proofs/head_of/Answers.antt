@@ -13,7 +13,7 @@ pub returns : goal.returns
 unfolding head_under
 returns c =
     let a = c.args.c in
-    let k : to_z w8 (of_z w8 a.escape.channel) ≡ a.escape.channel = to_z-of_z (record { sfits = c.struct_told-1.given.1.0.1 }) in
-    let l : to_z w32 (of_z w32 a.node) ≡ a.node = to_z-of_z (record { sfits = c.struct_told-2-1.given.1.0.1 }) in
+    let k : to_z w8 (of_z w8 a.escape.channel) ≡ a.escape.channel = search rules in
+    let l : to_z w32 (of_z w32 a.node) ≡ a.node = search rules in
     fields-put _ _ _ _ _ _ _ _ _ _ _ _ c.put_i32.ensures c.put_u32.ensures c.put_u32-2.ensures c.put_u32-3.ensures c.put_u32-4.ensures
     ∙ rw (c.flag.ensures, c.of_i8.ensures, c.pending_flag.ensures, c.pending_byte.ensures, c.fields_of-k.ensures, k, l)

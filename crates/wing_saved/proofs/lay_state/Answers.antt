@@ -12,11 +12,11 @@ use Rattle.wing_saved.proofs.lay_state.Goals as goal
 pub returns-then-out-lt-SIZE : goal.returns-then-out-lt-SIZE
 returns-then-out-lt-SIZE c =
     let a = c.args in
-    writer-laws.short (state_bytes a.t2) a.out.now (omega (arith, state-size a.t2 (search rules)))
+    writer-laws.short (state_bytes a.s) a.out.now (omega (arith, state-size a.s (search rules)))
 
 pub returns : goal.returns
 unfolding state_bytes
 returns c =
     let a = c.args in
     rw (c.lay-2.ensures, c.lay.ensures, c.head_of-head.ensures)
-    (parts-written (head_bytes a.t2.control) a.t2.store a.out.now (head-size version a.t2.control) (state-size a.t2 (search rules)) (omega arith))
+    (parts-written (head_bytes a.s.control) a.s.store a.out.now (head-size version a.s.control) (state-size a.s (search rules)) (omega arith))

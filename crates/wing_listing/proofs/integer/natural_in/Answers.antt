@@ -6,6 +6,7 @@ use borrow.Author.Rules.{rules}
 use Rattle.wing_listing.proofs.Printing.Values.{signed-passed}
 use Rattle.wing_listing.proofs.Texts.Numbers.{natural-good, natural-led, natural-large}
 use Rattle.wing_listing.proofs.integer.natural_in.Goals as goal
+use Rattle.wing_listing.proofs.integer.natural_in.Goals.{then-is_led+else-n-lt2147483648, else-is_led}
 
 pub returns-then-n-lt2147483648 : goal.returns-then-n-lt2147483648
 returns-then-n-lt2147483648 c =
@@ -16,4 +17,7 @@ returns-then-n-lt2147483648 c =
 pub returns : goal.returns
 returns c =
     let s = c.args.s.now in
-    c.not_read.ensures ∙ ⊎_elim (λ w. natural-large s (omega (arith, w.1.ensures, w.2.left))) (λ w. natural-led s (sym c.is_led.ensures ∙ w.left)) c.if-is_led.branch
+    c.not_read.ensures ∙ elim c.if-is_led.branch [
+      | then-is_led+else-n-lt2147483648 w ↦ natural-large s (omega (arith, w.number_in-n.ensures))
+      | else-is_led w ↦ natural-led s (sym c.is_led.ensures ∙ w.if-is_led.false)
+    ]

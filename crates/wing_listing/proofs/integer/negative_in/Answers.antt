@@ -7,6 +7,7 @@ use borrow.Author.Rules.{rules}
 use Rattle.wing_listing.proofs.Printing.Values.{signed-passed}
 use Rattle.wing_listing.proofs.Texts.Numbers.{negative-good, negative-none, negative-zero, negative-large}
 use Rattle.wing_listing.proofs.integer.negative_in.Goals as goal
+use Rattle.wing_listing.proofs.integer.negative_in.Goals.{then-s-gt0+then-s-ne48+else-n-le2147483648, then-s-gt0+else-s-ne48, else-s-gt0}
 
 pub overflow_cast-n : goal.overflow_cast-n
 overflow_cast-n c =
@@ -23,7 +24,8 @@ returns-then-n-le2147483648 c =
 pub returns : goal.returns
 returns c =
     let s = c.args.s.now in
-    c.not_read.ensures ∙ ⊎_elim
-    (λ w. negative-large s (omega (arith, w.3.ensures, w.4.left)))
-    (⊎_elim (λ w. negative-zero s w.2.left) (λ w. negative-none s (omega (arith, w.left))))
-    c.if-s-gt0.branch
+    c.not_read.ensures ∙ elim c.if-s-gt0.branch [
+      | then-s-gt0+then-s-ne48+else-n-le2147483648 w ↦ negative-large s (omega (arith, w.number_in-n.ensures))
+      | then-s-gt0+else-s-ne48 w ↦ negative-zero s w.if-s-ne48.false
+      | else-s-gt0 w ↦ negative-none s (omega arith)
+    ]

@@ -30,7 +30,14 @@ slice_bounds-value_fault-count c =
     value-from x l says (first-line before x l says c.rises.result c.form_fault-fault.result c.form_fault-fault.ensures u (sym c.is_refused.ensures ∙ c.if-is_refused.false))
 
 pub slice_bounds-value_fault-start : goal.slice_bounds-value_fault-start
-slice_bounds-value_fault-start c = sub-value-fault c
+slice_bounds-value_fault-start c =
+    let x = c.args.s.now in
+    let before = id_before c.args.any c.args.before in
+    let l = c.line_in-l.result in
+    let says = c.line_in-l.ensures in
+    let i = read-passed (part comma 0 x) l.id says.id in
+    let u : c.rises.result ≡ above before (integer_read (part comma 0 x)).value = rw (to_z-of_z c.ranges.before, i) at c.rises.ensures in
+    value-from x l says (first-line before x l says c.rises.result c.form_fault-fault.result c.form_fault-fault.ensures u (sym c.is_refused.ensures ∙ c.if-is_refused.false))
 
 pub value_fault-requires : goal.value_fault-requires
 value_fault-requires c =

@@ -24,7 +24,9 @@ slice_bounds-find-count c =
     omega arith
 
 pub slice_bounds-find-start : goal.slice_bounds-find-start
-slice_bounds-find-start c = sub-find c
+slice_bounds-find-start c =
+    let a = turn_at c.args.text.now c.args.count c.loop-number.number c.loop-number.at c.requires.0 c.loop-number-test.true (c.loop-number.invariant.3 c.loop-number-test.true) in
+    omega arith
 
 pub overflow_add-end : goal.overflow_add-end
 overflow_add-end c =
@@ -75,8 +77,7 @@ overflow_add-at c =
 pub loop-number-preserved : goal.loop-number-preserved
 loop-number-preserved c =
     let h = c.loop-number-test.true in
-    let t = c.args.text.now in
-    (
+    let t = c.args.text.now in (
       omega arith,
       same_len_mid (264 * c.loop-number.number) (264 * c.loop-number.number + 264 - 264 * c.loop-number.number) c.loop-number.table c.lay_line.new.out c.lay_line.auto.out ∙ c.loop-number.invariant.1,
       turn-laid t c.args.count c.loop-number.number c.loop-number.at c.requires.0 h (c.loop-number.invariant.3 h) c.find.result c.find.ensures c.lay_line.new.out c.loop-number.table c.args.table.now c.lay_line.ensures c.loop-number.invariant.2,

@@ -26,12 +26,12 @@ slice_bounds-lay_said-count c =
     value-from c.args.s.now c.line_in-l.result c.line_in-l.ensures c.requires.1
 
 pub slice_bounds-lay_said-start : goal.slice_bounds-lay_said-start
-slice_bounds-lay_said-start c = sub-lay-said c
+slice_bounds-lay_said-start c =
+    value-from c.args.s.now c.line_in-l.result c.line_in-l.ensures c.requires.1
 
 pub lay_said-requires : goal.lay_said-requires
 lay_said-requires c =
-    let x = c.args.s.now in
-    (
+    let x = c.args.s.now in (
       c.put_i32.auto.out ∙ c.zero.auto.out ∙ c.requires.0,
       value-formed x c.line_in-l.result c.line_in-l.ensures c.requires.1,
       ap value_fault (value_same x c.line_in-l.result c.line_in-l.ensures c.requires.1) ∙ c.requires.2,

@@ -47,9 +47,9 @@ returns c =
     let s : to_z w32 (of_z w32 f.sum) ≡ f.sum = search rules in
     let m₁ : to_z w16 (of_z w16 f.mean) ≡ f.mean = search rules in
     let m₂ : SFits w16 f.mean = search rules in
-    let m : to_z w32 (of_z w32 f.mean) ≡ f.mean = to_z-of_z (record { sfits = omega (arith, m₂.sfits) }) in
+    let m : to_z w32 (of_z w32 f.mean) ≡ f.mean = to_z-of_z {w = w32} (record { sfits = omega (arith, m₂.sfits) }) in
     let r : to_z w32 f.rest ≡ pos f.rest = reads w32 refl f.rest ∙ simp (lt-ltb f.rest 2147483648 (omega arith)) in
     let t₁ : to_z w16 (of_z w16 f.top) ≡ f.top = search rules in
     let t₂ : SFits w16 f.top = search rules in
-    let t : to_z w32 (of_z w32 f.top) ≡ f.top = to_z-of_z (record { sfits = omega (arith, t₂.sfits) }) in
+    let t : to_z w32 (of_z w32 f.top) ≡ f.top = to_z-of_z {w = w32} (record { sfits = omega (arith, t₂.sfits) }) in
     rw (h, s, m₁, m, r, t₁, t) (five-stores c.args.out.now c.args.at (pos f.held) f.sum f.mean (pos f.rest) f.top)

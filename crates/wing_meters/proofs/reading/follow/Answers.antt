@@ -58,7 +58,4 @@ pub returns : goal.returns
 returns c =
     let a = c.args in
     let first = window a.c a.levels.now in
-    let here = window c.loop-i.after c.loop-i.levels in (
-      onward-after first a.xs.now a.out.now here c.loop-i.out c.loop-i.i c.loop-i.invariant c.loop-i-test.false,
-      onward-rows first a.xs.now a.out.now here c.loop-i.out c.loop-i.i c.loop-i.invariant c.loop-i-test.false,
-    )
+    let here = window c.loop-i.after c.loop-i.levels in record { levels_after = onward-after first a.xs.now a.out.now here c.loop-i.out c.loop-i.i c.loop-i.invariant c.loop-i-test.false; out_after = onward-rows first a.xs.now a.out.now here c.loop-i.out c.loop-i.i c.loop-i.invariant c.loop-i-test.false }

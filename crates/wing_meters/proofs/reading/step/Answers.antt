@@ -21,7 +21,11 @@ bounds-levels-at c =
     next-in w s c.requires.0
 
 pub bounds-levels-at-2 : goal.bounds-levels-at-2
-bounds-levels-at-2 c = slice-read-left c
+bounds-levels-at-2 c =
+    let a = c.args in
+    let w = window a.c a.levels.now in
+    let s = sound w c.requires.1 in
+    next-in w s c.requires.0
 
 pub onward-requires : goal.onward-requires
 onward-requires c =
@@ -42,7 +46,7 @@ sum_after-requires c =
     let a = c.args in
     let w = window a.c a.levels.now in
     let s = sound w c.requires.1 in
-    let r = in-range w s c.requires.0 (λ k h. omega (arith, c.type_inv.levels k)) in
+    let r = in-range w s c.requires.0 (λ k h. omega (arith, c.slice_known-2-1.given k)) in
     (leaving-le w s c.requires.0, omega arith)
 
 pub returns : goal.returns
@@ -55,7 +59,7 @@ returns c =
     let k : to_z w16 (of_z w16 a.x) ≡ a.x = search rules in
     let v : c.level_of-came.result ≡ level_of a.x = c.level_of-came.ensures ∙ ap level_of k in
     let low : c.level_of-came.result < 65536 = search rules in
-    let most = set-le a.levels.now a.c.next (level_of a.x) 65535 (λ k h. omega (arith, c.type_inv.levels k)) (omega arith) in
+    let most = set-le a.levels.now a.c.next (level_of a.x) 65535 (λ k h. omega (arith, c.slice_known-2-1.given k)) (omega arith) in
     let range = in-range (taking w a.x) (sound-taking w s size a.x) (length-set a.levels.now a.c.next (level_of a.x) ∙ size) most in
     rw
     (c.grown.ensures, c.onward.ensures, c.top_after.ensures, c.sum_after.ensures, v, sym (sum-taking w s size (level_of a.x)))

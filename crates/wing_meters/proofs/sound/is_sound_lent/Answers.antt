@@ -19,7 +19,10 @@ slice_bounds-greatest-count c =
     omega (arith, held-le k p, p.few, c.requires)
 
 pub slice_bounds-greatest-start : goal.slice_bounds-greatest-start
-slice_bounds-greatest-start c = sub-greatest c
+slice_bounds-greatest-start c =
+    let k = c.args.c in
+    let p = placed k (sym c.sound_control.ensures ∙ c.if-sound_control.true) in
+    omega (arith, held-le k p, p.few, c.requires)
 
 pub returns-then-greatest-c : goal.returns-then-greatest-c
 returns-then-greatest-c c =

@@ -15,7 +15,7 @@ tell-requires c = c.is_sound_lent.ensures.1 c.if-is_sound_lent.true
 pub returns-then-is_sound_lent : goal.returns-then-is_sound_lent
 unfolding figures_answer
 returns-then-is_sound_lent c =
-    let w = c.args.t1 in
+    let w = c.args.w in
     let size : length w.levels ≡ 256 = search rules in
     let e : sound_window w ≡ true = sym c.is_sound_lent.ensures.0 ∙ c.if-is_sound_lent.true in
     c.tell.ensures ∙ (sym (kept-told w (sound w e) size) ∙ sym (simp e))
@@ -23,6 +23,6 @@ returns-then-is_sound_lent c =
 pub returns : goal.returns
 unfolding figures_answer
 returns c =
-    let w = c.args.t1 in
+    let w = c.args.w in
     let e : sound_window w ≡ false = sym c.is_sound_lent.ensures.0 ∙ c.if-is_sound_lent.false in
     sym (simp e)
