@@ -6,4 +6,4 @@ use Rattle.promises.proofs.Windows.{figures_call}
 use Rattle.promises.proofs.meters.figures.Goals as goal
 
 pub returns : goal.returns
-returns c = rw c.figures.ensures (figures_call c.args.w (window-typed c.args.w _ c.before.well_formed.0))
+returns c = rw c.figures.ensures (figures_call c.args.w (window-typed c.args.w _ c.well_formed.0))

@@ -13,4 +13,4 @@ pub returns : goal.returns
 returns c =
     let a = c.args in
     let k : to_z w16 (of_z w16 a.x) ≡ a.x = search rules in
-    rw (c.reading.ensures ∙ ap (reading_of a.w) k) (reading_call a.w a.x (window-typed a.w _ c.before.well_formed.0) c.ranges.x.sfits)
+    rw (c.reading.ensures ∙ ap (reading_of a.w) k) (reading_call a.w a.x (window-typed a.w _ c.well_formed.0) c.ranges.x.sfits)

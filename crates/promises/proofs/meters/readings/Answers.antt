@@ -13,4 +13,4 @@ returns c =
     let xs = c.args.xs.now in
     let out = c.args.out.now in
     subst (λ (x : RowsEffect). ReadingsCall c.args.w xs out x.reply.answer x.reply.window x.out) (sym c.readings.ensures)
-    (readings_call c.args.w xs out (window-typed c.args.w _ k.well_formed.0))
+    (readings_call c.args.w xs out (window-typed c.args.w _ c.well_formed.0))

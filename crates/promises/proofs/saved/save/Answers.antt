@@ -12,4 +12,4 @@ pub returns : goal.returns
 returns c =
     let s = c.args.s in
     let out = c.args.out.now in
-    subst (λ (x : WriteEffect). SaveCall s out x.answer x.out) (sym c.save.ensures) (save-call s out (state-typed s _ k.well_formed.1.0))
+    subst (λ (x : WriteEffect). SaveCall s out x.answer x.out) (sym c.save.ensures) (save-call s out (state-typed s _ c.well_formed.1.0))

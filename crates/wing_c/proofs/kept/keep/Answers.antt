@@ -8,7 +8,7 @@ pub returns : goal.returns
 returns c =
     let are = are-bytes c.args.state.now (λ i. (c.type_inv.state i).fits) in
     record {
-      typed = kept-typed c.args.after _ k.well_formed.1.0 c.args.state.now are c.requires.1;
+      typed = kept-typed c.args.after _ c.well_formed.1.0 c.args.state.now are c.requires.1;
       sound = c.requires.0;
       laid = head-laid c.args.after c.args.state.now c.requires.1 c.lay_head.ensures;
     }

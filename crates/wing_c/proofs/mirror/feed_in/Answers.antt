@@ -8,7 +8,7 @@ use Rattle.wing_c.proofs.mirror.feed_in.Goals as goal
 pub keep_state-requires : goal.keep_state-requires
 keep_state-requires c = (
   let state = c.args.state.now in
-      let typed = kept-typed c.args.c _ k.well_formed.1.0 state (are-bytes state (λ i. (c.type_inv.state i).fits)) c.requires.size in
+      let typed = kept-typed c.args.c _ c.well_formed.1.0 state (are-bytes state (λ i. (c.type_inv.state i).fits)) c.requires.size in
       let are = are-bytes c.args.bytes.now (λ i. (c.type_inv.bytes i).fits) in
       fed-sound state c.args.c (table c.args.table.now c.args.count) c.args.bytes.now c.requires c.feed_lent-r.result c.feed_lent-r.new.store c.feed_lent-r.new.table c.feed_lent-r.ensures typed are,
   search rules,
@@ -16,5 +16,6 @@ keep_state-requires c = (
 
 pub returns : goal.returns
 returns c =
-    fed-in c.args.state.now c.args.c (table c.args.table.now c.args.count) c.args.bytes.now c.requires c.feed_lent-r.result c.feed_lent-r.new.store c.feed_lent-r.new.table
-    c.feed_lent-r.ensures c.fed.ensures c.keep_state.ensures.state_after c.keep_state.ensures.state_after_2
+    let p = fed-in c.args.state.now c.args.c (table c.args.table.now c.args.count) c.args.bytes.now c.requires c.feed_lent-r.result c.feed_lent-r.new.store c.feed_lent-r.new.table
+    c.feed_lent-r.ensures c.fed.ensures c.keep_state.ensures.state_after c.keep_state.ensures.state_after_2 in
+    record { table_after = p.0; state_after = p.1 }

@@ -10,7 +10,7 @@ keep-requires c = (c.requires.0 c.in-Taken.is, c.requires.1)
 pub returns-in-Taken : goal.returns-in-Taken
 returns-in-Taken c =
     let kept = c.keep.ensures in
-    simp c.in-Taken.is (sym kept.laid, saved-laws.back _ _ kept)
+    simp c.in-Taken.is (record { state_after = sym kept.laid; state_after_2 = saved-laws.back _ _ kept })
 
 pub returns-in-Refused : goal.returns-in-Refused
-returns-in-Refused c = simp c.in-Refused.is (refl, refl)
+returns-in-Refused c = simp c.in-Refused.is (record { state_after = refl; state_after_2 = refl })

@@ -14,4 +14,4 @@ pub returns-in-Refused : goal.returns-in-Refused
 unfolding feed_with state_fed
 returns-in-Refused c =
     let no = head-refused c.args.state.now c.head-h.result c.head-h.ensures _ c.in-Refused.is in
-    (rw no (ap (λ (r : WingFed). kept_feed r c.args.state.now c.args.table.now) c.feed_refused.ensures), rw no)
+    record { table_after = rw no (ap (λ (r : WingFed). kept_feed r c.args.state.now c.args.table.now) c.feed_refused.ensures); state_after = rw no }

@@ -6,4 +6,4 @@ use borrow.Author.Rules.{rules}
 use Rattle.wing_c.proofs.mirror.wing_record.Goals as goal
 
 pub returns : goal.returns
-returns c = c.record-2.ensures ∙ ap (λ (r : RecordRead). record_numbers r.answer r.string) c.before.«record».ensures
+returns c = c.record-2.ensures ∙ ap (λ (r : RecordRead). record_numbers r.answer r.string) c.«record».ensures

@@ -23,4 +23,4 @@ pub returns : goal.returns
 unfolding next_with state_next
 returns c =
     let no = head-unsound c.args.state.now c.args.c c.requires (ap (λ (l : List ℕ). sound_state (state_of c.args.c l)) (sym (lent-part c.args.state.now)) ∙ sym c.is_sound_lent.ensures ∙ c.if-is_sound_lent.false) in
-    (rw no (ap (λ (r : WingEvent). kept_next r c.args.state.now c.args.out.now) c.event.ensures), rw no)
+    record { out_after = rw no (ap (λ (r : WingEvent). kept_next r c.args.state.now c.args.out.now) c.event.ensures); state_after = rw no }

@@ -14,14 +14,14 @@ unfolding next_sound next_state
 returns-then-bytes-gt65536 c =
     let back : to_z w32 (of_z w32 c.args.c.node) ≡ c.args.c.node = search rules in
     rw (lt-leb _ _ c.if-bytes-gt65536.true)
-    (ap (λ (r : WingEvent). kept_next r c.args.state.now c.args.out.now) (rw back at c.event.ensures), head-sound c.args.state.now c.args.c c.requires.0 c.requires.1)
+    (record { out_after = ap (λ (r : WingEvent). kept_next r c.args.state.now c.args.out.now) (rw back at c.event.ensures); state_after = head-sound c.args.state.now c.args.c c.requires.0 c.requires.1 })
 
 pub returns-then-out-lt-BODY_LIMIT : goal.returns-then-out-lt-BODY_LIMIT
 unfolding next_sound next_state
 returns-then-out-lt-BODY_LIMIT c =
     let back : to_z w32 (of_z w32 c.args.c.node) ≡ c.args.c.node = search rules in
     rw (le-leb _ _ c.if-bytes-gt65536.false, lt-leb _ _ c.if-out-lt-BODY_LIMIT.true)
-    (ap (λ (r : WingEvent). kept_next r c.args.state.now c.args.out.now) (rw back at c.event-then-out-lt-BODY_LIMIT.ensures), head-sound c.args.state.now c.args.c c.requires.0 c.requires.1)
+    (record { out_after = ap (λ (r : WingEvent). kept_next r c.args.state.now c.args.out.now) (rw back at c.event-then-out-lt-BODY_LIMIT.ensures); state_after = head-sound c.args.state.now c.args.c c.requires.0 c.requires.1 })
 
 pub returns : goal.returns
 unfolding next_sound next_state

@@ -14,4 +14,4 @@ pub returns-in-Refused : goal.returns-in-Refused
 unfolding next_with state_next
 returns-in-Refused c =
     let no = head-refused c.args.state.now c.head-h.result c.head-h.ensures _ c.in-Refused.is in
-    (rw no (ap (λ (r : WingEvent). kept_next r c.args.state.now c.args.out.now) c.event.ensures), rw no)
+    record { out_after = rw no (ap (λ (r : WingEvent). kept_next r c.args.state.now c.args.out.now) c.event.ensures); state_after = rw no }

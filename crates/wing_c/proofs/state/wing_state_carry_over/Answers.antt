@@ -15,11 +15,11 @@ returns-in-Good c =
     let a = c.args in
     let over = earlier-good a.earlier.now c.load_earlier-loaded.result c.load_earlier-loaded.ensures c.in-Good.is in
     let are = are-bytes a.earlier.now (λ i. (c.type_inv.earlier i).fits) in
-    rw over (command-as c.save.result c.written.ensures c.save.ensures, carried-reads a.earlier.now c.load_earlier-loaded.result.state are over a.state.now c.save.ensures)
+    rw over (record { state_after = command-as c.save.result c.written.ensures c.save.ensures; state_after_2 = carried-reads a.earlier.now c.load_earlier-loaded.result.state are over a.state.now c.save.ensures })
 
 pub returns-in-Refused : goal.returns-in-Refused
 unfolding carried_kept state_carried
 returns-in-Refused c =
     let a = c.args in
     let over = earlier-refused a.earlier.now c.load_earlier-loaded.result _ c.load_earlier-loaded.ensures c.in-Refused.is in
-    rw over (command-as (Refused c.in-Refused.why) c.written-in-Refused.ensures refl, λ _. refl)
+    rw over (record { state_after = command-as (Refused c.in-Refused.why) c.written-in-Refused.ensures refl; state_after_2 = λ _. refl })

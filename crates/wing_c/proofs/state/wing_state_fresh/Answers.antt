@@ -11,4 +11,4 @@ pub returns : goal.returns
 returns c =
     let out = c.args.state.now in
     let saved = c.save.ensures ∙ ap (λ (s : State). save_of s out) c.fresh.ensures in
-    (command-as c.save.result c.written.ensures saved, fresh-reads out saved)
+    record { state_after = command-as c.save.result c.written.ensures saved; state_after_2 = fresh-reads out saved }
