@@ -91,14 +91,14 @@ step s h = rw (item s.item h, walk s.next)
 given : (d : Definition) (t : NodeType) (x : Details) (l : Lent) (out : List ℕ) → d.node_type ≡ t → d.details ≡ x → OfType t x →
     body_of_fields (fields_given (fields_read (taken_numbers d))) l out ≡ body_of_fields (fields_of d) l out
 unfolding body_of_fields body_given lent_fault type_of
-given d t x l out k e node = rw (k, e) refl
-given d t x l out k e linear = rw (k, e) refl
-given d t x l out k e logarithmic = rw (k, e) refl
-given d t x l out k e fader = rw (k, e) refl
-given d t x l out k e (integers {min} {max} a b) = rw (k, e) (rw (signed-unsigned 31 min a, signed-unsigned 31 max b) refl)
-given d t x l out k e strings = rw (k, e) refl
-given d t x l out k e floats = rw (k, e) refl
-given d t x l out k e text = rw (k, e) refl
+given d t x l out k e node = simp (k, e) refl
+given d t x l out k e linear = simp (k, e) refl
+given d t x l out k e logarithmic = simp (k, e) refl
+given d t x l out k e fader = simp (k, e) refl
+given d t x l out k e (integers {min} {max} a b) = simp (k, e) (rw (signed-unsigned 31 min a, signed-unsigned 31 max b) refl)
+given d t x l out k e strings = simp (k, e) refl
+given d t x l out k e floats = simp (k, e) refl
+given d t x l out k e text = simp (k, e) refl
 
 given-anew : (body out : List ℕ) (d : Definition) → definition_of body ≡ Good d → OfParsed (definition_of body) →
     body_of_fields (fields_given (fields_read (taken_numbers d))) (lent_from body d) out ≡ anew_of body out

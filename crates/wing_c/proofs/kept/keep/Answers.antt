@@ -6,7 +6,7 @@ use Rattle.wing_c.proofs.kept.keep.Goals as goal
 
 pub returns : goal.returns
 returns c =
-    let are = are-bytes c.args.state.now (λ i. (c.type_inv.state i).fits) in
+    let are = are-bytes c.args.state.now (λ i. (c.slice_known-1.given i).fits) in
     record {
       typed = kept-typed c.args.after _ c.well_formed.1.0 c.args.state.now are c.requires.1;
       sound = c.requires.0;

@@ -8,7 +8,7 @@ use Rattle.wing_c.proofs.mirror.feed_in.Goals as goal
 pub keep_state-requires : goal.keep_state-requires
 keep_state-requires c = (
   let state = c.args.state.now in
-      let typed = kept-typed c.args.c _ c.well_formed.1.0 state (are-bytes state (λ i. (c.type_inv.state i).fits)) c.requires.size in
+      let typed = kept-typed c.args.c _ c.well_formed.1.0 state (are-bytes state (λ i. (c.slice_known-1.given i).fits)) c.requires.size in
       let are = are-bytes c.args.bytes.now (λ i. (c.type_inv.bytes i).fits) in
       fed-sound state c.args.c (table c.args.table.now c.args.count) c.args.bytes.now c.requires c.feed_lent-r.result c.feed_lent-r.new.store c.feed_lent-r.new.table c.feed_lent-r.ensures typed are,
   search rules,

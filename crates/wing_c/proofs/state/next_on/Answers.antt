@@ -17,7 +17,7 @@ next_lent-r-requires c =
 pub keep-requires : goal.keep-requires
 keep-requires c = (
   let state = c.args.state.now in
-      let typed = kept-typed c.args.c _ c.well_formed.1.0 state (are-bytes state (λ i. (c.type_inv.state i).fits)) c.requires.1 in
+      let typed = kept-typed c.args.c _ c.well_formed.1.0 state (are-bytes state (λ i. (c.slice_known-1.given i).fits)) c.requires.1 in
       let are = are-bytes c.args.bytes.now (λ i. (c.type_inv.bytes i).fits) in
       next-sound state c.args.c c.args.bytes.now c.args.out.now c.requires.1 c.next_lent-r.result c.next_lent-r.new.store _ c.next_lent-r.ensures typed are c.requires.0,
   search rules,
