@@ -6,32 +6,29 @@ use mathlib.Core.List.{List, [], ◌∷◌, ◌++◌}
 use native.Mathlib.Omega.{arith}
 use lib.Dec.{ltb}
 use lib.IntN.{ℤ}
-use lib.ListN.{length, take, drop}
+use lib.ListN.{length, drop}
 use lib.Seq.{take_at, drop_at}
 use Rattle.wing_node.specs.Bool.{if}
 use Rattle.wing_node.specs.Signed.{InBits}
-use Rattle.wing_node.specs.Refusal.{alone}
 use Rattle.wing_node.specs.declared.refusal.Refusal.{Refusal}
 use Rattle.wing_node.specs.Result.{Result, ok, refused}
 use Rattle.wing_node.proofs.Branches.{branch}
-use Rattle.wing_meters.specs.Afresh.{last_of, figures_of}
-use Rattle.wing_meters.specs.Window.{fresh_window, taking, leaves, kept_in, sound_control, sound_window}
-use Rattle.wing_meters.specs.Calls.{made_of, figures_answer, taken, reading_of, after_all, answers, rows, RowsEffect, rows_effect, followed, readings_of}
+use Rattle.wing_meters.specs.Afresh.{figures_of}
+use Rattle.wing_meters.specs.Window.{fresh_window, taking, kept_in, sound_control, sound_window}
+use Rattle.wing_meters.specs.Calls.{made_of, figures_answer, reading_of, after_all, answers, rows, RowsEffect, rows_effect, followed, readings_of}
 use Rattle.wing_meters.specs.Moving.{Readings, Leaves, Left, Typed, afresh_rows}
-use Rattle.wing_meters.specs.Answers.{Shown, none, some, told_result, made_result, rows_result}
-use Rattle.wing_meters.specs.declared.figures.Told.{Told}
-use Rattle.wing_meters.specs.declared.figures.Told.TheVariants.{None, Figures as Told-as-Figures, Refused}
+use Rattle.wing_meters.specs.Answers.{none, some, told_result, made_result, rows_result}
+use Rattle.wing_meters.specs.declared.figures.Told.TheVariants.{Refused}
 use Rattle.wing_meters.specs.declared.window.Window.{Window}
 use Rattle.wing_meters.specs.declared.window.Made.{Made}
 use Rattle.wing_meters.specs.declared.window.MadeAnswer.TheVariants.{Good, Refused as NotMade}
 use Rattle.wing_meters.specs.declared.reading.Taken.{Taken}
-use Rattle.wing_meters.specs.declared.reading.Followed.{Followed}
 use Rattle.wing_meters.specs.declared.reading.RowsAnswer.TheVariants.{Rows, Refused as NotFollowed}
 use Rattle.wing_meters.proofs.Follows.{reading-sound, reading-unsound, length-rows, readings-unsound, readings-short, readings-sound}
 use Rattle.wing_meters.proofs.Moves.{left-sound, reading-left, figures-left, rows_left, after-left, never-left, unleft}
-use Rattle.promises.specs.Refusals.{state_unsound, output_short, width_wrong}
+use Rattle.promises.specs.Refusals.{output_short, width_wrong}
 use Rattle.promises.specs.Lines.{Answers}
-use Rattle.promises.specs.Meters.{width_lines, rows_lines, MakeCall, ReadingCall, FiguresCall, ReadingsCall}
+use Rattle.promises.specs.Meters.{rows_lines, MakeCall, ReadingCall, FiguresCall, ReadingsCall}
 use Rattle.promises.proofs.Lines.{given, taken as none-applies, line}
 
 -- ---- a window made

@@ -15,7 +15,7 @@ use Rattle.wing_wire.specs.declared.write.Written.TheVariants.{Bytes}
 use Rattle.wing_mirror.specs.Rows.{Table, places, found, nothing}
 use Rattle.wing_mirror.specs.Entry.{entry}
 use Rattle.wing_mirror.specs.Record.{width, entry_in, full}
-use Rattle.wing_mirror.specs.Table.{table, rows, usable, fits, lookup_of}
+use Rattle.wing_mirror.specs.Table.{rows, usable, fits, lookup_of}
 use Rattle.wing_mirror.specs.Query.{same_tables, refused_record}
 use Rattle.wing_mirror.specs.Answers.{lookup_result, record_result, same_result, feed_result}
 use Rattle.wing_mirror.specs.Lookups.{RecordOf}

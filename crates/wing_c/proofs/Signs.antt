@@ -3,7 +3,7 @@ use Prim.Native.Nat.{ℕ, suc, ◌-◌, ◌≤◌, ◌<◌}
 use mathlib.Core.Path.{◌≡◌, refl, ◌∙◌, ap}
 use native.Mathlib.Omega.{arith}
 use borrow.Author.Tests.{le-ltb}
-use lib.IntN.{ℤ, negsuc}
+use lib.IntN.{negsuc}
 use mir.Syntax.{w32}
 use mir.Val.{to_z}
 use Rattle.wing_node.proofs.Numerals.Signs.{reads}

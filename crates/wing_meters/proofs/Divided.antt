@@ -1,5 +1,5 @@
 -- The figures of readings, in words: a quotient rounded down with its remainder, and the largest.
-use Prim.Native.Nat.{ℕ, zero, suc, ◌+◌, ◌-◌, ◌*◌, ◌/◌, ◌%◌, ◌≤◌, ◌<◌}
+use Prim.Native.Nat.{ℕ, suc, ◌+◌, ◌-◌, ◌*◌, ◌/◌, ◌%◌, ◌<◌}
 use mathlib.Core.Bool.{Bool, true, false, not}
 use mathlib.Core.Logic.{⊎_elim}
 use mathlib.Core.Path.{◌≡◌, refl, sym, ap, ◌∙◌, subst}
@@ -8,12 +8,11 @@ use mathlib.Core.List.{List, [], ◌∷◌, Memᴰ}
 use native.Mathlib.Omega.{arith}
 use native.Mathlib.Nat.{le_of_lt, mod-lt, div-add-mod', suc-mul}
 use lib.Dec.{T, le→leb, ltb→lt}
-use lib.IntN.{ℤ, pos, negsuc, neg_ℤ, ◌+ℤ◌, ◌*ℤ◌, sub_ℕ}
+use lib.IntN.{ℤ, pos, negsuc, neg_ℤ, ◌+ℤ◌, ◌*ℤ◌}
 use lib.ListN.{length}
-use lib.Signed.{lt_z, ◌≤ℤ◌, ◌<ℤ◌, le_z, le_z_yes, lt_z_yes, lt_z_no, ≤ℤ_refl, <ℤ-≤ℤ_trans, clash_ℤ}
-use Rattle.wing_node.specs.Bool.{if}
+use lib.Signed.{lt_z, ◌≤ℤ◌, le_z, le_z_yes, lt_z_yes, lt_z_no, ≤ℤ_refl, <ℤ-≤ℤ_trans, clash_ℤ}
 use Rattle.wing_node.proofs.Branches.{branch}
-use Rattle.wing_meters.specs.Afresh.{total, quotient, remainder, larger, largest, figures, figures_of}
+use Rattle.wing_meters.specs.Afresh.{total, quotient, remainder, larger, largest, figures_of}
 use Rattle.wing_meters.specs.Moving.{Say}
 use Rattle.wing_meters.specs.declared.figures.Figures.{Figures}
 use Rattle.wing_meters.specs.declared.figures.Told.{Told}

@@ -1,29 +1,27 @@
 -- Readings one after the other: the window after them, each answer, and the rows of figures laid into an output.
-use Prim.Native.Nat.{ℕ, zero, suc, ◌+◌, ◌-◌, ◌*◌, ◌≤◌, ◌<◌}
-use mathlib.Core.Bool.{Bool, true, false}
+use Prim.Native.Nat.{ℕ, suc, ◌+◌, ◌*◌, ◌≤◌, ◌<◌}
+use mathlib.Core.Bool.{true, false}
 use mathlib.Core.Logic.{⊎_elim}
-use mathlib.Core.Path.{◌≡◌, refl, sym, ap, ◌∙◌, subst}
+use mathlib.Core.Path.{◌≡◌, refl, sym, ap, ◌∙◌}
 use mathlib.Core.List.{List, [], ◌∷◌, ◌++◌, append_assoc, append-nil}
 use native.Mathlib.Omega.{arith}
-use native.Mathlib.Nat.{mul-suc}
 use native.Mathlib.Numerals.{add-one}
 use lib.Dec.{ltb}
 use lib.IntN.{ℤ, pos}
-use lib.ListN.{length, take, drop, set, get_or, length-append, length-set, length-take, length-drop, take-append-drop, drop_of_length-le}
+use lib.ListN.{length, take, drop, set, get_or, length-append, length-set, take-append-drop, drop_of_length-le}
 use lib.Seq.{drop-cons, sets, sets-eq, length-sets, length-take-le, take_at, drop_at, drop-drop}
 use borrow.Author.Tests.{lt-ltb, le-ltb, ne_eqb}
 use Rattle.wing_node.specs.Bool.{if}
 use Rattle.wing_meters.specs.Afresh.{figures_of}
-use Rattle.wing_meters.specs.Window.{window, taking, grown, kept_in, sound_window}
+use Rattle.wing_meters.specs.Window.{taking, kept_in, sound_window}
 use Rattle.wing_meters.specs.Kept.{figures_kept, told_kept}
 use Rattle.wing_meters.specs.Calls.{taken, reading_of, after_all, answers, row_of, row_told, rows, rows_effect, followed, readings_of}
 use Rattle.wing_meters.specs.declared.figures.Figures.{Figures}
-use Rattle.wing_meters.specs.declared.figures.Told.{Told}
-use Rattle.wing_meters.specs.declared.figures.Told.TheVariants.{None, Figures as Told-as-Figures, Refused}
+use Rattle.wing_meters.specs.declared.figures.Told.TheVariants.{Figures as Told-as-Figures, Refused}
 use Rattle.wing_meters.specs.declared.window.Window.{Window}
 use Rattle.wing_meters.specs.declared.reading.RowsAnswer.TheVariants.{Rows, Refused as NotFollowed}
 use Rattle.wing_meters.proofs.Rings.{grown-below, grown-full}
-use Rattle.wing_meters.proofs.Soundness.{Sound, sound, is-sound}
+use Rattle.wing_meters.proofs.Soundness.{sound, is-sound}
 use Rattle.wing_meters.proofs.Windows.{kept-told, sound-taking}
 
 pub size-taking : (w : Window) (x : ℤ) → length w.levels ≡ 256 → length (taking w x).levels ≡ 256

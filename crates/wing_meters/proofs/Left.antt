@@ -1,33 +1,28 @@
 -- What a list of readings leaves, and which windows some list leaves.
-use Prim.Native.Nat.{ℕ, zero, suc, ◌+◌, ◌-◌, ◌*◌, ◌%◌, ◌≤◌, ◌<◌, max}
-use mathlib.Core.Bool.{Bool, true, false}
-use mathlib.Core.Logic.{◌⊎◌, inl, inr, ⊎_elim}
+use Prim.Native.Nat.{ℕ, zero, suc, ◌+◌, ◌-◌, ◌%◌, ◌≤◌, ◌<◌}
+use mathlib.Core.Bool.{true}
+use mathlib.Core.Logic.{inl}
 use mathlib.Core.Path.{◌≡◌, refl, sym, ap, ◌∙◌, subst}
-use mathlib.Core.List.{List, [], ◌∷◌, ◌++◌, map, foldl, foldl-append, append-nil, append_assoc}
+use mathlib.Core.List.{List, [], ◌∷◌, ◌++◌, foldl, append-nil, append_assoc}
 use native.Mathlib.Omega.{arith}
-use native.Mathlib.Nat.{mod-lt, mod-eq_of_lt, mod_self, suc-mod, add-mod_right, zero-mod}
+use native.Mathlib.Nat.{mod-lt, mod-eq_of_lt, mod_self, suc-mod}
 use native.Mathlib.Numerals.{add-one}
 use lib.Dec.{ltb}
-use lib.IntN.{ℤ, pos}
-use lib.ListN.{length, take, drop, get_or, replicate, length-append, length-drop, length-take, length-replicate, take-append-drop}
-use lib.Seq.{take_at, drop_at, drop-append-le, drop-drop, length-take-le}
-use borrow.Author.Tests.{ltb-true, ltb-false, lt-ltb, le-ltb}
-use Rattle.wing_node.specs.Bool.{if}
-use Rattle.wing_node.specs.Signed.{InBits}
+use lib.IntN.{ℤ}
+use lib.ListN.{length, take, drop, get_or, replicate, length-append, length-drop}
+use lib.Seq.{drop-append-le, drop-drop}
+use borrow.Author.Tests.{ltb-true, ltb-false}
 use Rattle.wing_node.proofs.Branches.{branch}
 use Rattle.wing_meters.specs.Afresh.{last_of, figures_of}
-use Rattle.wing_meters.specs.Level.{level_of, reading_at, added, greatest}
-use Rattle.wing_meters.specs.Window.{window, control, fresh_window, taking, leaves, grown, onward, in_order, kept_in, sound_window}
-use Rattle.wing_meters.specs.Calls.{figures_answer, reading_of, after_all, answers}
-use Rattle.wing_meters.specs.Moving.{Readings, no_readings, reading_then, Width, Leaves, Left, Typed}
-use Rattle.wing_meters.specs.declared.figures.Told.{Told}
+use Rattle.wing_meters.specs.Level.{added, greatest}
+use Rattle.wing_meters.specs.Window.{fresh_window, taking, onward, in_order, kept_in, sound_window}
+use Rattle.wing_meters.specs.Calls.{reading_of, after_all, answers}
+use Rattle.wing_meters.specs.Moving.{Readings, reading_then, Width}
 use Rattle.wing_meters.specs.declared.figures.Told.TheVariants.{None}
-use Rattle.wing_meters.specs.declared.window.Control.{Control}
 use Rattle.wing_meters.specs.declared.window.Window.{Window}
-use Rattle.wing_meters.proofs.Levels.{level-reading, reading-in}
 use Rattle.wing_meters.proofs.Rings.{last-all}
-use Rattle.wing_meters.proofs.Soundness.{Placed, Sound, sound, is-sound, held-le, next_le, next-below}
-use Rattle.wing_meters.proofs.Windows.{levels_in, kept-levels, kept-taking, sound-taking, length-levels, length-kept, length-map}
+use Rattle.wing_meters.proofs.Soundness.{Sound, sound, held-le}
+use Rattle.wing_meters.proofs.Windows.{kept-taking, length-kept}
 use Rattle.wing_meters.proofs.Follows.{size-taking, reading-sound, still-sound, after_on}
 
 after_none : (w : Window) → after_all w [] ≡ w

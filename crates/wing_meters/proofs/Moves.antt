@@ -1,18 +1,17 @@
 -- What specs/Moving states.
-use Prim.Native.Nat.{ℕ, zero, suc, ◌+◌, ◌-◌, ◌≤◌, ◌<◌}
+use Prim.Native.Nat.{ℕ, zero, suc, ◌+◌, ◌-◌}
 use mathlib.Core.Bool.{Bool, true, false, true≢false}
 use mathlib.Core.Path.{◌≡◌, refl, sym, ap, ◌∙◌, subst}
-use mathlib.Core.List.{List, [], ◌∷◌, ◌++◌, foldl, foldl-append}
+use mathlib.Core.List.{List, [], ◌∷◌, ◌++◌, foldl-append}
 use native.Mathlib.Omega.{arith}
 use native.Mathlib.Numerals.{add-one}
 use lib.IntN.{ℤ}
-use lib.ListN.{length, take, drop, get_or, take-append-drop, length-drop}
+use lib.ListN.{length, take, take-append-drop, length-drop}
 use Rattle.wing_node.specs.Signed.{InBits}
 use Rattle.wing_meters.specs.Afresh.{last_of, figures_of}
 use Rattle.wing_meters.specs.Window.{fresh_window, taking, leaves, kept_in, sound_window}
 use Rattle.wing_meters.specs.Calls.{figures_answer, taken, reading_of, after_all, answers, row_told, rows}
 use Rattle.wing_meters.specs.Moving.{Readings, no_readings, reading_then, Width, Last, Leaves, Left, Typed, afresh_rows, Along, Moving}
-use Rattle.wing_meters.specs.declared.figures.Told.TheVariants.{None}
 use Rattle.wing_meters.specs.declared.window.Window.{Window}
 use Rattle.wing_meters.proofs.Soundness.{is-sound}
 use Rattle.wing_meters.proofs.Follows.{reading-sound}

@@ -1,26 +1,24 @@
 -- Every sound window is left by a list of readings: it is told by its width, its next place and the readings that it holds.
-use Prim.Native.Nat.{ℕ, zero, suc, ◌+◌, ◌-◌, ◌*◌, ◌%◌, ◌≤◌, ◌<◌, max}
-use mathlib.Core.Bool.{Bool, true, false}
+use Prim.Native.Nat.{ℕ, zero, suc, ◌+◌, ◌-◌, ◌%◌, ◌≤◌, ◌<◌}
+use mathlib.Core.Bool.{true}
 use mathlib.Core.Logic.{⊎_elim}
 use mathlib.Core.Path.{◌≡◌, refl, sym, ap, ◌∙◌, subst}
-use mathlib.Core.List.{List, [], ◌∷◌, ◌++◌, map, foldl}
+use mathlib.Core.List.{List, [], ◌∷◌, ◌++◌, map}
 use native.Mathlib.Omega.{arith}
 use native.Mathlib.Nat.{mod-eq_of_lt, add-mod_right, zero-mod}
 use lib.IntN.{ℤ, pos}
-use lib.ListN.{length, take, drop, get_or, replicate, length-append, length-drop, length-take, length-replicate, take-append-drop}
+use lib.ListN.{length, take, drop, get_or, replicate, length-append, length-drop, length-replicate, take-append-drop}
 use lib.Seq.{take_at, drop_at, length-take-le}
-use Rattle.wing_node.specs.Signed.{InBits}
 use Rattle.wing_meters.specs.Afresh.{last_of}
 use Rattle.wing_meters.specs.Level.{level_of, reading_at, added, greatest}
-use Rattle.wing_meters.specs.Window.{window, control, fresh_window, taking, leaves, in_order, kept_in, sound_window}
-use Rattle.wing_meters.specs.Moving.{Readings, no_readings, reading_then, Width, Leaves, Left, Typed}
-use Rattle.wing_meters.specs.declared.window.Control.{Control}
+use Rattle.wing_meters.specs.Window.{window, control, fresh_window, leaves, in_order, kept_in, sound_window}
+use Rattle.wing_meters.specs.Moving.{Readings, no_readings, reading_then, Width, Left, Typed}
 use Rattle.wing_meters.specs.declared.window.Window.{Window}
 use Rattle.wing_meters.proofs.Levels.{level-reading, reading-in}
 use Rattle.wing_meters.proofs.Rings.{last-all, length-turned}
 use Rattle.wing_meters.proofs.Soundness.{Sound, sound, is-sound, held-le, next_le}
 use Rattle.wing_meters.proofs.Windows.{levels_in, kept-levels, length-levels, length-kept}
-use Rattle.wing_meters.proofs.Left.{fresh-sound, fresh-size, fresh_kept, Ran, ran, ran-next}
+use Rattle.wing_meters.proofs.Left.{fresh-sound, fresh-size, fresh_kept, ran, ran-next}
 
 -- ---- a list turned, and turned back
 

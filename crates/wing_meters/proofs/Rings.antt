@@ -1,16 +1,14 @@
 -- Levels in a ring: those held, the oldest first, after one more goes in.
-use Prim.Native.Nat.{ℕ, zero, suc, ◌+◌, ◌-◌, ◌≤◌, ◌<◌}
-use mathlib.Core.Bool.{Bool, true, false}
+use Prim.Native.Nat.{ℕ, suc, ◌+◌, ◌-◌, ◌≤◌, ◌<◌}
 use mathlib.Core.Logic.{◌⊎◌, inl, inr, ⊎_elim}
-use mathlib.Core.Path.{◌≡◌, refl, sym, ap, ◌∙◌, subst}
-use mathlib.Core.List.{List, [], ◌∷◌, ◌++◌, map, append_assoc, append-nil}
+use mathlib.Core.Path.{◌≡◌, refl, sym, ap, ◌∙◌}
+use mathlib.Core.List.{List, [], ◌∷◌, ◌++◌, append_assoc, append-nil}
 use native.Mathlib.Omega.{arith}
 use native.Mathlib.Numerals.{add-one}
 use lib.Dec.{ltb}
-use lib.ListN.{length, take, drop, set, get_or, length-append, length-take, length-drop, length-set, drop_of_length-le, take-append-drop}
-use lib.Seq.{length-take-le, take_all, take-take, take-set-lt, take-suc-set, drop-set-lt, drop-cons}
+use lib.ListN.{length, take, drop, set, length-append, length-set, drop_of_length-le, take-append-drop}
+use lib.Seq.{length-take-le, take_all, take-set-lt, take-suc-set, drop-set-lt, drop-cons}
 use borrow.Author.Tests.{lt-ltb, le-ltb, ltb-true, ltb-false}
-use Rattle.wing_node.specs.Bool.{if}
 use Rattle.wing_node.proofs.Branches.{branch}
 use Rattle.wing_meters.specs.Afresh.{last_of}
 use Rattle.wing_meters.specs.Window.{in_order, grown, onward}

@@ -1,14 +1,13 @@
 -- Which windows are sound, told apart and put together again.
-use Prim.Native.Nat.{ℕ, suc, ◌+◌, ◌-◌, ◌*◌, ◌≤◌, ◌<◌}
+use Prim.Native.Nat.{◌≤◌, ◌<◌}
 use mathlib.Core.Bool.{Bool, true, false, true≢false}
 use mathlib.Core.Logic.{inl, inr, ⊎_elim}
-use mathlib.Core.Path.{◌≡◌, refl, sym, ap, ◌∙◌, subst}
-use mathlib.Core.List.{List}
+use mathlib.Core.Path.{◌≡◌, sym, ◌∙◌}
 use native.Mathlib.Omega.{arith}
 use lib.Dec.{ltb, eqb}
-use lib.ListN.{length, drop, get_or}
+use lib.ListN.{drop}
 use borrow.Author.Tests.{lt-ltb, le-ltb, ltb-true, ltb-false, eq-eqb, ne_eqb, eqb-true}
-use Rattle.wing_node.specs.Bool.{if, and}
+use Rattle.wing_node.specs.Bool.{and}
 use Rattle.wing_node.proofs.Branches.{branch, and_left, and_right}
 use Rattle.wing_meters.specs.Level.{added, greatest}
 use Rattle.wing_meters.specs.Window.{sound_control, sound_window}

@@ -5,7 +5,7 @@ use mir.Syntax.{w16}
 use mir.Val.{Val, Fits}
 use denote.Laws.{Is}
 use denote.Struct.Declared.{row}
-use lib.ListN.{length, get_or}
+use lib.ListN.{get_or}
 use borrow.Author.Rules.{rules}
 use Rattle.wing_meters.specs.Moving.{Typed}
 use Rattle.wing_meters.specs.declared.window.Window.{Window}

@@ -1,31 +1,25 @@
 -- Windows: what they hold after a reading, that they stay sound, and that what is kept up gives the figures.
 use Prim.Native.Nat.{ℕ, zero, suc, ◌+◌, ◌-◌, ◌*◌, ◌/◌, ◌%◌, ◌≤◌, ◌<◌}
-use mathlib.Core.Bool.{Bool, true, false}
-use mathlib.Core.Logic.{◌⊎◌, inl, inr, ⊎_elim}
+use mathlib.Core.Logic.{⊎_elim}
 use mathlib.Core.Path.{◌≡◌, refl, sym, ap, ◌∙◌, subst}
 use mathlib.Core.List.{List, [], ◌∷◌, ◌++◌, map, map-append}
 use native.Mathlib.Omega.{arith}
-use native.Mathlib.Numerals.{add-one}
-use lib.Dec.{ltb, eqb}
-use lib.IntN.{ℤ, pos}
-use lib.ListN.{length, take, drop, set, get_or, length-append, length-set}
+use lib.IntN.{ℤ}
+use lib.ListN.{length, take, drop, set, get_or, length-append}
 use lib.Seq.{length-take-le, drop-set-lt, get_or-take}
-use borrow.Author.Tests.{lt-ltb, le-ltb, ltb-true, ltb-false, eq-eqb, ne_eqb}
-use Rattle.wing_node.specs.Bool.{if}
+use borrow.Author.Tests.{lt-ltb, le-ltb, eq-eqb, ne_eqb}
 use Rattle.wing_node.specs.Signed.{InBits}
-use Rattle.wing_node.proofs.Branches.{branch}
 use Rattle.wing_meters.specs.Afresh.{last_of, total, quotient, remainder, largest, figures, figures_of}
 use Rattle.wing_meters.specs.Level.{level_of, reading_at, lowered, added, greatest}
-use Rattle.wing_meters.specs.Window.{window, control, around, grown, onward, taking, in_order, kept_in, sound_window}
+use Rattle.wing_meters.specs.Window.{grown, onward, taking, in_order, kept_in}
 use Rattle.wing_meters.specs.Kept.{figures_kept, told_kept, InRange, TopBefore}
-use Rattle.wing_meters.specs.declared.figures.Told.{Told}
-use Rattle.wing_meters.specs.declared.figures.Told.TheVariants.{None, Figures as Told-as-Figures}
+use Rattle.wing_meters.specs.declared.figures.Told.TheVariants.{Figures as Told-as-Figures}
 use Rattle.wing_meters.specs.declared.window.Control.{Control}
 use Rattle.wing_meters.specs.declared.window.Window.{Window}
 use Rattle.wing_meters.proofs.Levels.{reading-level, total_lowered, quotient-lowered, largest-lowered}
 use Rattle.wing_meters.proofs.Sums.{kept-up, leaving-in, top-before, added-le, greatest-from, added-turned, greatest-turned, added-used, greatest-used}
-use Rattle.wing_meters.proofs.Rings.{length-turned, last-all, last-but, unfilled, full, Place, grown-below, grown-full, place-on}
-use Rattle.wing_meters.proofs.Soundness.{Placed, Sound, held-le, next_le, next-below}
+use Rattle.wing_meters.proofs.Rings.{length-turned, last-all, last-but, unfilled, full, grown-below, grown-full, place-on}
+use Rattle.wing_meters.proofs.Soundness.{Sound, held-le, next-below}
 
 -- ---- lists mapped
 

@@ -169,7 +169,8 @@ fn lent_fault(d: Fields, name: &[u8], long_name: &[u8], items: &[u8]) -> Fault
     if name.len() > 255 {
         return by_number(15);
     }
-    if long_name.len() > 255 {
+    let long = long_name.len();
+    if long > 255 {
         return by_number(15);
     }
     let names = first_fault(text_fault(name), text_fault(long_name));

@@ -5,7 +5,7 @@ use Rattle.wing_node.specs.Bool.{if}
 use Rattle.wing_wire.specs.State.{control}
 use Rattle.wing_wire.specs.Escape.{decode_next_of}
 use Rattle.wing_wire.specs.Unit.{shift_in}
-use Rattle.wing_wire.specs.Stream.{answered, StepEffect, step_effect, no_answer, is_more, given_of}
+use Rattle.wing_wire.specs.Stream.{StepEffect, step_effect, no_answer, is_more, given_of}
 use Rattle.wing_wire.specs.declared.token.Class.{Class}
 use Rattle.wing_wire.specs.declared.state.Pending.{Pending}
 use Rattle.wing_wire.specs.declared.state.Pending.TheVariants.{None, Byte}

@@ -1,15 +1,15 @@
 -- Hex digits and pairs: tests, and pairs of bytes back.
-use Prim.Native.Nat.{ℕ, zero, suc, ◌+◌, ◌-◌, ◌*◌, ◌/◌, ◌%◌, ◌^◌, ◌≤◌, ◌<◌}
+use Prim.Native.Nat.{ℕ, zero, suc, ◌+◌, ◌-◌, ◌*◌, ◌/◌, ◌%◌, ◌≤◌, ◌<◌}
 use mathlib.Core.Bool.{Bool, true, false}
 use mathlib.Core.Path.{◌≡◌, refl, sym, ap, ◌∙◌}
 use mathlib.Core.Logic.{◌⊎◌, inl, inr, ⊎_elim}
-use mathlib.Core.List.{List, [], ◌∷◌, ◌++◌, map}
+use mathlib.Core.List.{List, [], ◌∷◌}
 use native.Mathlib.Omega.{arith}
-use borrow.Author.Tests.{ltb-true, ltb-false, leb-true, eqb-true, lt-ltb, le-ltb, le-leb, lt-leb, eq-eqb, ne_eqb}
+use borrow.Author.Tests.{ltb-true, ltb-false, leb-true, eqb-true, lt-ltb, le-ltb, le-leb, lt-leb, eq-eqb}
 use lib.Dec.{ltb, leb, eqb}
 use lib.ListN.{length, get_or, set, take}
 use lib.Seq.{sets}
-use Rattle.wing_node.specs.Bool.{if, and, or}
+use Rattle.wing_node.specs.Bool.{and, or}
 use Rattle.wing_node.specs.Bytes.{joined}
 use Rattle.wing_node.proofs.Branches.{if-both, and_left, and_right}
 use Rattle.wing_node.proofs.Numerals.Numbers.{Digits}
@@ -18,7 +18,7 @@ use Rattle.wing_mirror.specs.Table.{every}
 use Rattle.wing_listing.specs.Integers.{is_digit}
 use Rattle.wing_listing.specs.Hex.{hex_digit, hex_value, is_hex, pair_of, pairs_of, from_pairs, are_pairs}
 use Rattle.wing_listing.proofs.Printing.Pairs.{length_pairs}
-use Rattle.wing_listing.proofs.Texts.Numbers.{by-test, digit-yes, digit_low, digit-high, digit-range}
+use Rattle.wing_listing.proofs.Texts.Numbers.{by-test, digit-high, digit-range}
 
 pub hex-low : (a : ℕ) → a ≤ 0x39 → leb 0x30 a ≡ is_hex a
 unfolding is_hex is_digit

@@ -1,11 +1,11 @@
 -- A line by the place of its first comma: in form or not, its kind letter and where its value begins.
-use Prim.Native.Nat.{ℕ, zero, suc, ◌+◌, ◌≤◌, ◌<◌}
+use Prim.Native.Nat.{ℕ, suc, ◌+◌, ◌≤◌, ◌<◌}
 use mathlib.Core.Bool.{Bool, true, false, not}
 use mathlib.Core.Path.{◌≡◌, refl, sym, ap, ◌∙◌}
 use mathlib.Core.Logic.{⊎_elim}
 use mathlib.Core.List.{List, [], ◌∷◌, ◌++◌}
 use native.Mathlib.Omega.{arith}
-use borrow.Author.Tests.{ltb-true, ltb-false, eqb-true, eqb-false, not-true, lt-ltb, le-ltb, eq-eqb, ne_eqb}
+use borrow.Author.Tests.{ltb-true, ltb-false, eqb-true, eqb-false, eq-eqb, ne_eqb}
 use lib.Dec.{ltb, eqb}
 use lib.ListN.{length, get_or, drop, length-drop}
 use Rattle.wing_node.specs.Bool.{if, and}
@@ -18,7 +18,7 @@ use Rattle.wing_listing.specs.Hex.{is_hex, are_pairs}
 use Rattle.wing_listing.specs.Listing.{letter_i, letter_f, letter_s}
 use Rattle.wing_listing.specs.Reading.{is_value, is_line}
 use Rattle.wing_listing.specs.Steps.{value_at}
-use Rattle.wing_listing.proofs.Texts.Drops.{drop-next, drop-none, every-also}
+use Rattle.wing_listing.proofs.Texts.Drops.{drop-next, every-also}
 use Rattle.wing_listing.proofs.Texts.Numbers.{by-test, and-false, digit-range, natural-parts}
 use Rattle.wing_listing.proofs.Texts.Hexes.{hex-range, pairs-hex}
 use Rattle.wing_listing.proofs.Texts.Parts.{plain, front-hit, front-on, parted-some, parted-hit, parted-whole, parted-plain, parted-ended, front-text}

@@ -3,7 +3,7 @@ use Prim.Native.Nat.{ℕ, ◌+◌, ◌^◌, ◌≤◌, ◌<◌}
 use mathlib.Core.Bool.{Bool, true, false}
 use mathlib.Core.Path.{◌≡◌, refl, sym, ap, ◌∙◌}
 use native.Mathlib.Omega.{arith}
-use mathlib.Core.List.{List, [], ◌∷◌}
+use mathlib.Core.List.{List}
 use borrow.Author.Tests.{ltb-true}
 use mir.Syntax.{w32}
 use mir.Val.{SFits, to_z, of_z}
@@ -16,9 +16,8 @@ use Rattle.wing_node.proofs.Branches.{and_right}
 use Rattle.wing_listing.specs.Parts.{comma, part}
 use Rattle.wing_listing.specs.Integers.{first, is_signed, fits32, is_integer}
 use Rattle.wing_listing.specs.Reading.{is_value, is_line}
-use Rattle.wing_listing.specs.Steps.{integer_read, read_as, LineSays, value_at}
+use Rattle.wing_listing.specs.Steps.{integer_read, LineSays}
 use Rattle.wing_listing.specs.declared.integer.IntegerRead.{IntegerRead}
-use Rattle.wing_listing.specs.declared.line.Line.{Line}
 use Rattle.wing_listing.proofs.Texts.Numbers.{by-test}
 use Rattle.wing_listing.proofs.Texts.Parts.{front-take}
 use Rattle.wing_listing.proofs.Texts.Values.{read-formed}

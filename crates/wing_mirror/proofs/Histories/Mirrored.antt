@@ -11,7 +11,7 @@ use Rattle.wing_node.specs.Bool.{if}
 use Rattle.wing_mirror.specs.Rows.{Table, records, laid, holds, insert, takes, store, All}
 use Rattle.wing_mirror.specs.Entry.{Entry}
 use Rattle.wing_mirror.specs.Layout.{Layout, ValidEntry, Lawful}
-use Rattle.wing_mirror.specs.Table.{table, rows, checked_of, checked, sound_of, sound_table, usable_of, places_allowed, usable, put, fits}
+use Rattle.wing_mirror.specs.Table.{table, rows, checked_of, checked, sound_of, usable_of, places_allowed, usable, put, fits}
 use Rattle.wing_mirror.specs.Machine.{has, put_in, room}
 use Rattle.wing_mirror.specs.History.{rank, in_order, places_in}
 use Rattle.wing_mirror.proofs.Tables.Chunks.{Wide, records-laid, length-laid, drop-laid, laid-again}

@@ -1,13 +1,12 @@
 -- What a usable table is.
 use Prim.Native.Nat.{◌*◌, ◌≤◌}
-use mathlib.Core.Bool.{Bool, true, false, false≢true}
-use mathlib.Core.Path.{◌≡◌, refl}
+use mathlib.Core.Bool.{true}
+use mathlib.Core.Path.{◌≡◌}
 use native.Mathlib.Omega.{arith}
 use native.Mathlib.Nat.{mul-div-le, mul-le-mul_left}
 use borrow.Author.Tests.{leb-true}
 use lib.Dec.{leb}
 use lib.ListN.{length}
-use Rattle.wing_node.specs.Bool.{if}
 use Rattle.wing_node.proofs.Branches.{if-both}
 use Rattle.wing_mirror.specs.Rows.{Table, places, rising}
 use Rattle.wing_mirror.specs.Layout.{Layout}

@@ -1,5 +1,5 @@
 -- Bytes that begin with others, and bytes laid into a buffer one part after the other.
-use Prim.Native.Nat.{ℕ, suc, ◌+◌, ◌-◌, ◌≤◌, ◌<◌}
+use Prim.Native.Nat.{ℕ, suc, ◌+◌, ◌≤◌, ◌<◌}
 use mathlib.Core.Bool.{true, false}
 use mathlib.Core.Path.{◌≡◌, refl, ◌∙◌, ap₂, sym}
 use mathlib.Core.List.{List, [], ◌∷◌, ◌++◌, append-nil}

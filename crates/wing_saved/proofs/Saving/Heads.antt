@@ -1,5 +1,5 @@
 -- The fields before the store: how they are laid, and that they read back.
-use Prim.Native.Nat.{ℕ, ◌+◌, ◌-◌, ◌%◌, ◌^◌, ◌≤◌, ◌<◌}
+use Prim.Native.Nat.{ℕ, ◌+◌, ◌%◌, ◌^◌, ◌≤◌, ◌<◌}
 use mathlib.Core.Bool.{Bool, true, false}
 use mathlib.Core.Path.{◌≡◌, refl, ◌∙◌, ap}
 use mathlib.Core.List.{List, ◌∷◌, ◌++◌}
@@ -17,7 +17,7 @@ use Rattle.wing_node.proofs.Numerals.Numbers.{number_digits}
 use Rattle.wing_node.proofs.Numerals.Placed.{field-whole}
 use Rattle.wing_node.proofs.Numerals.Signs.{signed-unsigned}
 use Rattle.wing_wire.specs.Token.{class_number}
-use Rattle.wing_wire.specs.State.{escape, control}
+use Rattle.wing_wire.specs.State.{escape}
 use Rattle.wing_saved.specs.Saved.{flag, pending_flag, pending_byte_of, fields_of, head_under, pending_in, class_in, token_in, fields_in, control_in}
 use Rattle.wing_wire.specs.declared.token.Class.{Class}
 use Rattle.wing_wire.specs.declared.token.Class.TheVariants.{NoEvent, Integer, String, Length, Int16, Int32, Float, Node, End, Count, LongCount}

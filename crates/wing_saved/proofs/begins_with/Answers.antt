@@ -1,9 +1,9 @@
 -- The invariant: what is left of both tells whether s begins with the front; a byte that is the same is passed (`begins-turn`), another one tells
 -- that it does not (`begins-other`).
-use Prim.Native.Nat.{◌≤◌, ◌-◌}
-use mathlib.Core.Path.{◌≡◌, refl, ◌∙◌, sym}
+use Prim.Native.Nat.{◌≤◌}
+use mathlib.Core.Path.{refl, ◌∙◌, sym}
 use native.Mathlib.Omega.{arith}
-use lib.ListN.{length, drop, drop_of_length-le}
+use lib.ListN.{length, drop_of_length-le}
 use borrow.Author.Rules.{rules}
 use Rattle.wing_saved.specs.Saved.{begins}
 use Rattle.wing_saved.proofs.Saving.Fronts.{begins-turn, begins-other}

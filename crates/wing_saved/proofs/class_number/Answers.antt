@@ -1,5 +1,4 @@
 -- Each arm is the line of `class_number` with that class.
-use borrow.Author.Rules.{rules}
 use Rattle.wing_wire.specs.Token.{class_number}
 use Rattle.wing_saved.proofs.class_number.Goals as goal
 

@@ -1,6 +1,5 @@
 -- Each field is what `u16_at` or `u32_at` says of its place.
 use Rattle.wing_saved.specs.Saved.{fields_in}
-use borrow.Author.Rules.{rules}
 use Rattle.wing_saved.proofs.fields_in.Goals as goal
 
 pub returns : goal.returns

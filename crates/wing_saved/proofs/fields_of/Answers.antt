@@ -1,6 +1,5 @@
 -- Each arm is the line of `fields_of` with that variant, and the contract of `class_number` gives the number of a class.
 use Rattle.wing_saved.specs.Saved.{fields_of}
-use borrow.Author.Rules.{rules}
 use Rattle.wing_saved.proofs.fields_of.Goals as goal
 
 pub returns-in-Between : goal.returns-in-Between

@@ -1,7 +1,6 @@
 -- The bytes of a field each are stored at their places and those of four written by `put_i32` and `put_u32`, which are the fields in their order (law
 -- `fields-put`).
 use mathlib.Core.Path.{◌≡◌, ◌∙◌}
-use mir.Facts.{to_z-of_z}
 use mir.Val.{to_z, of_z}
 use mir.Syntax.{w8, w32}
 use Rattle.wing_saved.specs.Saved.{head_under}

@@ -3,7 +3,6 @@ use mathlib.Core.Bool.{true, false}
 use mathlib.Core.Path.{◌≡◌, sym, ◌∙◌}
 use borrow.Author.Tests.{eq-eqb, ne_eqb}
 use Rattle.wing_saved.specs.Saved.{head_under, control_in, begins, head_from_under, head_as}
-use borrow.Author.Rules.{rules}
 use Rattle.wing_saved.proofs.head_under.Goals as goal
 
 pub returns-then-begins_with : goal.returns-then-begins_with

@@ -1,7 +1,6 @@
 -- An output that is too short stays as it was (the wire's law `short`); else the fields are laid over its front (law `whole`).
 use mathlib.Core.Path.{refl}
 use native.Mathlib.Omega.{arith}
-use borrow.Author.Rules.{rules}
 use lib.Seq.{sets}
 use Rattle.wing_wire.specs.Write.{Laid}
 use Rattle.wing_wire.proofs.Laws.{writer-laws}

@@ -1,5 +1,4 @@
 -- The contract of `Control::fresh` gives the control beside the refusal.
-use borrow.Author.Rules.{rules}
 use Rattle.wing_saved.specs.Saved.{head_as}
 use Rattle.wing_saved.proofs.no_head.Goals as goal
 

@@ -1,5 +1,4 @@
 -- Each arm is the line of `pending_byte_of` with that variant.
-use borrow.Author.Rules.{rules}
 use Rattle.wing_saved.specs.Saved.{pending_byte_of}
 use Rattle.wing_saved.proofs.pending_byte.Goals as goal
 

@@ -1,5 +1,4 @@
 -- Each arm is the line of `pending_flag` with that variant.
-use borrow.Author.Rules.{rules}
 use Rattle.wing_saved.specs.Saved.{pending_flag}
 use Rattle.wing_saved.proofs.pending_flag.Goals as goal
 

@@ -1,5 +1,4 @@
 -- The contract of `State::fresh` gives the state beside the refusal.
-use borrow.Author.Rules.{rules}
 use Rattle.wing_saved.specs.Saved.{loaded_as}
 use Rattle.wing_saved.proofs.refuse.Goals as goal
 

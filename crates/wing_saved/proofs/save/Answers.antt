@@ -1,6 +1,5 @@
 -- Both returns are the branches of `save_of` by what `is_sound` tells, and the contract of `lay_state` gives the first.
 use Rattle.wing_saved.specs.Saved.{save_of}
-use borrow.Author.Rules.{rules}
 use Rattle.wing_saved.proofs.save.Goals as goal
 
 pub returns-then-is_sound : goal.returns-then-is_sound

@@ -1,7 +1,6 @@
 -- Each arm is the branch of `token_in` with that kind; the contracts of `class_in` and `low_16` give the class of a number and the counts.
 use borrow.Author.Tests.{ne_eqb}
 use Rattle.wing_saved.specs.Saved.{token_in}
-use borrow.Author.Rules.{rules}
 use Rattle.wing_saved.proofs.token_in.Goals as goal
 
 pub returns-in-1 : goal.returns-in-1

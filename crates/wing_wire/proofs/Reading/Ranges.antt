@@ -15,7 +15,7 @@ use Rattle.wing_node.specs.Utf8.{utf8}
 use Rattle.wing_node.proofs.Numerals.Signs.{signed-in}
 use Rattle.wing_node.specs.Refusal.{alone, string_not_utf8}
 use Rattle.wing_wire.specs.Token.{rule_of}
-use Rattle.wing_wire.specs.State.{body_limit, escape, fresh_state}
+use Rattle.wing_wire.specs.State.{body_limit, fresh_state}
 use Rattle.wing_wire.specs.Escape.{decode_of, escaped_of, plain_of, other_of}
 use Rattle.wing_wire.specs.Unit.{completes, single_of, is_string, token_of, begin_of, count_of, long_count_of, number_of, shift_in, number_unit, UnitEffect, cleared, string_done, string_unit, keeps, body_done, body_next, body_unit, unit_of}
 use Rattle.wing_wire.specs.Stream.{StepEffect, pending_of, settle_of, given_of, first_of, released, Fed, handle, fed_pending, fed_byte, fed_from, feed_of}

@@ -1,6 +1,5 @@
 -- By the contract of wing_listing's `load` the reply and the table are those of `load_of`, of which `load_call` says what is promised.
 use mathlib.Core.Path.{sym, subst}
-use borrow.Author.Rules.{rules}
 use Rattle.wing_listing.specs.Calls.{LoadEffect}
 use Rattle.promises.specs.Listing.{LoadCall}
 use Rattle.promises.proofs.Listings.{load_call}

@@ -1,7 +1,6 @@
 -- By the contract of wing_listing's `print` the answer and the output are those of `print_of`, of which `print-call` says what is promised, as the
 -- table's elements are bytes (`are-bytes`).
 use mathlib.Core.Path.{sym, subst}
-use borrow.Author.Rules.{rules}
 use Rattle.wing_wire.specs.Write.{WriteEffect}
 use Rattle.wing_mirror.specs.Table.{table}
 use Rattle.promises.specs.Listing.{PrintCall}

@@ -1,6 +1,5 @@
 -- By the contract of wing_meters' `figures` the answer is `figures_answer`, of which `figures_call` says what is promised, as the window is in the range of its
 -- types (`window-typed`).
-use borrow.Author.Rules.{rules}
 use Rattle.wing_meters.proofs.Types.{window-typed}
 use Rattle.promises.proofs.Windows.{figures_call}
 use Rattle.promises.proofs.meters.figures.Goals as goal

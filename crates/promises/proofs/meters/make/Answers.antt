@@ -1,5 +1,4 @@
 -- By the contract of wing_meters' `make` the answer is `made_of`, of which `make_call` says what is promised.
-use borrow.Author.Rules.{rules}
 use Rattle.promises.proofs.Windows.{make_call}
 use Rattle.promises.proofs.meters.make.Goals as goal
 

@@ -5,7 +5,6 @@ use Rattle.wing_meters.specs.Calls.{RowsEffect}
 use Rattle.wing_meters.proofs.Types.{window-typed}
 use Rattle.promises.specs.Meters.{ReadingsCall}
 use Rattle.promises.proofs.Windows.{readings_call}
-use borrow.Author.Rules.{rules}
 use Rattle.promises.proofs.meters.readings.Goals as goal
 
 pub returns : goal.returns

@@ -1,6 +1,5 @@
 -- By the contract of the mirror's `feed` the reply and the table are those of `mirror_feed`, of which `feed-call` says what is promised.
 use mathlib.Core.Path.{sym, subst}
-use borrow.Author.Rules.{rules}
 use Rattle.wing_mirror.specs.Table.{table}
 use Rattle.wing_mirror.specs.Mirror.{FeedEffect}
 use Rattle.promises.specs.Mirror.{mirror, FeedCall}

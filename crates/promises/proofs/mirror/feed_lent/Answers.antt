@@ -1,6 +1,5 @@
 -- By the contract of the mirror's `feed_lent` the reply, the store and the table are those of `lent_feed`, of which `lent-feed-call` says what is promised.
 use mathlib.Core.Path.{sym, subst}
-use borrow.Author.Rules.{rules}
 use Rattle.wing_wire.specs.State.{state_of}
 use Rattle.wing_mirror.specs.Table.{table}
 use Rattle.wing_mirror.specs.Mirror.{FeedEffect}

@@ -1,7 +1,6 @@
 -- By the contract of the mirror's `lookup` the answer is `lookup_answer`, of which `lookup-call` says what is promised, as the table's elements are
 -- bytes (`are-bytes`).
 use mir.Facts.{to_z-of_z}
-use borrow.Author.Rules.{rules}
 use Rattle.wing_mirror.specs.Table.{table}
 use Rattle.promises.proofs.Typed.{are-bytes}
 use Rattle.promises.proofs.Calls.{lookup-call}

@@ -1,7 +1,6 @@
 -- By the contract of the mirror's `recall` the answer and the output are those of `recall_of`, of which `recall-call` says what is promised, as the
 -- table's elements are bytes (`are-bytes`).
 use mathlib.Core.Path.{sym, subst}
-use borrow.Author.Rules.{rules}
 use Rattle.wing_wire.specs.Write.{WriteEffect}
 use Rattle.wing_mirror.specs.Table.{table}
 use Rattle.promises.specs.Mirror.{RecallCall}

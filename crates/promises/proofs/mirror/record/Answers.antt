@@ -1,6 +1,5 @@
 -- By the contract of the mirror's `record` the reply is `record_answer`, of which `record-call` says what is promised, as the table's elements are
 -- bytes (`are-bytes`).
-use borrow.Author.Rules.{rules}
 use Rattle.wing_mirror.specs.Table.{table}
 use Rattle.promises.proofs.Typed.{are-bytes}
 use Rattle.promises.proofs.Calls.{record-call}

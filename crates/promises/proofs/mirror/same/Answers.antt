@@ -1,5 +1,4 @@
 -- By the contract of the mirror's `same` the answer is `same_answer`, of which `same-call` says what is promised.
-use borrow.Author.Rules.{rules}
 use Rattle.promises.proofs.Calls.{same-call}
 use Rattle.promises.proofs.mirror.same.Goals as goal
 

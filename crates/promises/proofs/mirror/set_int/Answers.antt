@@ -1,7 +1,6 @@
 -- By the contract of the mirror's `set_int` the reply, the table and the output are those of `mirror_set`, of which `set-call` says what is promised.
 use mathlib.Core.Path.{sym, subst}
 use mir.Facts.{to_z-of_z}
-use borrow.Author.Rules.{rules}
 use Rattle.wing_node.specs.Value.{integer}
 use Rattle.wing_mirror.specs.Table.{table}
 use Rattle.wing_mirror.specs.Mirror.{SetEffect}

@@ -2,7 +2,6 @@
 -- promised.
 use mathlib.Core.Path.{sym, subst}
 use mir.Facts.{to_z-of_z}
-use borrow.Author.Rules.{rules}
 use Rattle.wing_node.specs.Value.{string}
 use Rattle.wing_mirror.specs.Table.{table}
 use Rattle.wing_mirror.specs.Mirror.{SetEffect}

@@ -1,5 +1,4 @@
 -- By the contract of the walker's `begin_over` the answer is that of `begin_of` (`answers_agree`), of which `begin_call` says what is promised.
-use borrow.Author.Rules.{rules}
 use Rattle.wing_node.proofs.Results.{answers_agree}
 use Rattle.promises.proofs.Parses.{begin_call}
 use Rattle.promises.proofs.node.begin_over.Goals as goal

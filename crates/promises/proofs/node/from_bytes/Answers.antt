@@ -1,5 +1,4 @@
 -- By the contract of the parser the answer is `definition_of`, of which `parser-call` says what is promised.
-use borrow.Author.Rules.{rules}
 use Rattle.promises.proofs.Parses.{parser-call}
 use Rattle.promises.proofs.node.from_bytes.Goals as goal
 

@@ -1,5 +1,4 @@
 -- By the contract of the value's `get_string` the answer is `answer_of`, which tells the string of `string_in` (`answers_agree`).
-use borrow.Author.Rules.{rules}
 use Rattle.wing_node.specs.Value.{node_value}
 use Rattle.wing_node.proofs.Results.{answers_agree}
 use Rattle.promises.proofs.node.get_string.Goals as goal

@@ -1,5 +1,4 @@
 -- By the contract of `item_by_number` the answer is `item_numbered`, of which `item_call` says what is promised.
-use borrow.Author.Rules.{rules}
 use Rattle.promises.proofs.Parses.{item_call}
 use Rattle.promises.proofs.node.item_by_number.Goals as goal
 

@@ -1,5 +1,4 @@
 -- By the contract of `item_step` the answer is `step_at`, of which `step_call` says what is promised.
-use borrow.Author.Rules.{rules}
 use Rattle.wing_node.specs.Items.{walk}
 use Rattle.promises.proofs.Parses.{step_call}
 use Rattle.promises.proofs.node.item_step.Goals as goal

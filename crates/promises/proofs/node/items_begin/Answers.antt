@@ -1,5 +1,4 @@
 -- By the contract of `items_begin` the answer is `begin_of`, of which `begin_call` says what is promised.
-use borrow.Author.Rules.{rules}
 use Rattle.promises.proofs.Parses.{begin_call}
 use Rattle.promises.proofs.node.items_begin.Goals as goal
 

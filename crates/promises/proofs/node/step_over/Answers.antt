@@ -1,5 +1,4 @@
 -- By the contract of the walker's `step_over` the answer is `step_at`, of which `step_call` says what is promised.
-use borrow.Author.Rules.{rules}
 use Rattle.promises.proofs.Parses.{step_call}
 use Rattle.promises.proofs.node.step_over.Goals as goal
 

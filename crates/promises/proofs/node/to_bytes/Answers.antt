@@ -2,7 +2,6 @@
 -- their widths is told where one of them is read.
 use mathlib.Core.Path.{sym, subst}
 use native.Mathlib.Omega.{arith}
-use borrow.Author.Rules.{rules}
 use Rattle.wing_node.specs.Writer.{BodyEffect, lent}
 use Rattle.wing_node.specs.BothWays.{InWidth}
 use Rattle.promises.specs.Writer.{WriterCall}

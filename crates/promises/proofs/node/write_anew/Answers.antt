@@ -1,7 +1,6 @@
 -- By the contract of `write_anew` the answer and the output are those of `anew_of`, of which `anew_call` says what is promised.
 use mathlib.Core.Path.{sym, subst}
 use native.Mathlib.Omega.{arith}
-use borrow.Author.Rules.{rules}
 use Rattle.wing_node.specs.Writer.{BodyEffect}
 use Rattle.promises.specs.Writer.{AnewCall}
 use Rattle.promises.proofs.Bodies.{anew_call}

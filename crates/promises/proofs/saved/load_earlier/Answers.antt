@@ -1,6 +1,5 @@
 -- By the contract of wing_saved's `load_earlier` the answer is `load_earlier_of`, of which `load-earlier-call` says what is promised, as the elements of the slice are bytes
 -- (`are-bytes`).
-use borrow.Author.Rules.{rules}
 use Rattle.promises.proofs.Typed.{are-bytes}
 use Rattle.promises.proofs.Savers.{load-earlier-call}
 use Rattle.promises.proofs.saved.load_earlier.Goals as goal

@@ -1,7 +1,6 @@
 -- By the contract of wing_saved's `save` the answer and the output are those of `save_of`, of which `save-call` says what is promised, as the state is in the
 -- range of its types (`state-typed`).
 use mathlib.Core.Path.{sym, subst}
-use borrow.Author.Rules.{rules}
 use Rattle.wing_wire.specs.Write.{WriteEffect}
 use Rattle.wing_saved.proofs.Saving.Types.{state-typed}
 use Rattle.promises.specs.Saved.{SaveCall}

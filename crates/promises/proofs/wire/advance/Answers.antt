@@ -1,6 +1,5 @@
 -- By the contract of the core the answer and the store are those of `advance_of`, of which `core-is-next` says that they are what a next call gives.
 use mathlib.Core.Path.{sym, subst}
-use borrow.Author.Rules.{rules}
 use Rattle.wing_wire.specs.State.{state_of}
 use Rattle.wing_wire.specs.Stream.{Run}
 use Rattle.wing_wire.specs.Repeated.{CoreGives}

@@ -1,5 +1,4 @@
 -- By the contract of the wire's `carry_over` the answer is `carry_of`, of which `carry-call` says what is promised.
-use borrow.Author.Rules.{rules}
 use Rattle.promises.proofs.Carries.{carry-call}
 use Rattle.promises.proofs.wire.carry_over.Goals as goal
 

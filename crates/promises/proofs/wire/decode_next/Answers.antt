@@ -1,5 +1,4 @@
 -- By the contract of the wire's `decode_next` the answer is `decode_next_of`, of which `decode_call` says what is promised.
-use borrow.Author.Rules.{rules}
 use Rattle.promises.proofs.Decodes.{decode_call}
 use Rattle.promises.proofs.wire.decode_next.Goals as goal
 

@@ -1,7 +1,6 @@
 -- By the contract of the wire's `format_id` the answer and the output are those of `write_of`, of which `command-writes` says what is promised.
 use mathlib.Core.Path.{sym, subst}
 use mir.Facts.{to_z-of_z}
-use borrow.Author.Rules.{rules}
 use Rattle.wing_wire.specs.Command.{id_bytes, suffix_bytes}
 use Rattle.wing_wire.specs.Write.{WriteEffect}
 use Rattle.promises.specs.Wire.{CommandCall}

@@ -1,7 +1,6 @@
 -- By the contract of the wire's `keep_alive_meters` the answer and the output are those of `write_of`, of which `command-writes` says what is
 -- promised.
 use mathlib.Core.Path.{sym, subst}
-use borrow.Author.Rules.{rules}
 use Rattle.wing_wire.specs.Meter.{keep_alives}
 use Rattle.wing_wire.specs.Write.{WriteEffect}
 use Rattle.promises.specs.Wire.{CommandCall}

@@ -1,6 +1,5 @@
 -- By the contract of the wire's `read_meters` the answer and the readings are those of `packet_of`, of which `packet-reads` says what is promised.
 use mathlib.Core.Path.{sym, subst}
-use borrow.Author.Rules.{rules}
 use Rattle.wing_wire.specs.Meter.{PacketEffect}
 use Rattle.promises.specs.Wire.{PacketCall}
 use Rattle.promises.proofs.Writers.{packet-reads}

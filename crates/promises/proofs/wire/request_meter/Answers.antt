@@ -1,7 +1,6 @@
 -- By the contract of the wire's `request_meter` the answer and the output are those of `request_meter`, of which `meters-write` says what is
 -- promised.
 use mathlib.Core.Path.{sym, subst}
-use borrow.Author.Rules.{rules}
 use Rattle.wing_wire.specs.Meter.{RequestEffect}
 use Rattle.promises.specs.Wire.{MeterCall}
 use Rattle.promises.proofs.Writers.{meters-write}

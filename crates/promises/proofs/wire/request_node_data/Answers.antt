@@ -2,7 +2,6 @@
 -- promised.
 use mathlib.Core.Path.{sym, subst}
 use mir.Facts.{to_z-of_z}
-use borrow.Author.Rules.{rules}
 use Rattle.wing_wire.specs.Command.{request_bytes}
 use Rattle.wing_wire.specs.Write.{WriteEffect}
 use Rattle.promises.specs.Wire.{CommandCall}

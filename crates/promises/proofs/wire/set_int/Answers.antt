@@ -1,7 +1,6 @@
 -- By the contract of the wire's `set_int` the answer and the output are those of `write_of`, of which `order-call` says what is promised.
 use mathlib.Core.Path.{sym, subst}
 use mir.Facts.{to_z-of_z}
-use borrow.Author.Rules.{rules}
 use Rattle.wing_node.specs.Value.{integer}
 use Rattle.wing_wire.specs.Write.{WriteEffect}
 use Rattle.wing_wire.specs.Command.{set_bytes}

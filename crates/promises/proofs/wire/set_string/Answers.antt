@@ -1,7 +1,6 @@
 -- By the contract of the wire's `set_string` the answer and the output are those of `set_string`, of which `string-call` says what is promised.
 use mathlib.Core.Path.{sym, subst}
 use mir.Facts.{to_z-of_z}
-use borrow.Author.Rules.{rules}
 use Rattle.wing_node.specs.Value.{string}
 use Rattle.wing_wire.specs.Write.{WriteEffect}
 use Rattle.promises.specs.Wire.{string_lines, SetOrder}

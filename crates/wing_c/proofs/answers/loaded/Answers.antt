@@ -1,5 +1,4 @@
 -- Each arm is the line of `loaded_numbers` with that answer.
-use borrow.Author.Rules.{rules}
 use Rattle.wing_c.proofs.answers.loaded.Goals as goal
 
 pub returns-in-Records : goal.returns-in-Records

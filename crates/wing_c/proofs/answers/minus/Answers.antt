@@ -2,7 +2,6 @@
 use Rattle.wing_c.proofs.Signs.{turned-over}
 use native.Mathlib.Omega.{arith}
 use borrow.Author.Tests.{eq-eqb, ne_eqb}
-use borrow.Author.Rules.{rules}
 use Rattle.wing_c.proofs.answers.minus.Goals as goal
 
 pub returns-then-why-eq0 : goal.returns-then-why-eq0

@@ -1,7 +1,7 @@
 -- A record goes by `record_of`, with its origin's number, a refusal by `minus`.
 use mir.Syntax.{w32}
 use mir.Val.{to_z, of_z}
-use mathlib.Core.Path.{◌≡◌, ◌∙◌, ap}
+use mathlib.Core.Path.{◌≡◌, ◌∙◌}
 use borrow.Author.Rules.{rules}
 use Rattle.wing_c.proofs.answers.record.Goals as goal
 

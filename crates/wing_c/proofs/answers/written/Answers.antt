@@ -1,5 +1,4 @@
 -- Each arm is the line of `written_numbers` with that answer.
-use borrow.Author.Rules.{rules}
 use Rattle.wing_c.proofs.answers.written.Goals as goal
 
 pub returns-in-Bytes : goal.returns-in-Bytes

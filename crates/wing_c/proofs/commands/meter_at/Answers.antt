@@ -1,6 +1,5 @@
 -- Within the pairs the contract of `meter_of` gives the meter; past them it is rta.
 use borrow.Author.Tests.{le-ltb, lt-ltb}
-use borrow.Author.Rules.{rules}
 use Rattle.wing_c.proofs.commands.meter_at.Goals as goal
 
 pub returns-then-number-pairs : goal.returns-then-number-pairs

@@ -1,11 +1,7 @@
 -- The invariant: the first i entries are the meters of their numbers; a turn adds one (`meters-turn`).
-use Prim.Native.Nat.{ℕ, ◌≤◌, ◌<◌, ◌-◌}
-use mathlib.Core.Path.{◌≡◌, refl, ◌∙◌, ap}
+use mathlib.Core.Path.{refl, ◌∙◌}
 use native.Mathlib.Omega.{arith}
-use lib.ListN.{length, get_or, length-set}
-use borrow.Author.Rules.{rules}
-use Rattle.wing_wire.specs.declared.meter.Meter.TheVariants.{Rta}
-use Rattle.wing_c.specs.Meters.{meter_at}
+use lib.ListN.{length-set}
 use Rattle.wing_c.proofs.Pairs.{meters-turn}
 use Rattle.wing_c.proofs.commands.meters_of.Goals as goal
 

@@ -1,11 +1,8 @@
 use Prim.Native.Nat.{ℕ, ◌≤◌, ◌<◌, ◌-◌}
-use mathlib.Core.Path.{◌≡◌, refl, ◌∙◌, ap}
-use native.Mathlib.Omega.{arith}
-use lib.ListN.{length, get_or, length-set}
-use borrow.Author.Rules.{rules}
+use mathlib.Core.Path.{◌≡◌}
+use lib.ListN.{length, get_or}
 use Rattle.wing_wire.specs.declared.meter.Meter.TheVariants.{Rta}
 use Rattle.wing_c.specs.Meters.{meter_at}
-use Rattle.wing_c.proofs.Pairs.{meters-turn}
 use Rattle.wing_c.proofs.commands.meters_of.Given as goal
 
 abbrev pub invariant-loop-i : goal.invariant-loop-i

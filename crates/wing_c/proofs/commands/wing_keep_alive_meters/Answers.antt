@@ -1,6 +1,5 @@
 -- The contract of the wire's call, with its answer by numbers (`command-as`).
 use Rattle.wing_c.proofs.Effects.{command-as}
-use borrow.Author.Rules.{rules}
 use Rattle.wing_c.proofs.commands.wing_keep_alive_meters.Goals as goal
 
 pub returns : goal.returns

@@ -1,6 +1,5 @@
 -- The contract of the wire's call, with its answer by numbers (`packet-as`).
 use Rattle.wing_c.proofs.Effects.{packet-as}
-use borrow.Author.Rules.{rules}
 use Rattle.wing_c.proofs.commands.wing_read_meters.Goals as goal
 
 pub returns : goal.returns

@@ -1,7 +1,6 @@
 -- The contract of the wire's call, with its answer by numbers (`command-as`).
 use mir.Facts.{to_z-of_z}
 use Rattle.wing_c.proofs.Effects.{command-as}
-use borrow.Author.Rules.{rules}
 use Rattle.wing_c.proofs.commands.wing_request_node_data.Goals as goal
 
 pub returns : goal.returns

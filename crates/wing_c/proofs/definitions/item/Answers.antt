@@ -1,5 +1,4 @@
 -- Each arm is the line of `item_numbers` with that item.
-use borrow.Author.Rules.{rules}
 use Rattle.wing_c.proofs.definitions.item.Goals as goal
 
 pub returns-in-None : goal.returns-in-None

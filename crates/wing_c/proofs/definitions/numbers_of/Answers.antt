@@ -1,7 +1,7 @@
 -- Each arm is the line of `detail_numbers` with these details; signed numbers come back from their bits as they went in.
 use mir.Syntax.{w32}
 use mir.Val.{to_z, of_z}
-use mathlib.Core.Path.{◌≡◌, ◌∙◌, ap}
+use mathlib.Core.Path.{◌≡◌, ◌∙◌}
 use borrow.Author.Rules.{rules}
 use Rattle.wing_c.proofs.definitions.numbers_of.Goals as goal
 

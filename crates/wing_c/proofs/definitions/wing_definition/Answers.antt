@@ -1,5 +1,4 @@
 -- The contract of the parser says which of the two arms it is.
-use borrow.Author.Rules.{rules}
 use Rattle.wing_c.proofs.definitions.wing_definition.Goals as goal
 
 pub returns-in-Good : goal.returns-in-Good

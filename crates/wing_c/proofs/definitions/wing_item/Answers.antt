@@ -1,5 +1,4 @@
 -- The contract of the call for an item by its number, with the item by numbers.
-use borrow.Author.Rules.{rules}
 use Rattle.wing_c.proofs.definitions.wing_item.Goals as goal
 
 pub returns : goal.returns

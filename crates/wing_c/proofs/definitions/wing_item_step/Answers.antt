@@ -2,7 +2,6 @@
 use Rattle.wing_c.specs.Definitions.{step_numbers}
 use Rattle.wing_node.specs.Items.{step_at}
 use mathlib.Core.Path.{◌∙◌, ap}
-use borrow.Author.Rules.{rules}
 use Rattle.wing_c.proofs.definitions.wing_item_step.Goals as goal
 
 pub returns : goal.returns

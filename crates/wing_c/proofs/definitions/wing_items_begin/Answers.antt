@@ -1,5 +1,4 @@
 -- The contract of the call says which of the two arms it is.
-use borrow.Author.Rules.{rules}
 use Rattle.wing_c.proofs.definitions.wing_items_begin.Goals as goal
 
 pub returns-in-Good : goal.returns-in-Good

@@ -1,7 +1,6 @@
 -- The fields are laid before the store (`head-laid`); both are in the range of their types (`kept-typed`).
 use Rattle.wing_saved.proofs.Saving.Types.{are-bytes}
 use Rattle.wing_c.proofs.Keeps.{kept-typed, head-laid}
-use borrow.Author.Rules.{rules}
 use Rattle.wing_c.proofs.kept.keep.Goals as goal
 
 pub returns : goal.returns

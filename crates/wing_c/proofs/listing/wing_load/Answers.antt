@@ -1,6 +1,5 @@
 -- The contract of the library's load, with its answer by numbers (`load-as`).
 use Rattle.wing_c.proofs.Effects.{load-as}
-use borrow.Author.Rules.{rules}
 use Rattle.wing_c.proofs.listing.wing_load.Goals as goal
 
 pub returns : goal.returns

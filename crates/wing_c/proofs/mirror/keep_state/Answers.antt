@@ -1,6 +1,5 @@
 -- A feed that is taken keeps its state, whose bytes read as it (`saved-laws`); a refused one writes nothing.
 use mathlib.Core.Path.{sym, refl}
-use borrow.Author.Rules.{rules}
 use Rattle.wing_saved.proofs.Saving.Trips.{saved-laws}
 use Rattle.wing_c.proofs.mirror.keep_state.Goals as goal
 

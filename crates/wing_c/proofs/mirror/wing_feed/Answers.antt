@@ -3,7 +3,6 @@ use mathlib.Core.Path.{ap}
 use Rattle.wing_saved.proofs.Saving.Trips.{head-good, head-refused}
 use Rattle.wing_c.specs.Kept.{feed_with, kept_feed, state_fed}
 use Rattle.wing_c.specs.declared.answers.WingFed.{WingFed}
-use borrow.Author.Rules.{rules}
 use Rattle.wing_c.proofs.mirror.wing_feed.Goals as goal
 
 pub feed_in-requires : goal.feed_in-requires

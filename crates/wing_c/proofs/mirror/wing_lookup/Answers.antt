@@ -2,7 +2,6 @@
 use Rattle.wing_c.specs.Numbers.{lookup_numbers}
 use mathlib.Core.Path.{◌∙◌, ap}
 use mir.Facts.{to_z-of_z}
-use borrow.Author.Rules.{rules}
 use Rattle.wing_c.proofs.mirror.wing_lookup.Goals as goal
 
 pub returns : goal.returns

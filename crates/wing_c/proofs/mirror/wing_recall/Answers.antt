@@ -1,6 +1,5 @@
 -- The contract of the mirror's recall, with its answer by numbers (`command-as`).
 use Rattle.wing_c.proofs.Effects.{command-as}
-use borrow.Author.Rules.{rules}
 use Rattle.wing_c.proofs.mirror.wing_recall.Goals as goal
 
 pub returns : goal.returns

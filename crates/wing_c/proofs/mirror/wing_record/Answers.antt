@@ -2,7 +2,6 @@
 use Rattle.wing_c.specs.Numbers.{record_numbers}
 use Rattle.wing_mirror.specs.declared.answer.RecordRead.{RecordRead}
 use mathlib.Core.Path.{◌∙◌, ap}
-use borrow.Author.Rules.{rules}
 use Rattle.wing_c.proofs.mirror.wing_record.Goals as goal
 
 pub returns : goal.returns

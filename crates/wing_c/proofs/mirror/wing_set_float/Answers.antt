@@ -1,7 +1,6 @@
 -- The contract of the mirror's set, with its answer by numbers (`set-as`).
 use mir.Facts.{to_z-of_z}
 use Rattle.wing_c.proofs.Effects.{set-as}
-use borrow.Author.Rules.{rules}
 use Rattle.wing_c.proofs.mirror.wing_set_float.Goals as goal
 
 pub returns : goal.returns

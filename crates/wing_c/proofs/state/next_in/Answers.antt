@@ -6,7 +6,6 @@ use Rattle.wing_wire.specs.State.{state_of, sound_state}
 use Rattle.wing_c.specs.Kept.{next_with, kept_next, state_next}
 use Rattle.wing_c.specs.declared.answers.WingEvent.{WingEvent}
 use Rattle.wing_c.proofs.Keeps.{lent-part, head-sound, head-unsound}
-use borrow.Author.Rules.{rules}
 use Rattle.wing_c.proofs.state.next_in.Goals as goal
 
 pub next_sound-requires : goal.next_sound-requires

@@ -5,7 +5,6 @@ use lib.ListN.{take}
 use Rattle.wing_wire.specs.State.{state_of}
 use Rattle.wing_wire.specs.Reader.{over}
 use Rattle.wing_c.proofs.Loads.{next-left}
-use borrow.Author.Rules.{rules}
 use Rattle.wing_c.proofs.state.next_lent.Goals as goal
 
 pub returns : goal.returns

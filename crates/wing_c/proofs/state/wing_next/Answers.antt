@@ -3,7 +3,6 @@ use mathlib.Core.Path.{ap}
 use Rattle.wing_saved.proofs.Saving.Trips.{head-good, head-refused}
 use Rattle.wing_c.specs.Kept.{next_with, kept_next, state_next}
 use Rattle.wing_c.specs.declared.answers.WingEvent.{WingEvent}
-use borrow.Author.Rules.{rules}
 use Rattle.wing_c.proofs.state.wing_next.Goals as goal
 
 pub next_in-requires : goal.next_in-requires

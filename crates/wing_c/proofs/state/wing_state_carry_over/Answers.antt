@@ -6,7 +6,6 @@ use Rattle.wing_c.specs.Kept.{carried_kept, state_carried}
 use Rattle.wing_c.proofs.Effects.{command-as}
 use Rattle.wing_c.proofs.Loads.{earlier-good, earlier-refused}
 use Rattle.wing_c.proofs.Keeps.{carried-reads}
-use borrow.Author.Rules.{rules}
 use Rattle.wing_c.proofs.state.wing_state_carry_over.Goals as goal
 
 pub returns-in-Good : goal.returns-in-Good

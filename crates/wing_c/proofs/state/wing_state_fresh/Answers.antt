@@ -4,7 +4,6 @@ use Rattle.wing_wire.specs.declared.state.State.{State}
 use mathlib.Core.Path.{◌∙◌, ap}
 use Rattle.wing_c.proofs.Effects.{command-as}
 use Rattle.wing_c.proofs.Keeps.{fresh-reads}
-use borrow.Author.Rules.{rules}
 use Rattle.wing_c.proofs.state.wing_state_fresh.Goals as goal
 
 pub returns : goal.returns

@@ -1,5 +1,4 @@
 -- The figures by `told`, the window by `kept`.
-use borrow.Author.Rules.{rules}
 use Rattle.wing_c.proofs.windows.taken.Goals as goal
 
 pub returns : goal.returns

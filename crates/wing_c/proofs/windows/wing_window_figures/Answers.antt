@@ -2,7 +2,6 @@
 use mathlib.Core.Path.{◌∙◌, ap}
 use Rattle.wing_meters.specs.Calls.{figures_answer}
 use Rattle.wing_c.specs.Windows.{told_numbers}
-use borrow.Author.Rules.{rules}
 use Rattle.wing_c.proofs.windows.wing_window_figures.Goals as goal
 
 pub returns : goal.returns

@@ -1,7 +1,6 @@
 -- The contract of the library's call, by numbers.
 use mathlib.Core.Path.{◌∙◌, ap}
 use Rattle.wing_c.specs.Windows.{made_numbers}
-use borrow.Author.Rules.{rules}
 use Rattle.wing_c.proofs.windows.wing_window_make.Goals as goal
 
 pub returns : goal.returns

@@ -4,7 +4,6 @@ use mir.Facts.{to_z-of_z}
 use Rattle.wing_meters.specs.Calls.{reading_of}
 use Rattle.wing_meters.specs.declared.window.Window.{Window}
 use Rattle.wing_c.specs.Windows.{reading_numbers}
-use borrow.Author.Rules.{rules}
 use Rattle.wing_c.proofs.windows.wing_window_reading.Goals as goal
 
 pub returns : goal.returns

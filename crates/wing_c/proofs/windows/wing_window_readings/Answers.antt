@@ -1,6 +1,5 @@
 -- The contract of the library's call on the window that is given, by numbers.
 use Rattle.wing_c.proofs.Effects.{rows_as}
-use borrow.Author.Rules.{rules}
 use Rattle.wing_c.proofs.windows.wing_window_readings.Goals as goal
 
 pub returns : goal.returns

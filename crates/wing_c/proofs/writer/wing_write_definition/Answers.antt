@@ -1,6 +1,5 @@
 -- The contract of the library's call, of the fields as `fields_given` gives them, with its answer by numbers (`body-as`).
 use Rattle.wing_c.proofs.Effects.{body-as}
-use borrow.Author.Rules.{rules}
 use Rattle.wing_c.proofs.writer.wing_write_definition.Goals as goal
 
 pub returns : goal.returns

@@ -1,13 +1,8 @@
-use Prim.Native.Nat.{◌+◌, ◌-◌}
-use mathlib.Core.Bool.{true, false}
-use mathlib.Core.Path.{◌≡◌, refl, sym, ap, ◌∙◌}
-use native.Mathlib.Omega.{arith}
-use borrow.Author.Rules.{rules}
-use lib.ListN.{length, get_or, drop}
-use Rattle.wing_node.specs.Bool.{if}
+use Prim.Native.Nat.{◌-◌}
+use mathlib.Core.Path.{◌≡◌}
+use lib.ListN.{length, drop}
 use Rattle.wing_mirror.specs.Table.{every}
 use Rattle.wing_listing.specs.Hex.{is_hex}
-use Rattle.wing_listing.proofs.Texts.Drops.{drop-none, every-next}
 use Rattle.wing_listing.proofs.hex.all_hex.Given as goal
 
 abbrev pub invariant-loop-i : goal.invariant-loop-i

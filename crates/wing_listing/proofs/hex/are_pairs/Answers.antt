@@ -1,6 +1,5 @@
 -- Each return is a side of `are_pairs`.
 use Prim.Native.Nat.{◌%◌}
-use borrow.Author.Rules.{rules}
 use borrow.Author.Tests.{eq-eqb, ne_eqb}
 use lib.ListN.{length}
 use Rattle.wing_listing.specs.Hex.{are_pairs}

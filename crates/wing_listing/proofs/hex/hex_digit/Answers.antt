@@ -1,5 +1,4 @@
 -- Each return is a side of `hex_digit`.
-use borrow.Author.Rules.{rules}
 use borrow.Author.Tests.{lt-ltb, le-ltb}
 use Rattle.wing_listing.specs.Hex.{hex_digit}
 use Rattle.wing_listing.proofs.hex.hex_digit.Goals as goal

@@ -1,9 +1,7 @@
 -- What is a digit is 30 to 39 or 61 to 66 (`hex-range`).
-use Prim.Native.Nat.{◌≤◌}
 use mathlib.Core.Path.{sym}
 use mathlib.Core.Logic.{⊎_elim}
 use native.Mathlib.Omega.{arith}
-use borrow.Author.Rules.{rules}
 use Rattle.wing_listing.proofs.Texts.Hexes.{hex-range, value_low, value-high, value-below}
 use Rattle.wing_listing.proofs.hex.hex_value.Goals as goal
 

@@ -1,5 +1,4 @@
 -- Each return is a law of the test by the ranges.
-use borrow.Author.Rules.{rules}
 use Rattle.wing_listing.proofs.Texts.Hexes.{hex-low, hex-high, hex-middle}
 use Rattle.wing_listing.proofs.hex.is_hex.Goals as goal
 

@@ -1,9 +1,9 @@
 -- The invariant: the first i bytes of the pairs are laid; a turn lays one more (`from-turn`).
-use Prim.Native.Nat.{◌+◌, ◌-◌, ◌*◌}
-use mathlib.Core.Path.{◌≡◌, refl, ap, ◌∙◌}
+use Prim.Native.Nat.{◌+◌, ◌*◌}
+use mathlib.Core.Path.{refl, ap, ◌∙◌}
 use native.Mathlib.Omega.{arith}
 use borrow.Author.Rules.{rules}
-use lib.ListN.{length, take, length-set}
+use lib.ListN.{length-set}
 use lib.Seq.{sets, take_all}
 use Rattle.wing_listing.specs.Hex.{is_hex, from_pairs}
 use Rattle.wing_listing.proofs.Texts.Drops.{every-at}

@@ -1,12 +1,8 @@
-use Prim.Native.Nat.{◌+◌, ◌-◌, ◌*◌}
-use mathlib.Core.Path.{◌≡◌, refl, ap, ◌∙◌}
-use native.Mathlib.Omega.{arith}
-use borrow.Author.Rules.{rules}
-use lib.ListN.{length, take, length-set}
-use lib.Seq.{sets, take_all}
-use Rattle.wing_listing.specs.Hex.{is_hex, from_pairs}
-use Rattle.wing_listing.proofs.Texts.Drops.{every-at}
-use Rattle.wing_listing.proofs.Texts.Hexes.{length_from, pairs-hex, from-turn}
+use Prim.Native.Nat.{◌-◌}
+use mathlib.Core.Path.{◌≡◌}
+use lib.ListN.{length, take}
+use lib.Seq.{sets}
+use Rattle.wing_listing.specs.Hex.{from_pairs}
 use Rattle.wing_listing.proofs.hex.lay_bytes.Given as goal
 
 abbrev pub invariant-loop-i : goal.invariant-loop-i

@@ -1,11 +1,9 @@
 -- The invariant: laying the pairs of the bytes left from the place reached on gives what laying all gives; a turn lays one (`pairs-turn`).
-use Prim.Native.Nat.{◌+◌, ◌-◌, ◌*◌, ◌≤◌}
-use mathlib.Core.Path.{◌≡◌, refl, sym, ap, ◌∙◌}
+use Prim.Native.Nat.{◌+◌, ◌*◌}
+use mathlib.Core.Path.{refl, sym, ap, ◌∙◌}
 use native.Mathlib.Omega.{arith}
-use borrow.Author.Rules.{rules}
-use lib.ListN.{length, drop, length-set}
+use lib.ListN.{length-set}
 use lib.Seq.{sets}
-use Rattle.wing_listing.specs.Hex.{pairs_of}
 use Rattle.wing_listing.proofs.Printing.Pairs.{pairs-turn, pairs-none, pairs-all}
 use Rattle.wing_listing.proofs.hex.lay_pairs.Goals as goal
 

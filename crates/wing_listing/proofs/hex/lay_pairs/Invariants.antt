@@ -1,11 +1,8 @@
 use Prim.Native.Nat.{◌+◌, ◌-◌, ◌*◌, ◌≤◌}
-use mathlib.Core.Path.{◌≡◌, refl, sym, ap, ◌∙◌}
-use native.Mathlib.Omega.{arith}
-use borrow.Author.Rules.{rules}
-use lib.ListN.{length, drop, length-set}
+use mathlib.Core.Path.{◌≡◌}
+use lib.ListN.{length, drop}
 use lib.Seq.{sets}
 use Rattle.wing_listing.specs.Hex.{pairs_of}
-use Rattle.wing_listing.proofs.Printing.Pairs.{pairs-turn, pairs-none, pairs-all}
 use Rattle.wing_listing.proofs.hex.lay_pairs.Given as goal
 
 abbrev pub invariant-loop-i : goal.invariant-loop-i

@@ -1,9 +1,7 @@
 -- After a minus sign what `negative_in` says (`int-minus`), else what `natural_in` does (`int-plain`).
 use Prim.Native.Nat.{◌-◌}
 use mathlib.Core.Path.{ap, ◌∙◌}
-use mathlib.Core.Logic.{⊎_elim}
 use native.Mathlib.Omega.{arith}
-use borrow.Author.Rules.{rules}
 use lib.ListN.{length, drop, length-drop}
 use lib.Seq.{take_all}
 use Rattle.wing_listing.specs.Steps.{negative_read}

@@ -1,8 +1,6 @@
 -- Each return is a law of what digits spell: few enough (`natural-good`), too many or no digits (`natural-large`), a leading zero (`natural-led`).
 use mathlib.Core.Path.{sym, ◌∙◌}
-use mathlib.Core.Logic.{⊎_elim}
 use native.Mathlib.Omega.{arith}
-use borrow.Author.Rules.{rules}
 use Rattle.wing_listing.proofs.Printing.Values.{signed-passed}
 use Rattle.wing_listing.proofs.Texts.Numbers.{natural-good, natural-led, natural-large}
 use Rattle.wing_listing.proofs.integer.natural_in.Goals as goal

@@ -1,9 +1,7 @@
 -- Each return is a law of what digits after a minus sign spell.
 use Prim.Native.Nat.{◌-◌}
 use mathlib.Core.Path.{◌∙◌}
-use mathlib.Core.Logic.{⊎_elim}
 use native.Mathlib.Omega.{arith}
-use borrow.Author.Rules.{rules}
 use Rattle.wing_listing.proofs.Printing.Values.{signed-passed}
 use Rattle.wing_listing.proofs.Texts.Numbers.{negative-good, negative-none, negative-zero, negative-large}
 use Rattle.wing_listing.proofs.integer.negative_in.Goals as goal

@@ -1,10 +1,8 @@
 -- The invariant: what n and the digits left spell is what all spell; a turn takes one digit (`up-digit`).
-use Prim.Native.Nat.{◌+◌, ◌-◌, ◌≤◌}
-use mathlib.Core.Path.{◌≡◌, sym, ap, ◌∙◌}
+use Prim.Native.Nat.{◌+◌}
+use mathlib.Core.Path.{sym, ap, ◌∙◌}
 use native.Mathlib.Omega.{arith}
-use borrow.Author.Rules.{rules}
-use lib.ListN.{length, get_or, drop}
-use Rattle.wing_listing.specs.Steps.{number_up_to}
+use lib.ListN.{get_or, drop}
 use Rattle.wing_listing.proofs.Texts.Drops.{drop-next, drop-none}
 use Rattle.wing_listing.proofs.Texts.Numbers.{digit-yes, digit_low, digit-high, up_from, up-all, up-end, up-digit, up-not}
 use Rattle.wing_listing.proofs.integer.number_in.Goals as goal

@@ -1,11 +1,8 @@
-use Prim.Native.Nat.{◌+◌, ◌-◌, ◌≤◌}
-use mathlib.Core.Path.{◌≡◌, sym, ap, ◌∙◌}
-use native.Mathlib.Omega.{arith}
-use borrow.Author.Rules.{rules}
-use lib.ListN.{length, get_or, drop}
+use Prim.Native.Nat.{◌-◌, ◌≤◌}
+use mathlib.Core.Path.{◌≡◌}
+use lib.ListN.{length, drop}
 use Rattle.wing_listing.specs.Steps.{number_up_to}
-use Rattle.wing_listing.proofs.Texts.Drops.{drop-next, drop-none}
-use Rattle.wing_listing.proofs.Texts.Numbers.{digit-yes, digit_low, digit-high, up_from, up-all, up-end, up-digit, up-not}
+use Rattle.wing_listing.proofs.Texts.Numbers.{up_from}
 use Rattle.wing_listing.proofs.integer.number_in.Given as goal
 
 abbrev pub invariant-loop-i : goal.invariant-loop-i

@@ -1,6 +1,5 @@
 -- Each return is a side of `is_value`.
 use mathlib.Core.Path.{ap, ◌∙◌}
-use borrow.Author.Rules.{rules}
 use borrow.Author.Tests.{eq-eqb, ne_eqb}
 use Rattle.wing_listing.specs.Reading.{is_value}
 use Rattle.wing_listing.proofs.Texts.Values.{read-formed}

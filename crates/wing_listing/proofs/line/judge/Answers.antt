@@ -1,6 +1,5 @@
 -- `form_fault` is what is wrong with the form and the order; if nothing is, `value_fault` says what is wrong with the value (Texts/Judged).
 use mathlib.Core.Path.{◌≡◌, sym, ◌∙◌}
-use borrow.Author.Rules.{rules}
 use mir.Facts.{to_z-of_z}
 use Rattle.wing_listing.specs.Parts.{comma, part}
 use Rattle.wing_listing.specs.Reading.{above}

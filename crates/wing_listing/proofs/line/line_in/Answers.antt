@@ -1,9 +1,9 @@
 -- `find` gives the place of the first comma and `integer_in` the id before it; each return is a law of a line by that place (Texts/Reads).
-use Prim.Native.Nat.{◌+◌, ◌≤◌}
+use Prim.Native.Nat.{◌+◌}
 use native.Mathlib.Omega.{arith}
 use borrow.Author.Rules.{rules}
-use mathlib.Core.Path.{◌≡◌, sym, ap, ◌∙◌}
-use lib.ListN.{length, get_or}
+use mathlib.Core.Path.{sym, ap, ◌∙◌}
+use lib.ListN.{get_or}
 use lib.Seq.{length-take-le}
 use Rattle.wing_listing.specs.Parts.{comma}
 use Rattle.wing_listing.specs.Reading.{is_value}

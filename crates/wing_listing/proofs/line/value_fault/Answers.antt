@@ -1,7 +1,6 @@
 -- A string's bytes, laid at the front of an array (`pairs-laid`), are tested (`fault-text`); a longer one is too long (`fault-long`).
 use mathlib.Core.Path.{ap, ◌∙◌}
 use native.Mathlib.Omega.{arith}
-use borrow.Author.Rules.{rules}
 use Rattle.wing_node.specs.Refusal.{string_fault}
 use Rattle.wing_listing.proofs.Texts.Hexes.{length_from}
 use Rattle.wing_listing.proofs.Texts.Values.{value-pairs, pairs-laid, fault-long, fault-text, fault-none}

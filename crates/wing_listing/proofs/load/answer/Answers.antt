@@ -1,5 +1,4 @@
 -- Each return is a side of `loaded_as`.
-use borrow.Author.Rules.{rules}
 use Rattle.wing_listing.specs.Steps.{loaded_as}
 use Rattle.wing_listing.proofs.load.answer.Goals as goal
 

@@ -1,11 +1,10 @@
 -- Each return is a line of `checked_as`.
-use mathlib.Core.Path.{◌≡◌, sym, ap, ◌∙◌}
+use mathlib.Core.Path.{sym, ap, ◌∙◌}
 use native.Mathlib.Omega.{arith}
-use borrow.Author.Rules.{rules}
 use borrow.Author.Tests.{le-leb, lt-leb}
 use lib.ListN.{length}
 use Rattle.wing_listing.specs.Reading.{reading_of}
-use Rattle.wing_listing.specs.Steps.{scanned_bad, scanned_as, fitting, checked_as}
+use Rattle.wing_listing.specs.Steps.{scanned_as, fitting, checked_as}
 use Rattle.wing_listing.proofs.load.check.Goals as goal
 
 pub returns-then-s-places : goal.returns-then-s-places

@@ -1,16 +1,16 @@
 -- The invariant: the table is the first records laid over what it held, and the text left says the entries left (`Left`); a turn lays one.
-use Prim.Native.Nat.{◌+◌, ◌-◌, ◌*◌, ◌≤◌, ◌<◌}
+use Prim.Native.Nat.{◌+◌, ◌-◌, ◌*◌, ◌≤◌}
 use mathlib.Core.Path.{◌≡◌, refl, sym, ap, ◌∙◌}
 use mathlib.Core.List.{map}
 use native.Mathlib.Omega.{arith}
 use borrow.Author.Rules.{rules}
 use borrow.Rule.Slice.PartMut.{same_len_mid}
-use lib.ListN.{length, take, drop, length-drop}
+use lib.ListN.{length, take, drop}
 use Rattle.wing_mirror.specs.Rows.{laid}
 use Rattle.wing_mirror.specs.Record.{width, record_of}
 use Rattle.wing_listing.specs.Reading.{reading_of, entries_in}
 use Rattle.wing_mirror.proofs.Tables.Chunks.{laid_nil, row-wide}
-use Rattle.wing_listing.proofs.Texts.Scans.{Left, left-start}
+use Rattle.wing_listing.proofs.Texts.Scans.{left-start}
 use Rattle.wing_listing.proofs.Texts.Laid.{turn_at, turn-within, turn-line, turn-fault, turn-left, turn-laid}
 use Rattle.wing_listing.proofs.load.lay_lines.Goals as goal
 

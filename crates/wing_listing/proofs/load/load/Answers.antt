@@ -1,8 +1,7 @@
 -- `check` says what is wrong or how many records there are, `lay_lines` lays as many, and the steps together are `load_of` (Texts/Loads).
 use Prim.Native.Nat.{◌/◌}
-use mathlib.Core.Path.{◌≡◌, ap, ◌∙◌}
+use mathlib.Core.Path.{ap, ◌∙◌}
 use native.Mathlib.Omega.{arith}
-use borrow.Author.Rules.{rules}
 use lib.ListN.{length}
 use Rattle.wing_mirror.specs.Record.{width}
 use Rattle.wing_listing.specs.Steps.{checked_as}

@@ -1,13 +1,9 @@
 -- `zero` and `put_i32` leave the id over zeros, which is the head of a record from the console (`console-head`), and `lay_said` the value over that: the record of what the line says (wing_mirror's `record-laid`).
-use Prim.Native.Nat.{ℕ}
-use mathlib.Core.Path.{◌≡◌, sym, ap, ◌∙◌}
-use mathlib.Core.List.{List}
-use native.Mathlib.Omega.{arith}
-use borrow.Author.Rules.{rules}
+use mathlib.Core.Path.{◌≡◌, ap, ◌∙◌}
 use mir.Syntax.{w32}
 use mir.Val.{to_z, of_z}
-use lib.ListN.{length, replicate}
-use Rattle.wing_node.specs.Field.{put, put_at, bytes_of}
+use lib.ListN.{replicate}
+use Rattle.wing_node.specs.Field.{put_at, bytes_of}
 use Rattle.wing_node.specs.Signed.{unsigned}
 use Rattle.wing_node.specs.Value.{NodeValue}
 use Rattle.wing_mirror.specs.Record.{kind_of, payload_of, laid_from}

@@ -1,6 +1,5 @@
 -- The stores are those of `laid_from` in order: of an integer (`integer-said`), or of the bytes that pairs say (`pairs-said`).
 use Prim.Native.Nat.{◌/◌}
-use mathlib.Core.Path.{◌∙◌}
 use native.Mathlib.Omega.{arith}
 use borrow.Author.Rules.{rules}
 use lib.ListN.{length, set, length-set}

@@ -1,10 +1,8 @@
 -- The invariant: the first i bytes are zeros; a turn makes one more (`zero-next`).
-use Prim.Native.Nat.{ℕ, ◌-◌, ◌≤◌}
+use Prim.Native.Nat.{ℕ}
 use mathlib.Core.Path.{◌≡◌, refl, sym, ap, ◌∙◌}
-use mathlib.Core.List.{List}
 use native.Mathlib.Omega.{arith}
-use borrow.Author.Rules.{rules}
-use lib.ListN.{length, take, replicate, length-set}
+use lib.ListN.{length, replicate, length-set}
 use lib.Seq.{take_all}
 use Rattle.wing_listing.proofs.Texts.Places.{zero-next}
 use Rattle.wing_listing.proofs.place.zero.Goals as goal

@@ -1,11 +1,7 @@
 use Prim.Native.Nat.{ℕ, ◌-◌, ◌≤◌}
-use mathlib.Core.Path.{◌≡◌, refl, sym, ap, ◌∙◌}
+use mathlib.Core.Path.{◌≡◌}
 use mathlib.Core.List.{List}
-use native.Mathlib.Omega.{arith}
-use borrow.Author.Rules.{rules}
-use lib.ListN.{length, take, replicate, length-set}
-use lib.Seq.{take_all}
-use Rattle.wing_listing.proofs.Texts.Places.{zero-next}
+use lib.ListN.{length, take, replicate}
 use Rattle.wing_listing.proofs.place.zero.Given as goal
 
 abbrev pub invariant-loop-i : goal.invariant-loop-i

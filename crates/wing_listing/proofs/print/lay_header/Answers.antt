@@ -1,9 +1,7 @@
 -- The invariant: laying the text left from the place reached on gives what laying all gives; a turn lays a byte (`lay-next`).
-use Prim.Native.Nat.{◌-◌, ◌≤◌}
-use mathlib.Core.Path.{◌≡◌, refl, sym, ap, ◌∙◌}
+use mathlib.Core.Path.{refl, sym, ap, ◌∙◌}
 use native.Mathlib.Omega.{arith}
-use borrow.Author.Rules.{rules}
-use lib.ListN.{length, drop, length-set, drop_of_length-le}
+use lib.ListN.{length-set, drop_of_length-le}
 use lib.Seq.{sets}
 use Rattle.wing_listing.specs.Parts.{ended}
 use Rattle.wing_listing.specs.Listing.{header}

@@ -1,12 +1,9 @@
 use Prim.Native.Nat.{◌-◌, ◌≤◌}
-use mathlib.Core.Path.{◌≡◌, refl, sym, ap, ◌∙◌}
-use native.Mathlib.Omega.{arith}
-use borrow.Author.Rules.{rules}
-use lib.ListN.{length, drop, length-set, drop_of_length-le}
+use mathlib.Core.Path.{◌≡◌}
+use lib.ListN.{length, drop}
 use lib.Seq.{sets}
 use Rattle.wing_listing.specs.Parts.{ended}
 use Rattle.wing_listing.specs.Listing.{header}
-use Rattle.wing_listing.proofs.Printing.Lines.{lay-next}
 use Rattle.wing_listing.proofs.print.lay_header.Given as goal
 
 abbrev pub invariant-loop-i : goal.invariant-loop-i

@@ -1,14 +1,12 @@
 -- The invariant: laying the lines left from the place reached on gives what laying all after the header gives; a turn lays one (`left-next`).
-use Prim.Native.Nat.{◌+◌, ◌-◌, ◌≤◌}
-use mathlib.Core.Path.{◌≡◌, refl, sym, ap, ◌∙◌}
+use Prim.Native.Nat.{◌+◌}
+use mathlib.Core.Path.{refl, sym, ap, ◌∙◌}
 use native.Mathlib.Omega.{arith}
-use borrow.Author.Rules.{rules}
 use lib.ListN.{length}
 use lib.Seq.{sets}
 use Rattle.wing_wire.proofs.Laws.{writer-laws}
 use Rattle.wing_mirror.specs.Table.{table as table_of}
 use Rattle.wing_mirror.proofs.Calls.Sends.{row-formed}
-use Rattle.wing_listing.specs.Listing.{printed}
 use Rattle.wing_listing.proofs.Printing.Lines.{left, left-all, left-next, left_less, left-none, row_in, printed-size, listed}
 use Rattle.wing_listing.proofs.print.lay_listing.Goals as goal
 

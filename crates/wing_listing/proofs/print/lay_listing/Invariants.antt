@@ -1,14 +1,10 @@
 use Prim.Native.Nat.{◌+◌, ◌-◌, ◌≤◌}
-use mathlib.Core.Path.{◌≡◌, refl, sym, ap, ◌∙◌}
-use native.Mathlib.Omega.{arith}
-use borrow.Author.Rules.{rules}
+use mathlib.Core.Path.{◌≡◌}
 use lib.ListN.{length}
 use lib.Seq.{sets}
-use Rattle.wing_wire.proofs.Laws.{writer-laws}
 use Rattle.wing_mirror.specs.Table.{table as table_of}
-use Rattle.wing_mirror.proofs.Calls.Sends.{row-formed}
 use Rattle.wing_listing.specs.Listing.{printed}
-use Rattle.wing_listing.proofs.Printing.Lines.{left, left-all, left-next, left_less, left-none, row_in, printed-size, listed}
+use Rattle.wing_listing.proofs.Printing.Lines.{left}
 use Rattle.wing_listing.proofs.print.lay_listing.Given as goal
 
 abbrev pub invariant-loop-number : goal.invariant-loop-number

@@ -1,15 +1,12 @@
 -- The invariant: the total and the length of the lines left are the length of all; a turn lays one into the scratch buffer, which has room for any
 -- (`row-le`), to count it.
-use Prim.Native.Nat.{◌+◌, ◌-◌, ◌*◌, ◌≤◌}
-use mathlib.Core.Path.{◌≡◌, ap}
+use mathlib.Core.Path.{ap}
 use native.Mathlib.Omega.{arith}
 use borrow.Author.Rules.{rules}
 use lib.ListN.{length}
-use Rattle.wing_mirror.specs.Record.{full}
-use Rattle.wing_mirror.specs.Table.{table as table_of, rows}
+use Rattle.wing_mirror.specs.Table.{table as table_of}
 use Rattle.wing_mirror.proofs.Calls.Sends.{few-records, row-formed}
-use Rattle.wing_listing.specs.Steps.{lines_of}
-use Rattle.wing_listing.proofs.Printing.Lines.{left, left-all, left_less, left-none, row_in, row-le}
+use Rattle.wing_listing.proofs.Printing.Lines.{left-all, left_less, left-none, row_in, row-le}
 use Rattle.wing_listing.proofs.print.lines_len.Goals as goal
 
 pub loop-i-init : goal.loop-i-init

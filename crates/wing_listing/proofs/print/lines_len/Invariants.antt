@@ -1,13 +1,10 @@
 use Prim.Native.Nat.{◌+◌, ◌-◌, ◌*◌, ◌≤◌}
-use mathlib.Core.Path.{◌≡◌, ap}
-use native.Mathlib.Omega.{arith}
-use borrow.Author.Rules.{rules}
+use mathlib.Core.Path.{◌≡◌}
 use lib.ListN.{length}
 use Rattle.wing_mirror.specs.Record.{full}
 use Rattle.wing_mirror.specs.Table.{table as table_of, rows}
-use Rattle.wing_mirror.proofs.Calls.Sends.{few-records, row-formed}
 use Rattle.wing_listing.specs.Steps.{lines_of}
-use Rattle.wing_listing.proofs.Printing.Lines.{left, left-all, left_less, left-none, row_in, row-le}
+use Rattle.wing_listing.proofs.Printing.Lines.{left}
 use Rattle.wing_listing.proofs.print.lines_len.Given as goal
 
 abbrev pub invariant-loop-i : goal.invariant-loop-i

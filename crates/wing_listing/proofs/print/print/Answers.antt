@@ -1,7 +1,6 @@
 -- Each return is a case of `print_of` (`print-unusable`, `print-usable`): out is too short by what `lines_len` counts, or has room, by that count or by 527
 -- bytes a record (`lines-le`), and `lay_listing` writes all.
 use mathlib.Core.Path.{sym, ◌∙◌}
-use mathlib.Core.Logic.{⊎_elim}
 use native.Mathlib.Omega.{arith}
 use Rattle.wing_wire.proofs.Laws.{writer-laws}
 use Rattle.wing_mirror.specs.Table.{table as table_of}

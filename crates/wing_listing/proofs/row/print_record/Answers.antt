@@ -1,6 +1,5 @@
 -- The line of the record that `row` gives.
 use Rattle.wing_mirror.proofs.Tables.Chunks.{row-wide}
-use borrow.Author.Rules.{rules}
 use Rattle.wing_listing.proofs.row.print_record.Goals as goal
 
 pub lay_entry-requires : goal.lay_entry-requires

@@ -1,9 +1,6 @@
 -- The header is the first line, and the lines after it are `scan_lines`'.
-use Prim.Native.Nat.{◌+◌, ◌≤◌}
-use mathlib.Core.Path.{◌≡◌, sym, ap, ◌∙◌}
+use mathlib.Core.Path.{sym, ap, ◌∙◌}
 use native.Mathlib.Omega.{arith}
-use borrow.Author.Rules.{rules}
-use lib.ListN.{length}
 use lib.Seq.{length-take-le}
 use Rattle.wing_listing.specs.Steps.{scanned_as}
 use Rattle.wing_listing.proofs.Texts.Turns.{first-none, first_good, first-bad}

@@ -1,12 +1,12 @@
 -- The invariant: what is counted so far with the reading of the lines left is the reading of all. A turn takes one line (Texts/Turns).
-use Prim.Native.Nat.{◌+◌, ◌-◌, ◌≤◌}
+use Prim.Native.Nat.{◌+◌, ◌-◌}
 use mathlib.Core.Path.{◌≡◌, sym, ap, ◌∙◌}
 use native.Mathlib.Omega.{arith}
 use borrow.Author.Rules.{rules}
 use mir.Syntax.{w32}
 use mir.Val.{to_z, of_z}
 use lib.Dec.{ltb}
-use lib.ListN.{length, drop}
+use lib.ListN.{length}
 use Rattle.wing_node.specs.Refusal.{no_fault}
 use Rattle.wing_mirror.specs.Rows.{nothing}
 use Rattle.wing_listing.specs.Parts.{newline, parted}

@@ -1,19 +1,12 @@
 use Prim.Native.Nat.{◌+◌, ◌-◌, ◌≤◌}
-use mathlib.Core.Path.{◌≡◌, sym, ap, ◌∙◌}
-use native.Mathlib.Omega.{arith}
-use borrow.Author.Rules.{rules}
-use mir.Syntax.{w32}
-use mir.Val.{to_z, of_z}
+use mathlib.Core.Path.{◌≡◌}
 use lib.Dec.{ltb}
 use lib.ListN.{length, drop}
-use Rattle.wing_node.specs.Refusal.{no_fault}
 use Rattle.wing_mirror.specs.Rows.{nothing}
 use Rattle.wing_listing.specs.Parts.{newline, parted}
 use Rattle.wing_listing.specs.Reading.{lines_from}
 use Rattle.wing_listing.specs.Steps.{id_before, scanned_as}
-use Rattle.wing_listing.proofs.Texts.Drops.{drop-none}
-use Rattle.wing_listing.proofs.Texts.Turns.{not_equal, line, line-within, the-line, turn-unended, turn-bad, turn-again, judged-why, judged-id}
-use Rattle.wing_listing.proofs.Texts.Scans.{lines_end, counted, counted-all}
+use Rattle.wing_listing.proofs.Texts.Scans.{counted}
 use Rattle.wing_listing.proofs.scan.scan_lines.Given as goal
 
 abbrev pub invariant-loop-at : goal.invariant-loop-at

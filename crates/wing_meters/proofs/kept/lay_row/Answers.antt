@@ -5,7 +5,7 @@ use mir.Facts.{to_z-of_z}
 use Rattle.wing_meters.proofs.Follows.{five-stores}
 use Rattle.wing_node.proofs.Numerals.Signs.{reads}
 use Rattle.wing_meters.specs.Calls.{row_of}
-use mathlib.Core.Path.{◌≡◌, refl, sym, ap, ◌∙◌}
+use mathlib.Core.Path.{◌≡◌, refl, ◌∙◌}
 use native.Mathlib.Omega.{arith}
 use lib.ListN.{length-set}
 use mir.Syntax.{w16, w32}

@@ -1,5 +1,4 @@
 -- The two sides of `told_kept`.
-use borrow.Author.Rules.{rules}
 use borrow.Author.Tests.{eq-eqb, ne_eqb}
 use Rattle.wing_meters.specs.Kept.{told_kept}
 use Rattle.wing_meters.proofs.kept.tell.Goals as goal

@@ -1,21 +1,20 @@
 -- The invariant: the window so far is sound; from it the readings that are left give the window and the rows that all readings give from the first; what
 -- stands behind the rows is as it was.
 use borrow.Author.Rules.{rules}
-use Prim.Native.Nat.{ℕ, suc, ◌+◌, ◌-◌, ◌*◌, ◌≤◌, ◌<◌}
-use mathlib.Core.Bool.{true}
+use Prim.Native.Nat.{◌+◌, ◌*◌, ◌≤◌}
 use mathlib.Core.Path.{◌≡◌, refl, sym, ap, ◌∙◌, subst}
-use mathlib.Core.List.{List, [], ◌∷◌, ◌++◌}
+use mathlib.Core.List.{List}
 use native.Mathlib.Omega.{arith}
 use lib.IntN.{ℤ, pos}
-use lib.ListN.{length, take, drop, get_or}
+use lib.ListN.{get_or}
 use lib.Seq.{sets}
 use Rattle.wing_meters.specs.declared.figures.Figures.{Figures}
 use Rattle.wing_meters.specs.declared.window.Window.{Window}
 use mir.Syntax.{w16}
 use mir.Val.{to_z, of_z}
-use Rattle.wing_meters.specs.Window.{window, taking, sound_window}
+use Rattle.wing_meters.specs.Window.{window, taking}
 use Rattle.wing_meters.specs.Kept.{figures_kept}
-use Rattle.wing_meters.specs.Calls.{after_all, answers, rows, row_of}
+use Rattle.wing_meters.specs.Calls.{row_of}
 use Rattle.wing_meters.proofs.Follows.{Onward, onward-begins, onward-turns, onward-after, onward-rows, holds-one}
 use Rattle.wing_meters.proofs.reading.follow.Goals as goal
 

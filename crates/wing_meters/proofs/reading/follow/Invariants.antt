@@ -1,20 +1,7 @@
-use borrow.Author.Rules.{rules}
-use Prim.Native.Nat.{ℕ, suc, ◌+◌, ◌-◌, ◌*◌, ◌≤◌, ◌<◌}
-use mathlib.Core.Bool.{true}
-use mathlib.Core.Path.{◌≡◌, refl, sym, ap, ◌∙◌, subst}
-use mathlib.Core.List.{List, [], ◌∷◌, ◌++◌}
-use native.Mathlib.Omega.{arith}
-use lib.IntN.{ℤ, pos}
-use lib.ListN.{length, take, drop, get_or}
-use lib.Seq.{sets}
-use Rattle.wing_meters.specs.declared.figures.Figures.{Figures}
-use Rattle.wing_meters.specs.declared.window.Window.{Window}
-use mir.Syntax.{w16}
-use mir.Val.{to_z, of_z}
-use Rattle.wing_meters.specs.Window.{window, taking, sound_window}
-use Rattle.wing_meters.specs.Kept.{figures_kept}
-use Rattle.wing_meters.specs.Calls.{after_all, answers, rows, row_of}
-use Rattle.wing_meters.proofs.Follows.{Onward, onward-begins, onward-turns, onward-after, onward-rows, holds-one}
+use Prim.Native.Nat.{◌-◌}
+use lib.ListN.{length}
+use Rattle.wing_meters.specs.Window.{window}
+use Rattle.wing_meters.proofs.Follows.{Onward}
 use Rattle.wing_meters.proofs.reading.follow.Given as goal
 
 abbrev pub invariant-loop-i : goal.invariant-loop-i

@@ -1,6 +1,5 @@
 -- The two sides of `grown`.
-use borrow.Author.Tests.{lt-leb, lt-ltb, le-leb, le-ltb}
-use borrow.Author.Rules.{rules}
+use borrow.Author.Tests.{lt-ltb, le-ltb}
 use Rattle.wing_meters.proofs.reading.grown.Goals as goal
 
 pub returns-then-held-width : goal.returns-then-held-width

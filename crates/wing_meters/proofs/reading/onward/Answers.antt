@@ -1,6 +1,5 @@
 -- The two sides of `onward`.
-use borrow.Author.Tests.{lt-leb, lt-ltb, le-leb, le-ltb}
-use borrow.Author.Rules.{rules}
+use borrow.Author.Tests.{lt-ltb, le-ltb}
 use Rattle.wing_meters.proofs.reading.onward.Goals as goal
 
 pub returns-then-after-width : goal.returns-then-after-width

@@ -1,5 +1,5 @@
 -- The three ends of `readings_of`, in its order; what `follow` leaves is the window and the rows of all readings.
-use mathlib.Core.Path.{◌≡◌, sym, ap, ◌∙◌}
+use mathlib.Core.Path.{sym, ap, ◌∙◌}
 use mathlib.Core.List.{List}
 use native.Mathlib.Omega.{arith}
 use lib.IntN.{ℤ}

@@ -1,12 +1,12 @@
 -- The sum and the largest are kept up (`sum-taking`, `top-taking`), so that they are those of the levels after it.
-use Prim.Native.Nat.{ℕ, ◌<◌}
+use Prim.Native.Nat.{◌<◌}
 use mathlib.Core.Path.{◌≡◌, refl, sym, ap, ◌∙◌}
 use native.Mathlib.Omega.{arith}
-use lib.ListN.{set, length-set}
+use lib.ListN.{length-set}
 use mir.Syntax.{w16}
 use mir.Val.{to_z, of_z}
-use Rattle.wing_meters.specs.Level.{level_of, greatest}
-use Rattle.wing_meters.specs.Window.{window, control, grown, onward, taking}
+use Rattle.wing_meters.specs.Level.{level_of}
+use Rattle.wing_meters.specs.Window.{window, taking}
 use Rattle.wing_meters.proofs.Soundness.{sound, next-below}
 use Rattle.wing_meters.proofs.Windows.{next-in, sum-taking, leaving-le, top-taking, in-range, sound-taking}
 use Rattle.wing_meters.proofs.Sums.{set-le}

@@ -1,5 +1,4 @@
 -- What `TopBefore` says at each end; where the largest has left, the contract of `greatest`.
-use borrow.Author.Rules.{rules}
 use Rattle.wing_meters.proofs.reading.top_after.Goals as goal
 
 pub returns-then-top-came : goal.returns-then-top-came

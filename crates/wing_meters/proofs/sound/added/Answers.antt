@@ -1,10 +1,5 @@
 -- The invariant: what is added so far and the sum of the levels from i on are the whole sum, which is at most 65,535 for each.
-use Prim.Native.Nat.{◌+◌, ◌-◌, ◌≤◌}
-use mathlib.Core.Path.{◌≡◌}
 use native.Mathlib.Omega.{arith}
-use lib.ListN.{length, drop}
-use borrow.Author.Rules.{rules}
-use Rattle.wing_meters.specs.Level.{added}
 use Rattle.wing_meters.proofs.Sums.{added-from, added-end, added-le}
 use Rattle.wing_meters.proofs.sound.added.Goals as goal
 

@@ -1,10 +1,7 @@
 use Prim.Native.Nat.{◌+◌, ◌-◌, ◌≤◌}
 use mathlib.Core.Path.{◌≡◌}
-use native.Mathlib.Omega.{arith}
 use lib.ListN.{length, drop}
-use borrow.Author.Rules.{rules}
 use Rattle.wing_meters.specs.Level.{added}
-use Rattle.wing_meters.proofs.Sums.{added-from, added-end, added-le}
 use Rattle.wing_meters.proofs.sound.added.Given as goal
 
 abbrev pub invariant-loop-i : goal.invariant-loop-i

@@ -1,10 +1,5 @@
 -- The invariant: the larger of what was seen so far and of the levels from i on is the greatest of all.
-use Prim.Native.Nat.{◌+◌, ◌-◌, ◌≤◌, max}
-use mathlib.Core.Path.{◌≡◌}
 use native.Mathlib.Omega.{arith}
-use lib.ListN.{length, drop}
-use borrow.Author.Rules.{rules}
-use Rattle.wing_meters.specs.Level.{greatest}
 use Rattle.wing_meters.proofs.Sums.{greatest-from, greatest-end}
 use Rattle.wing_meters.proofs.sound.greatest.Goals as goal
 

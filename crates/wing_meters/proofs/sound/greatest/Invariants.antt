@@ -1,10 +1,7 @@
-use Prim.Native.Nat.{◌+◌, ◌-◌, ◌≤◌, max}
+use Prim.Native.Nat.{◌-◌, ◌≤◌, max}
 use mathlib.Core.Path.{◌≡◌}
-use native.Mathlib.Omega.{arith}
 use lib.ListN.{length, drop}
-use borrow.Author.Rules.{rules}
 use Rattle.wing_meters.specs.Level.{greatest}
-use Rattle.wing_meters.proofs.Sums.{greatest-from, greatest-end}
 use Rattle.wing_meters.proofs.sound.greatest.Given as goal
 
 abbrev pub invariant-loop-i : goal.invariant-loop-i

@@ -8,7 +8,6 @@ use lib.Seq.{take_all}
 use Rattle.wing_meters.specs.Level.{greatest}
 use Rattle.wing_meters.specs.Window.{window}
 use Rattle.wing_meters.proofs.Soundness.{never, sound, placed, held-le, unused-tested, topped-wrong, summed-wrong, control-wrong}
-use borrow.Author.Rules.{rules}
 use Rattle.wing_meters.proofs.Windows.{in-range}
 use Rattle.wing_meters.proofs.sound.is_sound_lent.Goals as goal
 

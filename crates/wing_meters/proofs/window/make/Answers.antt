@@ -1,7 +1,6 @@
 -- The three branches of `made_of`.
-use borrow.Author.Tests.{lt-leb, lt-ltb, le-leb, le-ltb}
+use borrow.Author.Tests.{lt-ltb, le-ltb}
 use Rattle.wing_meters.specs.Calls.{made_of}
-use borrow.Author.Rules.{rules}
 use Rattle.wing_meters.proofs.window.make.Goals as goal
 
 pub returns-then-width-lt1 : goal.returns-then-width-lt1

@@ -1,10 +1,9 @@
 -- The invariant: the first i bytes of src stand in out at their place; a turn lays one more (`lay-more`).
 use Rattle.wing_node.proofs.Numerals.Placed.{lay-more}
-use lib.Seq.{sets, take_all}
-use lib.ListN.{length, take, length-set}
+use lib.Seq.{take_all}
+use lib.ListN.{length-set}
 use native.Mathlib.Omega.{arith}
-use mathlib.Core.Path.{◌≡◌, refl, ◌∙◌}
-use Prim.Native.Nat.{◌≤◌, ◌-◌}
+use mathlib.Core.Path.{refl, ◌∙◌}
 use Rattle.wing_mirror.proofs.bytes.lay.Goals as goal
 
 pub loop-i-init : goal.loop-i-init

@@ -1,8 +1,6 @@
-use Rattle.wing_node.proofs.Numerals.Placed.{lay-more}
-use lib.Seq.{sets, take_all}
-use lib.ListN.{length, take, length-set}
-use native.Mathlib.Omega.{arith}
-use mathlib.Core.Path.{◌≡◌, refl, ◌∙◌}
+use lib.Seq.{sets}
+use lib.ListN.{length, take}
+use mathlib.Core.Path.{◌≡◌}
 use Prim.Native.Nat.{◌≤◌, ◌-◌}
 use Rattle.wing_mirror.proofs.bytes.lay.Given as goal
 

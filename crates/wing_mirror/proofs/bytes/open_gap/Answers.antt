@@ -1,9 +1,8 @@
 -- The invariant: the bytes from i to the end are moved up by w, and the others are as they were (`moved`); a turn moves one more (law `again`).
 use Rattle.wing_mirror.proofs.Tables.Moves.{moved, no_move, again}
-use lib.ListN.{length, length-set}
+use lib.ListN.{length-set}
 use native.Mathlib.Omega.{arith}
 use mathlib.Core.Path.{◌≡◌, ◌∙◌}
-use Prim.Native.Nat.{◌≤◌, ◌-◌}
 use Rattle.wing_mirror.proofs.bytes.open_gap.Goals as goal
 
 pub loop-i-init : goal.loop-i-init

@@ -1,7 +1,6 @@
-use Rattle.wing_mirror.proofs.Tables.Moves.{moved, no_move, again}
-use lib.ListN.{length, length-set}
-use native.Mathlib.Omega.{arith}
-use mathlib.Core.Path.{◌≡◌, ◌∙◌}
+use Rattle.wing_mirror.proofs.Tables.Moves.{moved}
+use lib.ListN.{length}
+use mathlib.Core.Path.{◌≡◌}
 use Prim.Native.Nat.{◌≤◌, ◌-◌}
 use Rattle.wing_mirror.proofs.bytes.open_gap.Given as goal
 

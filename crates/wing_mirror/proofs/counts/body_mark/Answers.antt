@@ -1,6 +1,5 @@
 -- Each arm is the line of `body_mark` for what `from_bytes` gives, and the contract of `refusal_mark` gives the mark of a refusal.
 use Rattle.wing_mirror.specs.Counts.{body_mark}
-use borrow.Author.Rules.{rules}
 use Rattle.wing_mirror.proofs.counts.body_mark.Goals as goal
 
 pub returns-in-Good : goal.returns-in-Good

@@ -1,6 +1,5 @@
 -- Each return is the branch of `refusal_mark` with that test of the number.
 use borrow.Author.Tests.{eq-eqb, le-leb, ne_eqb, lt-leb}
-use borrow.Author.Rules.{rules}
 use Rattle.wing_mirror.specs.Counts.{refusal_mark}
 use Rattle.wing_mirror.proofs.counts.refusal_mark.Goals as goal
 

@@ -1,7 +1,6 @@
 -- In each arm one more in that count is what adding `one` of that mark gives, as the other counts get 0 more.
 use native.Mathlib.Nat.{add-zero}
 use Rattle.wing_mirror.specs.Counts.{mark_number, one}
-use borrow.Author.Rules.{rules}
 use Rattle.wing_mirror.proofs.counts.tick.Goals as goal
 
 pub returns-in-Stored : goal.returns-in-Stored

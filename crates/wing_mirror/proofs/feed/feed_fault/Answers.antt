@@ -4,7 +4,6 @@ use mathlib.Core.Path.{sym, ◌∙◌}
 use native.Mathlib.Omega.{arith}
 use borrow.Author.Tests.{eq-eqb, ne_eqb, le-leb, lt-leb}
 use Rattle.wing_mirror.specs.Mirror.{mirror_feed, lent_feed}
-use borrow.Author.Rules.{rules}
 use Rattle.wing_mirror.proofs.feed.feed_fault.Goals as goal
 
 pub returns-then-store-ne-BODY_LIMIT : goal.returns-then-store-ne-BODY_LIMIT

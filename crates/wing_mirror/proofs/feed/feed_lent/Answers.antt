@@ -1,6 +1,5 @@
 -- By the contract of `feed_fault` the feed is taken where it gives 0, and `feed_on` makes it; else it is refused with that number.
 use borrow.Author.Tests.{eq-eqb, ne_eqb}
-use borrow.Author.Rules.{rules}
 use Rattle.wing_mirror.proofs.feed.feed_lent.Goals as goal
 
 pub feed_on-requires : goal.feed_on-requires

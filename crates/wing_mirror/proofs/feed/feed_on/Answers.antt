@@ -2,20 +2,17 @@
 -- `keep_answer` and releases it (law `again`), and at 'more' the feed has ended (law `ended`).
 use mathlib.Core.Path.{◌≡◌, refl, sym, ◌∙◌, ap}
 use native.Mathlib.Omega.{arith}
-use mir.Facts.{to_z-of_z}
 use mir.Syntax.{w32}
 use mir.Val.{to_z, of_z}
 use borrow.Author.Rules.{rules}
-use lib.ListN.{length}
 use Rattle.wing_wire.specs.State.{state_of}
 use Rattle.wing_wire.proofs.Laws.{decoder-laws}
 use Rattle.wing_mirror.specs.Record.{full}
 use Rattle.wing_mirror.specs.Table.{table as table_of}
-use Rattle.wing_mirror.specs.Counts.{zero_counts}
-use Rattle.wing_mirror.specs.Mirror.{table_tally, fed_all, taken_feed}
+use Rattle.wing_mirror.specs.Mirror.{fed_all, taken_feed}
 use Rattle.wing_mirror.specs.Tally.{tally_of}
 use Rattle.wing_mirror.proofs.Records.Full.{full-laws}
-use Rattle.wing_mirror.proofs.Calls.Turns.{FeedInvariant, fed, left, begun, inside, ended, less-left, answer-bounded, again}
+use Rattle.wing_mirror.proofs.Calls.Turns.{begun, inside, ended, less-left, answer-bounded, again}
 use Rattle.wing_mirror.proofs.feed.feed_on.Goals as goal
 
 pub loop-a-init : goal.loop-a-init

@@ -1,19 +1,11 @@
-use mathlib.Core.Path.{◌≡◌, refl, sym, ◌∙◌, ap}
-use native.Mathlib.Omega.{arith}
-use mir.Facts.{to_z-of_z}
-use mir.Syntax.{w32}
-use mir.Val.{to_z, of_z}
-use borrow.Author.Rules.{rules}
+use mathlib.Core.Path.{◌≡◌}
 use lib.ListN.{length}
-use Rattle.wing_wire.specs.State.{state_of}
-use Rattle.wing_wire.proofs.Laws.{decoder-laws}
 use Rattle.wing_mirror.specs.Record.{full}
 use Rattle.wing_mirror.specs.Table.{table as table_of}
 use Rattle.wing_mirror.specs.Counts.{zero_counts}
-use Rattle.wing_mirror.specs.Mirror.{table_tally, fed_all, taken_feed}
+use Rattle.wing_mirror.specs.Mirror.{table_tally}
 use Rattle.wing_mirror.specs.Tally.{tally_of}
-use Rattle.wing_mirror.proofs.Records.Full.{full-laws}
-use Rattle.wing_mirror.proofs.Calls.Turns.{FeedInvariant, fed, left, begun, inside, ended, less-left, answer-bounded, again}
+use Rattle.wing_mirror.proofs.Calls.Turns.{FeedInvariant, fed, left}
 use Rattle.wing_mirror.proofs.feed.feed_on.Given as goal
 
 abbrev pub invariant-loop-a : goal.invariant-loop-a

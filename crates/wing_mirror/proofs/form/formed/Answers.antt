@@ -1,5 +1,4 @@
 -- Both returns are the branches of `form_of`, by the contract of `well_formed`.
-use borrow.Author.Rules.{rules}
 use borrow.Author.Tests.{eq-eqb, ne_eqb}
 use Rattle.wing_mirror.specs.Form.{form_of}
 use Rattle.wing_mirror.proofs.form.formed.Goals as goal

@@ -4,7 +4,6 @@ use native.Mathlib.Omega.{arith}
 use lib.ListN.{length}
 use Rattle.wing_mirror.specs.Record.{key_of}
 use Rattle.wing_mirror.proofs.Tables.Chunks.{row-wide}
-use borrow.Author.Rules.{rules}
 use Rattle.wing_mirror.proofs.order.key_at.Goals as goal
 
 pub key-requires : goal.key-requires

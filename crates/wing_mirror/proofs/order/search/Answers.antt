@@ -1,6 +1,5 @@
 -- The position that the counted search answers.
 use mathlib.Core.Path.{ap}
-use borrow.Author.Rules.{rules}
 use Rattle.wing_mirror.specs.declared.order.Counted.{Counted}
 use Rattle.wing_mirror.proofs.order.search.Goals as goal
 

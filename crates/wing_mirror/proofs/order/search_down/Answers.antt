@@ -1,18 +1,15 @@
 -- The invariant: i records are left of those that were not read, their keys rise, and the search answers what it answers over these, after the keys that were read;
 -- the id is not found yet.
 -- A turn reads a last key that is higher (law `goes_down`); one that is lower or the same ends the loop (laws `stops-below`, `stops-there`).
-use Prim.Native.Nat.{◌+◌, ◌<◌}
-use mathlib.Core.Bool.{true, false}
+use Prim.Native.Nat.{◌<◌}
 use mathlib.Core.Path.{◌≡◌, refl, sym, ◌∙◌}
 use native.Mathlib.Omega.{arith}
-use borrow.Author.Rules.{rules}
 use borrow.Author.Tests.{eq-eqb, ne_eqb, eqb-true, eqb-false}
-use Rattle.wing_mirror.specs.Rows.{records, rising}
+use Rattle.wing_mirror.specs.Rows.{records}
 use Rattle.wing_mirror.specs.Record.{key_of}
-use Rattle.wing_mirror.specs.HighEnd.{counted_of}
 use Rattle.wing_mirror.proofs.Tables.Chunks.{row_fits}
 use Rattle.wing_mirror.proofs.Tables.Finds.{fewer}
-use Rattle.wing_mirror.proofs.Tables.HighEnd.{counted_from, from-none, goes_down, stops-below, stops-there, stops-under}
+use Rattle.wing_mirror.proofs.Tables.HighEnd.{from-none, goes_down, stops-below, stops-there, stops-under}
 use Rattle.wing_mirror.proofs.order.search_down.Goals as goal
 
 pub loop-i-init : goal.loop-i-init

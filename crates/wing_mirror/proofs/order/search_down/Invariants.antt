@@ -1,15 +1,10 @@
-use Prim.Native.Nat.{◌+◌, ◌<◌}
+use Prim.Native.Nat.{◌+◌}
 use mathlib.Core.Bool.{true, false}
-use mathlib.Core.Path.{◌≡◌, refl, sym, ◌∙◌}
-use native.Mathlib.Omega.{arith}
-use borrow.Author.Rules.{rules}
-use borrow.Author.Tests.{eq-eqb, ne_eqb, eqb-true, eqb-false}
+use mathlib.Core.Path.{◌≡◌}
 use Rattle.wing_mirror.specs.Rows.{records, rising}
 use Rattle.wing_mirror.specs.Record.{key_of}
 use Rattle.wing_mirror.specs.HighEnd.{counted_of}
-use Rattle.wing_mirror.proofs.Tables.Chunks.{row_fits}
-use Rattle.wing_mirror.proofs.Tables.Finds.{fewer}
-use Rattle.wing_mirror.proofs.Tables.HighEnd.{counted_from, from-none, goes_down, stops-below, stops-there, stops-under}
+use Rattle.wing_mirror.proofs.Tables.HighEnd.{counted_from}
 use Rattle.wing_mirror.proofs.order.search_down.Given as goal
 
 abbrev pub invariant-loop-i : goal.invariant-loop-i

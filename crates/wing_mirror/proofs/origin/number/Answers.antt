@@ -1,5 +1,4 @@
 -- Each arm is the line of `origin_number` with that origin.
-use borrow.Author.Rules.{rules}
 use Rattle.wing_mirror.specs.Origin.{origin_number}
 use Rattle.wing_mirror.proofs.origin.number.Goals as goal
 

@@ -3,7 +3,6 @@ use Prim.Native.Nat.{ℕ}
 use mathlib.Core.Bool.{true}
 use mathlib.Core.Path.{◌≡◌, sym, ◌∙◌, ap}
 use mir.Facts.{to_z-of_z}
-use borrow.Author.Rules.{rules}
 use Rattle.wing_mirror.specs.Rows.{records, number_of}
 use Rattle.wing_mirror.specs.Entry.{rank_of}
 use Rattle.wing_mirror.specs.Record.{key_of, full}

@@ -3,7 +3,6 @@ use mathlib.Core.Path.{◌∙◌, sym, ap}
 use Rattle.wing_mirror.specs.Rows.{number_of}
 use Rattle.wing_mirror.specs.Query.{answer_of}
 use Rattle.wing_mirror.specs.declared.order.Position.{Position}
-use borrow.Author.Rules.{rules}
 use Rattle.wing_mirror.proofs.query.number_of.Goals as goal
 
 pub returns-then-position : goal.returns-then-position

@@ -11,7 +11,6 @@ use Rattle.wing_mirror.specs.Query.{read_of, record_answer}
 use Rattle.wing_mirror.proofs.Tables.Chunks.{row-wide}
 use Rattle.wing_mirror.proofs.Records.Usables.{room}
 use Rattle.wing_mirror.proofs.Records.Said.{row_of}
-use borrow.Author.Rules.{rules}
 use Rattle.wing_mirror.proofs.query.record.Goals as goal
 
 pub row-requires : goal.row-requires

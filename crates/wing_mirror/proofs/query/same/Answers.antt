@@ -4,7 +4,6 @@ use Rattle.wing_mirror.specs.Record.{full}
 use Rattle.wing_mirror.specs.Table.{table}
 use Rattle.wing_mirror.specs.Query.{same_answer}
 use Rattle.wing_mirror.proofs.Records.Usables.{room}
-use borrow.Author.Rules.{rules}
 use Rattle.wing_mirror.proofs.query.same.Goals as goal
 
 pub same_records-requires : goal.same_records-requires

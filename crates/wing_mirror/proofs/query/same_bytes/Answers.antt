@@ -1,11 +1,7 @@
 -- The invariant: the bytes are the same exactly if those from i on are; a turn passes one equal pair (`bytes_on`), and an unequal pair ends it
 -- (`bytes-off`).
-use Prim.Native.Nat.{◌-◌}
-use mathlib.Core.Path.{◌≡◌, refl, sym, ◌∙◌}
+use mathlib.Core.Path.{sym, ◌∙◌}
 use native.Mathlib.Omega.{arith}
-use borrow.Author.Rules.{rules}
-use lib.ListN.{length, drop}
-use Rattle.wing_mirror.specs.Query.{same_bytes}
 use Rattle.wing_mirror.proofs.Records.Equals.{bytes_on, bytes-off, bytes-end}
 use Rattle.wing_mirror.proofs.query.same_bytes.Goals as goal
 

@@ -1,10 +1,7 @@
 use Prim.Native.Nat.{◌-◌}
-use mathlib.Core.Path.{◌≡◌, refl, sym, ◌∙◌}
-use native.Mathlib.Omega.{arith}
-use borrow.Author.Rules.{rules}
+use mathlib.Core.Path.{◌≡◌}
 use lib.ListN.{length, drop}
 use Rattle.wing_mirror.specs.Query.{same_bytes}
-use Rattle.wing_mirror.proofs.Records.Equals.{bytes_on, bytes-off, bytes-end}
 use Rattle.wing_mirror.proofs.query.same_bytes.Given as goal
 
 abbrev pub invariant-loop-i : goal.invariant-loop-i

@@ -5,7 +5,6 @@ use mir.Facts.{to_z-of_z}
 use lib.ListN.{length-take}
 use lib.Seq.{length-take-le}
 use Rattle.wing_mirror.proofs.Records.Said.{string-said}
-use borrow.Author.Rules.{rules}
 use Rattle.wing_mirror.proofs.query.string_read.Goals as goal
 
 pub slice_bounds-lay-end-2 : goal.slice_bounds-lay-end-2

@@ -10,7 +10,6 @@ use Rattle.wing_mirror.specs.Table.{row_at}
 use Rattle.wing_mirror.specs.Sending.{order_in}
 use Rattle.wing_mirror.proofs.Tables.Chunks.{row-wide}
 use Rattle.wing_mirror.proofs.Calls.Sends.{laid-whole}
-use borrow.Author.Rules.{rules}
 use Rattle.wing_mirror.proofs.recall.lay_order.Goals as goal
 
 pub send_record-sent-requires : goal.send_record-sent-requires

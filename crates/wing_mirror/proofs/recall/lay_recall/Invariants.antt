@@ -1,16 +1,11 @@
 use Prim.Native.Nat.{◌+◌, ◌-◌, ◌≤◌}
-use mathlib.Core.Path.{◌≡◌, refl, sym, ap, ◌∙◌}
-use native.Mathlib.Omega.{arith}
-use borrow.Author.Rules.{rules}
-use lib.ListN.{length, set, length-set}
-use lib.Seq.{sets, length-sets}
-use Rattle.wing_wire.proofs.Laws.{writer-laws}
+use mathlib.Core.Path.{◌≡◌}
+use lib.ListN.{length}
+use lib.Seq.{sets}
 use Rattle.wing_mirror.specs.Record.{full}
-use Rattle.wing_mirror.specs.Table.{table as table_of, row_at}
+use Rattle.wing_mirror.specs.Table.{table as table_of}
 use Rattle.wing_mirror.specs.Recall.{recall_bytes}
-use Rattle.wing_mirror.specs.Sending.{order_in}
-use Rattle.wing_mirror.proofs.Records.Usables.{room}
-use Rattle.wing_mirror.proofs.Calls.Sends.{left, left-all, left-next, left_less, left-none, row-formed}
+use Rattle.wing_mirror.proofs.Calls.Sends.{left}
 use Rattle.wing_mirror.proofs.recall.lay_recall.Given as goal
 
 abbrev pub invariant-loop-number : goal.invariant-loop-number

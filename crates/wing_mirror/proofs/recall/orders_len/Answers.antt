@@ -1,15 +1,13 @@
 -- The invariant: the total and the length of the orders left are the length of all; a turn lays one into the scratch buffer, which has room for any
 -- (`row-le`), to count it.
-use Prim.Native.Nat.{◌+◌, ◌-◌, ◌*◌, ◌≤◌}
-use mathlib.Core.Path.{◌≡◌, ap}
+use mathlib.Core.Path.{ap}
 use native.Mathlib.Omega.{arith}
 use borrow.Author.Rules.{rules}
 use lib.ListN.{length}
 use Rattle.wing_mirror.specs.Record.{full}
-use Rattle.wing_mirror.specs.Table.{table as table_of, rows}
-use Rattle.wing_mirror.specs.Sending.{orders_of}
+use Rattle.wing_mirror.specs.Table.{table as table_of}
 use Rattle.wing_mirror.proofs.Records.Usables.{room}
-use Rattle.wing_mirror.proofs.Calls.Sends.{left, left-all, left_less, left-none, few-records, row-formed, row-le}
+use Rattle.wing_mirror.proofs.Calls.Sends.{left-all, left_less, left-none, few-records, row-formed, row-le}
 use Rattle.wing_mirror.proofs.recall.orders_len.Goals as goal
 
 pub loop-i-init : goal.loop-i-init

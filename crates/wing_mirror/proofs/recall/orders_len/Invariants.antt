@@ -1,13 +1,10 @@
 use Prim.Native.Nat.{◌+◌, ◌-◌, ◌*◌, ◌≤◌}
-use mathlib.Core.Path.{◌≡◌, ap}
-use native.Mathlib.Omega.{arith}
-use borrow.Author.Rules.{rules}
+use mathlib.Core.Path.{◌≡◌}
 use lib.ListN.{length}
 use Rattle.wing_mirror.specs.Record.{full}
 use Rattle.wing_mirror.specs.Table.{table as table_of, rows}
 use Rattle.wing_mirror.specs.Sending.{orders_of}
-use Rattle.wing_mirror.proofs.Records.Usables.{room}
-use Rattle.wing_mirror.proofs.Calls.Sends.{left, left-all, left_less, left-none, few-records, row-formed, row-le}
+use Rattle.wing_mirror.proofs.Calls.Sends.{left}
 use Rattle.wing_mirror.proofs.recall.orders_len.Given as goal
 
 abbrev pub invariant-loop-i : goal.invariant-loop-i

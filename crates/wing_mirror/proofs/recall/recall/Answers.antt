@@ -1,7 +1,6 @@
 -- Each return is a case of `recall_of` (`unusable`, `recalled`): out is too short by what `orders_len` counts, or has room, by that count or by 395
 -- bytes a record (`orders-le`), and `lay_recall` writes all.
 use mathlib.Core.Path.{sym, ◌∙◌}
-use mathlib.Core.Logic.{⊎_elim}
 use native.Mathlib.Omega.{arith}
 use Rattle.wing_wire.proofs.Laws.{writer-laws}
 use Rattle.wing_mirror.specs.Record.{full}

@@ -1,7 +1,6 @@
 -- Each arm is the line of `size_in` with that variant.
 use mathlib.Core.Path.{sym, ap}
 use Rattle.wing_mirror.specs.Sending.{size_in}
-use borrow.Author.Rules.{rules}
 use Rattle.wing_mirror.proofs.recall.size_in.Goals as goal
 
 pub returns-in-Bytes : goal.returns-in-Bytes

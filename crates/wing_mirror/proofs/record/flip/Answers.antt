@@ -1,6 +1,5 @@
 -- Both returns are the branches of `flipped` with that test of the bits.
 use borrow.Author.Tests.{lt-ltb, le-ltb}
-use borrow.Author.Rules.{rules}
 use Rattle.wing_mirror.proofs.record.flip.Goals as goal
 
 pub returns-then-bits-lt2147483648 : goal.returns-then-bits-lt2147483648

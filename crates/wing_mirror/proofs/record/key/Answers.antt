@@ -4,7 +4,6 @@ use native.Mathlib.Omega.{arith}
 use Rattle.wing_node.proofs.Numerals.Placed.{field-whole}
 use Rattle.wing_mirror.specs.Entry.{flipped}
 use Rattle.wing_mirror.specs.Record.{key_of}
-use borrow.Author.Rules.{rules}
 use Rattle.wing_mirror.proofs.record.key.Goals as goal
 
 pub returns : goal.returns

@@ -1,6 +1,6 @@
 -- The store of the id by `put_i32`, laid at its place (`field-sets`), and that of the origin's number are those of `head_from` in order.
 use Prim.Native.Nat.{ℕ}
-use mathlib.Core.Path.{◌≡◌, ◌∙◌, ap, ap₂}
+use mathlib.Core.Path.{◌≡◌, ap₂}
 use mathlib.Core.List.{List}
 use native.Mathlib.Omega.{arith}
 use mir.Facts.{to_z-of_z}
@@ -9,7 +9,6 @@ use lib.Seq.{sets}
 use Rattle.wing_node.specs.Field.{bytes_of}
 use Rattle.wing_node.specs.Signed.{unsigned}
 use Rattle.wing_node.proofs.Numerals.Placed.{field-sets}
-use borrow.Author.Rules.{rules}
 use Rattle.wing_mirror.proofs.record.lay_head.Goals as goal
 
 pub returns : goal.returns

@@ -9,7 +9,6 @@ use lib.ListN.{set, length-set}
 use lib.Seq.{sets}
 use Rattle.wing_node.specs.Field.{bytes_of}
 use Rattle.wing_node.proofs.Numerals.Placed.{field-sets}
-use borrow.Author.Rules.{rules}
 use Rattle.wing_mirror.proofs.record.lay_number.Goals as goal
 
 pub returns : goal.returns

@@ -9,9 +9,8 @@ use mir.Val.{to_z, of_z}
 use lib.ListN.{length, take, length-replicate}
 use Rattle.wing_node.specs.Field.{bytes_of}
 use Rattle.wing_node.specs.Signed.{unsigned}
-use Rattle.wing_node.specs.Value.{NodeValue, integer, float, string, node_value}
-use Rattle.wing_mirror.specs.Entry.{entry}
-use Rattle.wing_mirror.specs.Record.{kind_of, payload_of, record_of, laid_from}
+use Rattle.wing_node.specs.Value.{integer, float, string, node_value}
+use Rattle.wing_mirror.specs.Record.{kind_of, payload_of, laid_from}
 use Rattle.wing_mirror.proofs.Tables.Laying.{record-laid, short}
 use borrow.Author.Rules.{rules}
 use Rattle.wing_mirror.proofs.record.lay_record.Goals as goal

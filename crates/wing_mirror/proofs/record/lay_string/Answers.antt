@@ -6,7 +6,6 @@ use lib.ListN.{set, length-set, length-take}
 use lib.Seq.{length-take-le}
 use Rattle.wing_node.proofs.Numerals.Placed.{field-sets}
 use Rattle.wing_mirror.proofs.Tables.Laying.{string-laid}
-use borrow.Author.Rules.{rules}
 use Rattle.wing_mirror.proofs.record.lay_string.Goals as goal
 
 pub slice_bounds-lay-end : goal.slice_bounds-lay-end

@@ -1,6 +1,5 @@
 -- Both returns are the branches of `origin_of` with that test of the origin's byte.
 use borrow.Author.Tests.{eq-eqb, ne_eqb}
-use borrow.Author.Rules.{rules}
 use Rattle.wing_mirror.specs.Origin.{origin_of}
 use Rattle.wing_mirror.proofs.record.origin_in.Goals as goal
 

@@ -3,7 +3,6 @@ use mir.Facts.{to_z-of_z}
 use Rattle.wing_node.specs.Signed.{unsigned}
 use mathlib.Core.Path.{◌∙◌, ap}
 use Rattle.wing_mirror.specs.Entry.{flipped}
-use borrow.Author.Rules.{rules}
 use Rattle.wing_mirror.proofs.record.rank.Goals as goal
 
 pub returns : goal.returns

@@ -6,7 +6,6 @@ use lib.ListN.{length, take, drop, get_or, length-drop}
 use Rattle.wing_node.specs.Field.{big, field_at}
 use Rattle.wing_node.proofs.Numerals.Placed.{field-whole}
 use Rattle.wing_mirror.specs.Record.{well_kept, well_formed}
-use borrow.Author.Rules.{rules}
 use Rattle.wing_mirror.proofs.record.well_formed.Goals as goal
 
 pub well_kept-requires : goal.well_kept-requires

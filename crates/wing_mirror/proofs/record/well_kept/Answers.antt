@@ -1,7 +1,6 @@
 -- Each return is the branch of `well_kept` with that test, by the contracts of `zeros_from` and `string_kept`.
 use borrow.Author.Tests.{le-leb, lt-leb, eq-eqb, ne_eqb}
 use Rattle.wing_mirror.specs.Record.{well_kept}
-use borrow.Author.Rules.{rules}
 use Rattle.wing_mirror.proofs.record.well_kept.Goals as goal
 
 pub returns-then-n-eq4 : goal.returns-then-n-eq4

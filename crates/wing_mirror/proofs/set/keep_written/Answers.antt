@@ -5,7 +5,6 @@ use Rattle.wing_mirror.specs.Puts.{PutEffect}
 use Rattle.wing_mirror.specs.Table.{table}
 use Rattle.wing_mirror.proofs.Records.Ready.{in_order_lem, put_is}
 use mathlib.Core.Path.{◌∙◌, ap}
-use borrow.Author.Rules.{rules}
 use Rattle.wing_mirror.proofs.set.keep_written.Goals as goal
 
 pub put-kept-requires : goal.put-kept-requires

@@ -1,6 +1,5 @@
 -- Each return is the side of the `if` that `is_usable` tells.
 use mathlib.Core.Path.{sym, ◌∙◌}
-use borrow.Author.Rules.{rules}
 use Rattle.wing_mirror.proofs.set.refused_string.Goals as goal
 
 pub returns-then-is_usable : goal.returns-then-is_usable

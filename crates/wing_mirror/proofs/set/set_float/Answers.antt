@@ -3,7 +3,6 @@ use mathlib.Core.Path.{refl}
 use mir.Facts.{to_z-of_z}
 use Rattle.wing_node.specs.Value.{node_value}
 use Rattle.wing_mirror.specs.Entry.{storable}
-use borrow.Author.Rules.{rules}
 use Rattle.wing_mirror.proofs.set.set_float.Goals as goal
 
 pub set_value-requires : goal.set_value-requires

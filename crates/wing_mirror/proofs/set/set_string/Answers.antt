@@ -10,7 +10,6 @@ use Rattle.wing_node.proofs.Refusals.{string-right, string-wrong}
 use Rattle.wing_mirror.specs.Record.{full}
 use Rattle.wing_mirror.specs.Table.{table}
 use Rattle.wing_mirror.proofs.Calls.Orders.{storable-string, long-string, bad-string}
-use borrow.Author.Rules.{rules}
 use Rattle.wing_mirror.proofs.set.set_string.Goals as goal
 
 pub set_value-requires : goal.set_value-requires

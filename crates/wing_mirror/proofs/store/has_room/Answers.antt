@@ -3,7 +3,6 @@ use mathlib.Core.Path.{◌∙◌, ap}
 use Prim.Native.Nat.{ℕ}
 use lib.Dec.{ltb}
 use Rattle.wing_mirror.proofs.Tables.Placing.{takes-there, takes-free}
-use borrow.Author.Rules.{rules}
 use Rattle.wing_mirror.proofs.store.has_room.Goals as goal
 
 pub returns-then-position : goal.returns-then-position

@@ -3,7 +3,6 @@
 use native.Mathlib.Omega.{arith}
 use lib.ListN.{length}
 use Rattle.wing_mirror.proofs.Tables.Placing.{in_table, found-fits, free-fits, over-it, none_free, new-one}
-use borrow.Author.Rules.{rules}
 use Rattle.wing_mirror.proofs.store.put.Goals as goal
 
 pub overflow_mul-at : goal.overflow_mul-at

@@ -1,12 +1,9 @@
 -- The invariant: all records have their form and order exactly if those from i on do; a turn passes one (law `turn`).
-use Prim.Native.Nat.{◌-◌}
-use mathlib.Core.Path.{◌≡◌, sym, ◌∙◌, ap}
-use borrow.Author.Rules.{rules}
-use Rattle.wing_mirror.specs.Rows.{records}
+use mathlib.Core.Path.{sym, ◌∙◌, ap}
 use Rattle.wing_mirror.specs.Record.{key_of}
 use Rattle.wing_mirror.specs.Form.{form_of}
 use Rattle.wing_mirror.specs.Table.{checked_of}
-use Rattle.wing_mirror.proofs.Tables.Tests.{from, from_all, turn, all-passed}
+use Rattle.wing_mirror.proofs.Tables.Tests.{from_all, turn, all-passed}
 use Rattle.wing_mirror.proofs.table.all_pass.Goals as goal
 
 pub loop-i-init : goal.loop-i-init

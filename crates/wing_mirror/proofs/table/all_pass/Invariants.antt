@@ -1,11 +1,10 @@
 use Prim.Native.Nat.{◌-◌}
-use mathlib.Core.Path.{◌≡◌, sym, ◌∙◌, ap}
-use borrow.Author.Rules.{rules}
+use mathlib.Core.Path.{◌≡◌}
 use Rattle.wing_mirror.specs.Rows.{records}
 use Rattle.wing_mirror.specs.Record.{key_of}
 use Rattle.wing_mirror.specs.Form.{form_of}
 use Rattle.wing_mirror.specs.Table.{checked_of}
-use Rattle.wing_mirror.proofs.Tables.Tests.{from, from_all, turn, all-passed}
+use Rattle.wing_mirror.proofs.Tables.Tests.{from}
 use Rattle.wing_mirror.proofs.table.all_pass.Given as goal
 
 abbrev pub invariant-loop-i : goal.invariant-loop-i

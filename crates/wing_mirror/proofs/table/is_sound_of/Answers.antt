@@ -5,7 +5,6 @@ use Prim.Native.Nat.{◌/◌, ◌≤◌}
 use native.Mathlib.Nat.{mul-le-mul_left, mul-div-le}
 use lib.ListN.{length}
 use Rattle.wing_mirror.specs.Table.{sound_of}
-use borrow.Author.Rules.{rules}
 use Rattle.wing_mirror.proofs.table.is_sound_of.Goals as goal
 
 pub all_pass-requires : goal.all_pass-requires

@@ -1,5 +1,4 @@
 -- The contract of `is_usable_of` at 264 bytes, where `form_of` is 01's form.
-use borrow.Author.Rules.{rules}
 use Rattle.wing_mirror.specs.Form.{form_of}
 use Rattle.wing_mirror.proofs.table.is_usable.Goals as goal
 

@@ -1,7 +1,6 @@
 -- Each return is the branch of `usable_of` with that test of the places, by the contracts of `places_of` and `is_sound_of`.
 use borrow.Author.Tests.{le-leb, lt-leb}
 use Rattle.wing_mirror.specs.Table.{places_allowed, usable_of}
-use borrow.Author.Rules.{rules}
 use Rattle.wing_mirror.proofs.table.is_usable_of.Goals as goal
 
 pub returns-then-n-le1024 : goal.returns-then-n-le1024

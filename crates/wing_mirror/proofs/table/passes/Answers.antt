@@ -4,7 +4,6 @@ use lib.ListN.{length}
 use Rattle.wing_mirror.specs.Form.{form_of}
 use Rattle.wing_mirror.specs.Table.{passes_at}
 use Rattle.wing_mirror.proofs.Tables.Chunks.{row_fits, row-wide}
-use borrow.Author.Rules.{rules}
 use Rattle.wing_mirror.proofs.table.passes.Goals as goal
 
 pub row-requires : goal.row-requires

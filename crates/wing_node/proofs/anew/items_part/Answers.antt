@@ -10,7 +10,6 @@ use Rattle.wing_node.specs.declared.node_type.NodeType.{NodeType}
 use Rattle.wing_node.specs.declared.definition.Details.{Details}
 use Rattle.wing_node.specs.declared.definition.Details.TheVariants.{None, Floats, Integers, Items, String as max_len}
 use Rattle.wing_node.specs.contracts.definition.Details as D
-use borrow.Author.Rules.{rules}
 use Rattle.wing_node.proofs.anew.items_part.Goals as goal
 
 no_bytes : (body : List ℕ) (t : NodeType) (d : Details) → OneOf (0 ∷ 1 ∷ 2 ∷ 4 ∷ []) (tag_of D.the_type d) → [] ≡ item_bytes body t d

@@ -3,7 +3,6 @@ use mathlib.Core.Path.{◌≡◌}
 use Prim.Native.Nat.{◌+◌, ◌-◌}
 use native.Mathlib.Omega.{arith}
 use Rattle.wing_node.proofs.Bodies.Parts.{part-taken}
-use borrow.Author.Rules.{rules}
 use Rattle.wing_node.proofs.anew.part_of.Goals as goal
 
 pub returns : goal.returns

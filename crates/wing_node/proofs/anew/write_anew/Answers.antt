@@ -1,7 +1,6 @@
 -- The contract of the parser says which of the two arms it is.
 use mathlib.Core.Path.{◌∙◌}
 use Rattle.wing_node.specs.Anew.{anew_of}
-use borrow.Author.Rules.{rules}
 use Rattle.wing_node.proofs.anew.write_anew.Goals as goal
 
 pub returns-in-Good : goal.returns-in-Good

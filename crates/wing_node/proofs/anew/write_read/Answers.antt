@@ -1,7 +1,6 @@
 -- Each slice is its part of the body, and `fields_of` gives the fields.
 use mathlib.Core.Path.{◌∙◌}
 use Rattle.wing_node.specs.Writer.{lent, body_of_fields}
-use borrow.Author.Rules.{rules}
 use Rattle.wing_node.proofs.anew.write_read.Goals as goal
 
 pub returns : goal.returns

@@ -6,7 +6,6 @@ use lib.ListN.{length}
 use Rattle.wing_node.specs.Cursor.{stopped, nothing, number, size, right, value_of, content_at, short_of}
 use Rattle.wing_node.proofs.Numerals.Placed.{field-whole}
 use Rattle.wing_node.proofs.Bodies.Cases.{read-refused, read_short, read-there}
-use borrow.Author.Rules.{rules}
 use Rattle.wing_node.proofs.cursor.read_16.Goals as goal
 
 pub returns-then-is_refused : goal.returns-then-is_refused

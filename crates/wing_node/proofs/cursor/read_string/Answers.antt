@@ -6,7 +6,6 @@ use native.Mathlib.Omega.{arith}
 use lib.ListN.{get_or}
 use Rattle.wing_node.specs.Cursor.{stopped, nothing, string}
 use Rattle.wing_node.proofs.Bodies.Cases.{read-refused, string-short, string-wrong, string-right}
-use borrow.Author.Rules.{rules}
 use Rattle.wing_node.proofs.cursor.read_string.Goals as goal
 
 pub returns-then-is_refused : goal.returns-then-is_refused

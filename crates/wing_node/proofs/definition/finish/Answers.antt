@@ -1,4 +1,3 @@
-use borrow.Author.Rules.{rules}
 use Rattle.wing_node.proofs.definition.finish.Goals as goal
 
 -- src/definition.rt:211:1

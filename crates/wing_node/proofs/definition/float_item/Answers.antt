@@ -1,7 +1,6 @@
 -- `item_at` opened is the two reads one after the other, and the contracts of `read_32` and `read_string` give each.
 use Rattle.wing_node.specs.Cursor.{reads, after}
 use Rattle.wing_node.specs.Definition.{item_at}
-use borrow.Author.Rules.{rules}
 use Rattle.wing_node.proofs.definition.float_item.Goals as goal
 
 pub returns : goal.returns

@@ -1,6 +1,5 @@
 -- `listed_at` opened is the count and the items after it, which the contracts of `read_16` and `past_items` give.
 use Rattle.wing_node.specs.Definition.{listed_at}
-use borrow.Author.Rules.{rules}
 use Rattle.wing_node.proofs.definition.listed.Goals as goal
 
 pub returns : goal.returns

@@ -1,9 +1,7 @@
 -- The invariant: the cursor past the items left is the cursor past all of them; a turn passes one (`items-turn`), and a refused cursor stays where
 -- it is (`after-refused`).
-use mathlib.Core.Path.{◌≡◌, refl, ◌∙◌, sym, ap}
+use mathlib.Core.Path.{◌∙◌, sym, ap}
 use Prim.Native.Nat.{◌-◌}
-use native.Mathlib.Omega.{arith}
-use borrow.Author.Rules.{rules}
 use Rattle.wing_node.specs.Cursor.{after}
 use Rattle.wing_node.specs.Definition.{items_of}
 use Rattle.wing_node.proofs.Bodies.Fields.{after-refused, items-turn, items-none}

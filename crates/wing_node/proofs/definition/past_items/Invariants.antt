@@ -1,10 +1,6 @@
-use mathlib.Core.Path.{◌≡◌, refl, ◌∙◌, sym, ap}
-use Prim.Native.Nat.{◌-◌}
-use native.Mathlib.Omega.{arith}
-use borrow.Author.Rules.{rules}
+use mathlib.Core.Path.{◌≡◌}
 use Rattle.wing_node.specs.Cursor.{after}
 use Rattle.wing_node.specs.Definition.{items_of}
-use Rattle.wing_node.proofs.Bodies.Fields.{after-refused, items-turn, items-none}
 use Rattle.wing_node.proofs.definition.past_items.Given as goal
 
 abbrev pub invariant-loop-left : goal.invariant-loop-left

@@ -6,7 +6,6 @@ use Rattle.wing_node.specs.Definition.{details_at, listed_at, times}
 use Rattle.wing_node.specs.declared.node_type.NodeType.TheVariants.{LinearFloat}
 use Rattle.wing_node.specs.declared.definition.Details.TheVariants.{None}
 use Rattle.wing_node.proofs.Arms.{by_arm}
-use borrow.Author.Rules.{rules}
 use Rattle.wing_node.proofs.definition.read_details.Goals as goal
 
 pub returns-in-LinearFloat : goal.returns-in-LinearFloat

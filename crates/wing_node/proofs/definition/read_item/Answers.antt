@@ -6,7 +6,6 @@ use Rattle.wing_node.specs.Cursor.{reads, after}
 use Rattle.wing_node.specs.Definition.{item_at}
 use Rattle.wing_node.specs.declared.definition.Item.TheVariants.{None}
 use Rattle.wing_node.proofs.Arms.{by_arm}
-use borrow.Author.Rules.{rules}
 use Rattle.wing_node.proofs.definition.read_item.Goals as goal
 
 pub returns-in-StringEnum : goal.returns-in-StringEnum

@@ -1,7 +1,6 @@
 -- `item_at` opened is two strings one after the other, which the contract of `read_string` gives.
 use Rattle.wing_node.specs.Cursor.{reads, after}
 use Rattle.wing_node.specs.Definition.{item_at}
-use borrow.Author.Rules.{rules}
 use Rattle.wing_node.proofs.definition.string_item.Goals as goal
 
 pub returns : goal.returns

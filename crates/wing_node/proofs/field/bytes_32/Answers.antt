@@ -1,7 +1,6 @@
 -- The digits of n in base 256, computed from the definition, are the bytes of the array.
 use mathlib.Core.Path.{refl}
 use Rattle.wing_node.specs.Digits.{digits_in}
-use borrow.Author.Rules.{rules}
 use Rattle.wing_node.proofs.field.bytes_32.Goals as goal
 
 pub returns : goal.returns

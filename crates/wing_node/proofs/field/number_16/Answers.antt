@@ -3,7 +3,6 @@ use mathlib.Core.Path.{◌≡◌}
 use Prim.Native.Nat.{◌+◌, ◌*◌}
 use native.Mathlib.Omega.{arith}
 use Rattle.wing_node.specs.Digits.{number_in, number_from}
-use borrow.Author.Rules.{rules}
 use Rattle.wing_node.proofs.field.number_16.Goals as goal
 
 pub returns : goal.returns

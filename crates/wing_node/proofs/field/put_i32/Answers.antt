@@ -4,7 +4,6 @@ use Rattle.wing_node.specs.Signed.{unsigned}
 use mathlib.Core.Path.{◌∙◌, ap}
 use Prim.Native.Nat.{ℕ}
 use Rattle.wing_node.specs.Field.{bytes_of, put_at}
-use borrow.Author.Rules.{rules}
 use Rattle.wing_node.proofs.field.put_i32.Goals as goal
 
 pub returns : goal.returns

@@ -5,7 +5,6 @@ use lib.ListN.{length-set}
 use Rattle.wing_node.specs.Digits.{digits_in}
 use Rattle.wing_node.specs.Field.{bytes_of}
 use Rattle.wing_node.proofs.Numerals.Placed.{put-short, stores-four}
-use borrow.Author.Rules.{rules}
 use Rattle.wing_node.proofs.field.put_u32.Goals as goal
 
 pub returns-then-left-lt4 : goal.returns-then-left-lt4

@@ -3,7 +3,6 @@
 use mathlib.Core.Path.{◌≡◌, refl}
 use Prim.Native.Nat.{◌-◌}
 use native.Mathlib.Omega.{arith}
-use borrow.Author.Rules.{rules}
 use mir.Syntax.{w32}
 use Rattle.wing_node.proofs.Numerals.Signs.{reads}
 use Rattle.wing_node.proofs.field.to_i32.Goals as goal

@@ -5,7 +5,6 @@ use native.Mathlib.Omega.{arith}
 use lib.ListN.{length}
 use Rattle.wing_node.specs.Field.{big}
 use Rattle.wing_node.proofs.Numerals.Placed.{field-short, field-whole, two_bytes}
-use borrow.Author.Rules.{rules}
 use Rattle.wing_node.proofs.field.u16_at.Goals as goal
 
 pub returns-then-left-lt2 : goal.returns-then-left-lt2

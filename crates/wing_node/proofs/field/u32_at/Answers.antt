@@ -5,7 +5,6 @@ use native.Mathlib.Omega.{arith}
 use lib.ListN.{length}
 use Rattle.wing_node.specs.Field.{big}
 use Rattle.wing_node.proofs.Numerals.Placed.{field-short, field-whole, four_bytes}
-use borrow.Author.Rules.{rules}
 use Rattle.wing_node.proofs.field.u32_at.Goals as goal
 
 pub returns-then-left-lt4 : goal.returns-then-left-lt4

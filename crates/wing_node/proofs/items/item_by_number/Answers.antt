@@ -1,6 +1,5 @@
 -- The contract of `items_begin` says which line of `numbered_in` counts, and that of `numbered` gives the item.
 use Rattle.wing_node.specs.Items.{item_numbered}
-use borrow.Author.Rules.{rules}
 use Rattle.wing_node.proofs.items.item_by_number.Goals as goal
 
 pub returns-in-Good : goal.returns-in-Good

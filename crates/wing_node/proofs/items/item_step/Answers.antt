@@ -1,7 +1,6 @@
 -- Each return is the branch of `step_at` with that test, and the contracts of `has_items` and `read_item` give what is tested.
 use borrow.Author.Tests.{eq-eqb, ne_eqb}
 use Rattle.wing_node.specs.Items.{step_at}
-use borrow.Author.Rules.{rules}
 use Rattle.wing_node.proofs.items.item_step.Goals as goal
 
 pub returns-then-left-eq0 : goal.returns-then-left-eq0

@@ -1,6 +1,5 @@
 -- The contract of `from_bytes` says which line of `begin_from` counts, and that of `first_of` gives the walk.
 use Rattle.wing_node.specs.Items.{begin_of}
-use borrow.Author.Rules.{rules}
 use Rattle.wing_node.proofs.items.items_begin.Goals as goal
 
 pub returns-in-Good : goal.returns-in-Good

@@ -1,7 +1,6 @@
 -- Both returns are the branches of `numbered_from`: `past_items` gives the place after the items before it, and `item_step` the item there.
 use borrow.Author.Tests.{le-leb, lt-leb}
 use Rattle.wing_node.specs.Items.{numbered_from}
-use borrow.Author.Rules.{rules}
 use Rattle.wing_node.proofs.items.numbered.Goals as goal
 
 pub returns-then-first-number : goal.returns-then-first-number

@@ -1,4 +1,3 @@
-use borrow.Author.Rules.{rules}
 use Rattle.wing_node.proofs.refusal.first_fault.Goals as goal
 
 -- src/refusal.rt:43:1

@@ -1,7 +1,6 @@
 -- The first n bytes are all good exactly where they are UTF-8 (`good_len`'s contract on the slice); so a good is at most n and fits 16 bits.
 use mathlib.Core.Path.{◌≡◌, sym, ◌∙◌}
 use native.Mathlib.Omega.{arith}
-use borrow.Author.Rules.{rules}
 use borrow.Author.Tests.{eq-eqb, ne_eqb}
 use lib.ListN.{length, take, length-take}
 use lib.Seq.{length-take-le}

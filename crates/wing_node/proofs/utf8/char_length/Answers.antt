@@ -7,7 +7,6 @@ use lib.ListN.{get_or, drop_of_length-le}
 use Rattle.wing_node.specs.Utf8.{begins, char_length, first_that}
 use Rattle.wing_node.proofs.Characters.Fronts.{begins-inside}
 use Rattle.wing_node.proofs.Characters.Chars.{char-at}
-use borrow.Author.Rules.{rules}
 use Rattle.wing_node.proofs.utf8.char_length.Goals as goal
 
 pub returns-then-length-lt2 : goal.returns-then-length-lt2

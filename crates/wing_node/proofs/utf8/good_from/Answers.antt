@@ -1,10 +1,6 @@
 -- The invariant: the good bytes from the start on end where those from i on end; a turn passes one whole character.
-use Prim.Native.Nat.{◌+◌, ◌-◌}
-use mathlib.Core.Path.{◌≡◌, refl, ◌∙◌}
+use mathlib.Core.Path.{◌∙◌}
 use native.Mathlib.Omega.{arith}
-use borrow.Author.Rules.{rules}
-use lib.ListN.{length, drop}
-use Rattle.wing_node.specs.Utf8.{good}
 use Rattle.wing_node.proofs.Characters.Chars.{ascii-at, inside, passed, stopped, ended}
 use Rattle.wing_node.proofs.utf8.good_from.Goals as goal
 

@@ -1,11 +1,7 @@
 -- The invariant: the good bytes end where those from i on end; a turn passes four bytes of ASCII, `good_from` tells of the rest, and `longest-by`
 -- makes it the grammar's answer.
-use Prim.Native.Nat.{◌+◌, ◌-◌}
-use mathlib.Core.Path.{◌≡◌, sym, ◌∙◌}
+use mathlib.Core.Path.{sym, ◌∙◌}
 use native.Mathlib.Omega.{arith}
-use borrow.Author.Rules.{rules}
-use lib.ListN.{length, drop}
-use Rattle.wing_node.specs.Utf8.{good}
 use Rattle.wing_node.proofs.Characters.Fronts.{begins-room}
 use Rattle.wing_node.proofs.Characters.Chars.{ascii-passed}
 use Rattle.wing_node.proofs.Characters.Grammar.{longest-by}

@@ -1,12 +1,7 @@
 use Prim.Native.Nat.{◌+◌, ◌-◌}
-use mathlib.Core.Path.{◌≡◌, sym, ◌∙◌}
-use native.Mathlib.Omega.{arith}
-use borrow.Author.Rules.{rules}
+use mathlib.Core.Path.{◌≡◌}
 use lib.ListN.{length, drop}
 use Rattle.wing_node.specs.Utf8.{good}
-use Rattle.wing_node.proofs.Characters.Fronts.{begins-room}
-use Rattle.wing_node.proofs.Characters.Chars.{ascii-passed}
-use Rattle.wing_node.proofs.Characters.Grammar.{longest-by}
 use Rattle.wing_node.proofs.utf8.good_len.Given as goal
 
 abbrev pub invariant-loop-i : goal.invariant-loop-i

@@ -1,5 +1,4 @@
 -- Inside the bytes the two tests are those of `holds` (`begins-at`); past the end no byte is left to match.
-use borrow.Author.Rules.{rules}
 use borrow.Author.Tests.{le-leb, lt-leb}
 use lib.ListN.{drop_of_length-le}
 use Rattle.wing_node.proofs.Characters.Fronts.{begins-at}

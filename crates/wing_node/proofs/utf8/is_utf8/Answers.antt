@@ -1,6 +1,5 @@
 -- What `good_len` answers is all of it exactly where the bytes are UTF-8, and `decides-by` makes it the grammar's answer.
 use mathlib.Core.Path.{ap}
-use borrow.Author.Rules.{rules}
 use lib.Dec.{eqb}
 use lib.ListN.{length}
 use Rattle.wing_node.specs.Utf8.{utf8}

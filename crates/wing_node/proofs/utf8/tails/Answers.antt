@@ -1,8 +1,6 @@
 -- The invariant: n tail bytes stand at i exactly if those left stand at the place reached; a turn passes one of them (`begins-again`).
-use mathlib.Core.Path.{◌≡◌, refl, sym, ◌∙◌}
+use mathlib.Core.Path.{◌≡◌, sym, ◌∙◌}
 use native.Mathlib.Omega.{arith}
-use borrow.Author.Rules.{rules}
-use lib.ListN.{drop, replicate}
 use Rattle.wing_node.proofs.Characters.Fronts.{begins-inside, begins-again}
 use Rattle.wing_node.specs.Utf8.{utf8_tail, begins}
 use Rattle.wing_node.proofs.utf8.tails.Goals as goal

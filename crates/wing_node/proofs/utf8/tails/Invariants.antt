@@ -1,8 +1,5 @@
-use mathlib.Core.Path.{◌≡◌, refl, sym, ◌∙◌}
-use native.Mathlib.Omega.{arith}
-use borrow.Author.Rules.{rules}
+use mathlib.Core.Path.{◌≡◌}
 use lib.ListN.{drop, replicate}
-use Rattle.wing_node.proofs.Characters.Fronts.{begins-inside, begins-again}
 use Rattle.wing_node.specs.Utf8.{utf8_tail, begins}
 use Rattle.wing_node.proofs.utf8.tails.Given as goal
 

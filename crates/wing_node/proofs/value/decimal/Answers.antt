@@ -1,10 +1,7 @@
 -- `put_decimal` puts the decimal at the front of zeros that have room for it (`decimal-few`, `put-zeros`).
-use mathlib.Core.Path.{◌≡◌, ◌∙◌, ap}
+use mathlib.Core.Path.{◌∙◌}
 use native.Mathlib.Omega.{arith}
-use lib.ListN.{length, replicate}
 use mir.Facts.{to_z-of_z}
-use borrow.Author.Rules.{rules}
-use Rattle.wing_node.specs.Field.{put_at}
 use Rattle.wing_node.specs.Decimal.{decimal}
 use Rattle.wing_node.proofs.Numerals.Answers.{answered, decimal-few, put-zeros}
 use Rattle.wing_node.proofs.value.decimal.Goals as goal

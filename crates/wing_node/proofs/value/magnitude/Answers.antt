@@ -1,6 +1,5 @@
 -- Below 0 it is !x + 1 (`complement`, `below-zero`); else x as it is.
 use native.Mathlib.Omega.{arith}
-use borrow.Author.Rules.{rules}
 use mathlib.Core.Path.{refl}
 use mir.Facts.{to_z-of_z}
 use mir.Syntax.{w32}

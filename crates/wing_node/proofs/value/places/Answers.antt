@@ -1,10 +1,5 @@
 -- The invariant: the digits counted and those of the rest are one more than those of n; a turn takes one digit from the rest (`length_more`).
-use mathlib.Core.Path.{◌≡◌}
-use Prim.Native.Nat.{◌+◌}
 use native.Mathlib.Omega.{arith}
-use borrow.Author.Rules.{rules}
-use lib.ListN.{length}
-use Rattle.wing_node.specs.Decimal.{digits}
 use Rattle.wing_node.proofs.Numerals.Spelled.{length_more, length-small, length_digits}
 use Rattle.wing_node.proofs.value.places.Goals as goal
 

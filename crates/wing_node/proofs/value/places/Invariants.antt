@@ -1,10 +1,7 @@
 use mathlib.Core.Path.{◌≡◌}
 use Prim.Native.Nat.{◌+◌}
-use native.Mathlib.Omega.{arith}
-use borrow.Author.Rules.{rules}
 use lib.ListN.{length}
 use Rattle.wing_node.specs.Decimal.{digits}
-use Rattle.wing_node.proofs.Numerals.Spelled.{length_more, length-small, length_digits}
 use Rattle.wing_node.proofs.value.places.Given as goal
 
 abbrev pub invariant-loop-rest : goal.invariant-loop-rest

@@ -5,7 +5,6 @@ use native.Mathlib.Omega.{arith}
 use lib.IntN.{nat_abs}
 use lib.ListN.{length, length-set}
 use mir.Facts.{to_z-of_z}
-use borrow.Author.Rules.{rules}
 use Rattle.wing_node.specs.Bytes.{placed}
 use Rattle.wing_node.specs.Decimal.{decimal, last_digits}
 use Rattle.wing_node.proofs.Arrays.{placed-cons}

@@ -1,9 +1,7 @@
 -- The invariant: the bytes with the i digits left put into them are the outcome for all k digits; a turn puts the last of those (`placed-turn`).
 use mathlib.Core.Path.{◌≡◌, refl, ◌∙◌, sym, ap}
-use Prim.Native.Nat.{◌≤◌}
 use native.Mathlib.Omega.{arith}
 use borrow.Author.Rules.{rules}
-use lib.ListN.{length}
 use Rattle.wing_node.specs.Bytes.{placed}
 use Rattle.wing_node.specs.Decimal.{last_digits}
 use Rattle.wing_node.proofs.Arrays.{placed-turn, placed_end}

@@ -1,11 +1,8 @@
-use mathlib.Core.Path.{◌≡◌, refl, ◌∙◌, sym, ap}
+use mathlib.Core.Path.{◌≡◌}
 use Prim.Native.Nat.{◌≤◌}
-use native.Mathlib.Omega.{arith}
-use borrow.Author.Rules.{rules}
 use lib.ListN.{length}
 use Rattle.wing_node.specs.Bytes.{placed}
 use Rattle.wing_node.specs.Decimal.{last_digits}
-use Rattle.wing_node.proofs.Arrays.{placed-turn, placed_end}
 use Rattle.wing_node.proofs.value.put_digits.Given as goal
 
 abbrev pub invariant-loop-i : goal.invariant-loop-i

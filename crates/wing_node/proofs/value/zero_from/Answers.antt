@@ -1,9 +1,6 @@
 -- The invariant: the bytes with zeros from i on are the bytes at entry with zeros from the start on; a turn stores one of them (`zeroed-turn`).
-use mathlib.Core.Path.{◌≡◌, refl, ◌∙◌, sym}
-use Prim.Native.Nat.{◌-◌}
+use mathlib.Core.Path.{refl, ◌∙◌, sym}
 use borrow.Author.Rules.{rules}
-use lib.ListN.{length}
-use Rattle.wing_node.specs.Bytes.{zeroed}
 use Rattle.wing_node.proofs.Arrays.{zeroed-turn, zeroed-end}
 use Rattle.wing_node.proofs.value.zero_from.Goals as goal
 

@@ -1,9 +1,7 @@
-use mathlib.Core.Path.{◌≡◌, refl, ◌∙◌, sym}
+use mathlib.Core.Path.{◌≡◌}
 use Prim.Native.Nat.{◌-◌}
-use borrow.Author.Rules.{rules}
 use lib.ListN.{length}
 use Rattle.wing_node.specs.Bytes.{zeroed}
-use Rattle.wing_node.proofs.Arrays.{zeroed-turn, zeroed-end}
 use Rattle.wing_node.proofs.value.zero_from.Given as goal
 
 abbrev pub invariant-loop-i : goal.invariant-loop-i

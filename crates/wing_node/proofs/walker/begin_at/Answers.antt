@@ -1,5 +1,4 @@
 -- Each arm is the line of `start_of` with that variant, of what the contract of `items_begin` gives.
-use borrow.Author.Rules.{rules}
 use Rattle.wing_node.proofs.walker.begin_at.Goals as goal
 
 pub returns-in-Good : goal.returns-in-Good

@@ -5,7 +5,6 @@ use Rattle.wing_node.specs.Cursor.{size}
 use Rattle.wing_node.specs.Standing.{extent}
 use Rattle.wing_node.specs.Definition.{form, added}
 use Rattle.wing_node.proofs.Arms.{by_arm}
-use borrow.Author.Rules.{rules}
 use Rattle.wing_node.proofs.writer.added_len.Goals as goal
 
 pub returns-in-LinearFloat : goal.returns-in-LinearFloat

@@ -11,7 +11,6 @@ use Rattle.wing_node.specs.Definition.{item_of}
 use Rattle.wing_node.specs.Writer.{texts_fault}
 use Rattle.wing_node.proofs.Arms.{by_arm}
 use Rattle.wing_node.proofs.Bodies.Checks.{string-within, two-strings, float-string}
-use borrow.Author.Rules.{rules}
 use Rattle.wing_node.proofs.writer.check_item.Goals as goal
 
 pub check_string-long_item-requires : goal.check_string-long_item-requires

@@ -4,7 +4,6 @@ use Prim.Native.Nat.{◌+◌, ◌-◌}
 use native.Mathlib.Omega.{arith}
 use lib.ListN.{drop, length-take}
 use Rattle.wing_node.proofs.Bodies.Checks.{string-none, string-there}
-use borrow.Author.Rules.{rules}
 use Rattle.wing_node.proofs.writer.check_string.Goals as goal
 
 pub returns-then-there-lt1 : goal.returns-then-there-lt1

@@ -1,9 +1,9 @@
 -- The invariant: the first i bytes of src stand at the front of out; a turn lays one more (`lay-more`).
 use mathlib.Core.Path.{◌≡◌, refl, ◌∙◌}
-use Prim.Native.Nat.{◌≤◌, ◌-◌, ◌+◌}
+use Prim.Native.Nat.{◌+◌}
 use native.Mathlib.Omega.{arith}
-use lib.ListN.{length, take, length-set}
-use lib.Seq.{sets, take_all}
+use lib.ListN.{length-set}
+use lib.Seq.{take_all}
 use Rattle.wing_node.proofs.Numerals.Placed.{lay-more}
 use Rattle.wing_node.proofs.writer.copy.Goals as goal
 

@@ -4,7 +4,6 @@ use mathlib.Core.Bool.{true, false}
 use borrow.Author.Tests.{lt-ltb, le-ltb}
 use Rattle.wing_node.specs.Types.{type_of, has_items}
 use Rattle.wing_node.proofs.Bodies.Checks.{with_items, with-count, with-bytes, without-items}
-use borrow.Author.Rules.{rules}
 use Rattle.wing_node.proofs.writer.fields_fault.Goals as goal
 
 pub returns-then-node_type-gt7 : goal.returns-then-node_type-gt7

@@ -1,6 +1,5 @@
 -- Each return is `flags_of` with read-only or without.
 use native.Mathlib.Omega.{arith}
-use borrow.Author.Rules.{rules}
 use Rattle.wing_node.proofs.writer.flags_of.Goals as goal
 
 pub returns-then-read_only : goal.returns-then-read_only

@@ -1,16 +1,13 @@
 -- The invariant: the place and the bytes that the items left take are those of all (`items-extent`), and so for their strings (`items-texts`).
-use mathlib.Core.Path.{◌≡◌, refl, ◌∙◌, ap, sym}
-use Prim.Native.Nat.{◌+◌, ◌-◌}
+use mathlib.Core.Path.{refl, ◌∙◌, ap, sym}
 use native.Mathlib.Omega.{arith}
 use lib.ListN.{length, drop}
 use borrow.Author.Tests.{eq-eqb, ne_eqb}
 use Rattle.wing_node.specs.Refusal.{first_fault}
 use Rattle.wing_node.specs.Standing.{extent}
 use Rattle.wing_node.specs.Definition.{items_of}
-use Rattle.wing_node.specs.Writer.{texts_fault}
 use Rattle.wing_node.proofs.Bodies.Checks.{items-extent, items-texts, no-extent, no-texts}
 use Rattle.wing_node.proofs.Bodies.Faults.{first-assoc, first-none}
-use borrow.Author.Rules.{rules}
 use Rattle.wing_node.proofs.writer.items_fault.Goals as goal
 
 pub loop-left-init : goal.loop-left-init

@@ -1,15 +1,10 @@
-use mathlib.Core.Path.{◌≡◌, refl, ◌∙◌, ap, sym}
-use Prim.Native.Nat.{◌+◌, ◌-◌}
-use native.Mathlib.Omega.{arith}
-use lib.ListN.{length, drop}
-use borrow.Author.Tests.{eq-eqb, ne_eqb}
+use mathlib.Core.Path.{◌≡◌}
+use Prim.Native.Nat.{◌+◌}
+use lib.ListN.{drop}
 use Rattle.wing_node.specs.Refusal.{first_fault}
 use Rattle.wing_node.specs.Standing.{extent}
 use Rattle.wing_node.specs.Definition.{items_of}
 use Rattle.wing_node.specs.Writer.{texts_fault}
-use Rattle.wing_node.proofs.Bodies.Checks.{items-extent, items-texts, no-extent, no-texts}
-use Rattle.wing_node.proofs.Bodies.Faults.{first-assoc, first-none}
-use borrow.Author.Rules.{rules}
 use Rattle.wing_node.proofs.writer.items_fault.Given as goal
 
 abbrev pub invariant-loop-left : goal.invariant-loop-left

@@ -5,7 +5,6 @@ use native.Mathlib.Omega.{arith}
 use lib.ListN.{length}
 use borrow.Rule.Slice.PartMut.{put_mid}
 use Rattle.wing_node.proofs.Bodies.Lays.{part-sets}
-use borrow.Author.Rules.{rules}
 use Rattle.wing_node.proofs.writer.lay.Goals as goal
 
 pub returns : goal.returns

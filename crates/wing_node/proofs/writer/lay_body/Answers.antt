@@ -10,7 +10,6 @@ use Rattle.wing_node.specs.Definition.{form, added}
 use Rattle.wing_node.specs.Written.{laid_by}
 use Rattle.wing_node.specs.Writer.{lent, type_given, holds, body_given}
 use Rattle.wing_node.proofs.Bodies.Given.{body-size, body-laid}
-use borrow.Author.Rules.{rules}
 use Rattle.wing_node.proofs.writer.lay_body.Goals as goal
 
 pub lay_header-at-requires : goal.lay_header-at-requires

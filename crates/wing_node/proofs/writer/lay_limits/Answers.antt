@@ -7,7 +7,6 @@ use Rattle.wing_node.specs.Field.{bytes_of}
 use Rattle.wing_node.proofs.Numerals.Numbers.{length-digits_in}
 use Rattle.wing_node.proofs.Numerals.Placed.{field-sets}
 use Rattle.wing_node.proofs.Bodies.Lays.{lays-then}
-use borrow.Author.Rules.{rules}
 use Rattle.wing_node.proofs.writer.lay_limits.Goals as goal
 
 pub returns : goal.returns

@@ -2,9 +2,8 @@
 use Prim.Native.Nat.{suc, ◌+◌}
 use mathlib.Core.Path.{◌≡◌}
 use native.Mathlib.Omega.{arith}
-use lib.ListN.{length, length-set}
+use lib.ListN.{length-set}
 use Rattle.wing_node.specs.Laid.{laid}
-use borrow.Author.Rules.{rules}
 use Rattle.wing_node.proofs.writer.lay_string.Goals as goal
 
 pub lay-requires : goal.lay-requires

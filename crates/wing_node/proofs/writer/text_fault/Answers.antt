@@ -1,7 +1,6 @@
 -- All of it is good exactly where it is UTF-8 (`good_len`'s contract); a good of at most 255 fits 16 bits.
 use mathlib.Core.Path.{sym, ◌∙◌}
 use native.Mathlib.Omega.{arith}
-use borrow.Author.Rules.{rules}
 use borrow.Author.Tests.{eq-eqb, ne_eqb}
 use lib.ListN.{length}
 use Rattle.wing_node.specs.Utf8.{good, utf8}

@@ -4,7 +4,6 @@ use native.Mathlib.Omega.{arith}
 use Rattle.wing_node.specs.Writer.{lent, body_effect}
 use Rattle.wing_node.specs.declared.writer.BodyWritten.TheVariants.{Bytes}
 use Rattle.wing_node.proofs.Bodies.Given.{body-size, names-short, added-small, effect-refused, effect-large, effect-short, effect-written}
-use borrow.Author.Rules.{rules}
 use Rattle.wing_node.proofs.writer.to_bytes.Goals as goal
 
 pub returns-in-Refused : goal.returns-in-Refused

@@ -1,6 +1,5 @@
 -- Each arm is the line of `is_narrow` with that variant, and those of a body the branches of its tests.
 use borrow.Author.Tests.{lt-ltb, le-ltb}
-use borrow.Author.Rules.{rules}
 use Rattle.wing_saved.specs.Earlier.{is_narrow}
 use Rattle.wing_saved.proofs.earlier.is_narrow.Goals as goal
 

@@ -1,5 +1,4 @@
 -- Both arms are the lines of `carried_result` with that answer.
-use borrow.Author.Rules.{rules}
 use Rattle.wing_wire.specs.Earlier.{carried_result}
 use Rattle.wing_saved.specs.Saved.{loaded_as}
 use Rattle.wing_saved.proofs.earlier.loaded.Goals as goal

@@ -1,6 +1,5 @@
 -- Each arm is the line of `narrowed` with that variant, and the contract of `low_16` gives a body's counts.
 use Rattle.wing_saved.specs.Earlier.{narrowed}
-use borrow.Author.Rules.{rules}
 use Rattle.wing_saved.proofs.earlier.narrow.Goals as goal
 
 pub returns-in-Between : goal.returns-in-Between

@@ -1,5 +1,4 @@
 -- Each arm is the line of `carried_token` with that variant.
-use borrow.Author.Rules.{rules}
 use Rattle.wing_wire.specs.Earlier.{carried_token}
 use Rattle.wing_wire.proofs.earlier.carried_token.Goals as goal
 

@@ -1,7 +1,6 @@
 -- Each return is the branch of `carry_of` with those tests: the carried state is sound exactly if the old one was (law `sound-carried`).
 use mathlib.Core.Bool.{true, false}
 use mathlib.Core.Path.{◌≡◌, sym, ◌∙◌}
-use borrow.Author.Rules.{rules}
 use Rattle.wing_wire.specs.State.{sound_state}
 use Rattle.wing_wire.specs.Earlier.{carried, carry_of, carried_as}
 use Rattle.wing_wire.proofs.Reading.CarriedOver.{sound-carried}

@@ -1,5 +1,4 @@
 -- Each arm is the line of `is_long_count` with that class.
-use borrow.Author.Rules.{rules}
 use Rattle.wing_wire.specs.Earlier.{is_long_count}
 use Rattle.wing_wire.proofs.earlier.is_long_count.Goals as goal
 

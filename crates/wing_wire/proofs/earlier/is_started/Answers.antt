@@ -1,6 +1,5 @@
 -- Each arm is the line of `is_started` with that variant, and the contract of `is_long_count` tells the class of a number.
 use mathlib.Core.Path.{sym, ◌∙◌}
-use borrow.Author.Rules.{rules}
 use Rattle.wing_wire.specs.Earlier.{is_started}
 use Rattle.wing_wire.proofs.earlier.is_started.Goals as goal
 

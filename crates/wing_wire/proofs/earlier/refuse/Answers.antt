@@ -1,5 +1,4 @@
 -- The contract of `State::fresh` gives the state beside the refusal.
-use borrow.Author.Rules.{rules}
 use Rattle.wing_wire.specs.Earlier.{carried_as}
 use Rattle.wing_wire.proofs.earlier.refuse.Goals as goal
 

@@ -1,5 +1,4 @@
 -- Both returns are the branches of `decode_of`, by the contracts of `decode_escaped` and `decode_plain`.
-use borrow.Author.Rules.{rules}
 use Rattle.wing_wire.specs.Escape.{decode_of}
 use Rattle.wing_wire.proofs.escape.decode_byte.Goals as goal
 

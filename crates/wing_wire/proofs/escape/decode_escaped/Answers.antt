@@ -6,7 +6,6 @@ use lib.IntN.{pos}
 use mir.Val.{to_z}
 use mir.Syntax.{w8}
 use borrow.Author.Tests.{le-ltb, lt-ltb, eq-eqb, ne_eqb}
-use borrow.Author.Rules.{rules}
 use Rattle.wing_wire.specs.Escape.{escaped_of}
 use Rattle.wing_wire.proofs.escape.decode_escaped.Goals as goal
 

@@ -6,7 +6,6 @@ use native.Mathlib.Omega.{arith}
 use lib.ListN.{length, take, length-take}
 use Rattle.wing_wire.proofs.Writing.Lays.{whole, short}
 use Rattle.wing_wire.proofs.Reading.Overs.{over-whole}
-use borrow.Author.Rules.{rules}
 use Rattle.wing_wire.proofs.laying.hand_over.Goals as goal
 
 pub returns-then-room-n : goal.returns-then-room-n

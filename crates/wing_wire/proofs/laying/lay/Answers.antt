@@ -1,11 +1,7 @@
 -- Inside the buffer the byte is stored (law `stored`), past its end the buffer stays as it is (law `past`), and the place goes on by one in both
 -- cases.
-use lib.ListN.{length, length-set}
-use mathlib.Core.Path.{ap, ◌∙◌}
-use mathlib.Core.Logic.{⊎_elim}
 use native.Mathlib.Omega.{arith}
 use Rattle.wing_wire.proofs.Writing.Lays.{stored, past}
-use borrow.Author.Rules.{rules}
 use Rattle.wing_wire.proofs.laying.lay.Goals as goal
 use Rattle.wing_wire.proofs.laying.lay.Goals.{then-at-out, else-at-out}
 

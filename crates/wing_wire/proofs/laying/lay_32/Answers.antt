@@ -1,6 +1,5 @@
 -- The contract of `lay_escaped` on the four bytes that the contract of `bytes_32` gives.
 use Rattle.wing_node.proofs.Numerals.Numbers.{length-digits_in}
-use borrow.Author.Rules.{rules}
 use Rattle.wing_wire.proofs.laying.lay_32.Goals as goal
 
 pub returns : goal.returns

@@ -2,12 +2,11 @@
 -- `then` joins it on.
 use lib.Seq.{take_all}
 use borrow.Author.Rules.{rules}
-use Prim.Native.Nat.{◌+◌, ◌-◌, ◌*◌, ◌≤◌, ◌<◌}
+use Prim.Native.Nat.{◌<◌}
 use mathlib.Core.Path.{◌≡◌}
-use mathlib.Core.Logic.{⊎_elim}
 use native.Mathlib.Omega.{arith}
 use lib.ListN.{length, take}
-use Rattle.wing_wire.specs.Write.{escaped, Laid}
+use Rattle.wing_wire.specs.Write.{escaped}
 use Rattle.wing_wire.proofs.Writing.Lays.{then, nothing, escaped-df, escaped-other}
 use Rattle.wing_wire.proofs.laying.lay_escaped.Goals as goal
 use Rattle.wing_wire.proofs.laying.lay_escaped.Goals.{then-bytes-i, else-bytes-i}

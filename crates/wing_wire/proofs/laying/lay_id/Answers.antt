@@ -2,7 +2,6 @@
 use mir.Facts.{to_z-of_z}
 use native.Mathlib.Omega.{arith}
 use Rattle.wing_wire.proofs.Writing.Lays.{then}
-use borrow.Author.Rules.{rules}
 use Rattle.wing_wire.proofs.laying.lay_id.Goals as goal
 
 pub returns : goal.returns

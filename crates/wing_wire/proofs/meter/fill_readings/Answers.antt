@@ -1,11 +1,9 @@
 -- The invariant: the first i readings of the packet stand at the front of out, and the rest of out is as it was; a turn puts one more
 -- (`one-reading`).
 use borrow.Author.Rules.{rules}
-use Prim.Native.Nat.{◌+◌, ◌-◌, ◌≤◌}
 use mathlib.Core.Path.{◌≡◌, ◌∙◌}
-use mathlib.Core.List.{◌++◌}
 use native.Mathlib.Omega.{arith}
-use lib.ListN.{length, take, drop, length-drop}
+use lib.ListN.{drop, length-drop}
 use mir.Syntax.{w16}
 use mir.Val.{to_z, of_z}
 use Rattle.wing_wire.specs.Meter.{readings}

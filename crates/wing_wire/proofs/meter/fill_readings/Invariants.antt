@@ -1,13 +1,8 @@
-use borrow.Author.Rules.{rules}
-use Prim.Native.Nat.{◌+◌, ◌-◌, ◌≤◌}
-use mathlib.Core.Path.{◌≡◌, ◌∙◌}
+use Prim.Native.Nat.{◌-◌, ◌≤◌}
+use mathlib.Core.Path.{◌≡◌}
 use mathlib.Core.List.{◌++◌}
-use native.Mathlib.Omega.{arith}
-use lib.ListN.{length, take, drop, length-drop}
-use mir.Syntax.{w16}
-use mir.Val.{to_z, of_z}
+use lib.ListN.{length, take, drop}
 use Rattle.wing_wire.specs.Meter.{readings}
-use Rattle.wing_wire.proofs.Writing.Packets.{readings-length, reading-at, one-reading}
 use Rattle.wing_wire.proofs.meter.fill_readings.Given as goal
 
 abbrev pub invariant-loop-i : goal.invariant-loop-i

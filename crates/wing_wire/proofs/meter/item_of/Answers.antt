@@ -1,7 +1,6 @@
 -- Each arm is the line of `item_of` with that variant.
 use mathlib.Core.Path.{sym, ap}
 use Rattle.wing_wire.specs.Meter.{item_of}
-use borrow.Author.Rules.{rules}
 use Rattle.wing_wire.proofs.meter.item_of.Goals as goal
 
 pub returns-in-Channel : goal.returns-in-Channel

@@ -6,8 +6,6 @@ use Rattle.wing_wire.proofs.Writing.Sizes.{keep-alives-le}
 use Prim.Native.Nat.{◌<◌}
 use lib.ListN.{length}
 use Rattle.wing_wire.specs.Meter.{keep_alives}
-use mathlib.Core.Logic.{⊎_elim}
-use borrow.Author.Rules.{rules}
 use Rattle.wing_wire.proofs.meter.keep_alive_meters.Goals as goal
 use Rattle.wing_wire.proofs.meter.keep_alive_meters.Goals.{then-out-last_id+else-out-keep_alives_len, else-out-last_id}
 

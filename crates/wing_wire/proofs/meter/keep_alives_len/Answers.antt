@@ -1,7 +1,7 @@
 -- The invariant: the total and the length of the keep-alives left are the length of all; a turn lays one into the scratch byte to count it
 -- (`one-alive`).
 use borrow.Author.Rules.{rules}
-use Prim.Native.Nat.{◌+◌, ◌-◌, ◌*◌, ◌≤◌}
+use Prim.Native.Nat.{◌-◌}
 use mathlib.Core.Path.{◌≡◌, ap, ◌∙◌}
 use native.Mathlib.Omega.{arith}
 use lib.ListN.{length, length-append}

@@ -1,10 +1,7 @@
-use borrow.Author.Rules.{rules}
 use Prim.Native.Nat.{◌+◌, ◌-◌, ◌*◌, ◌≤◌}
-use mathlib.Core.Path.{◌≡◌, ap, ◌∙◌}
-use native.Mathlib.Omega.{arith}
-use lib.ListN.{length, length-append}
-use Rattle.wing_wire.specs.Meter.{keep_alive, keep_alives}
-use Rattle.wing_wire.proofs.Writing.Requests.{one-alive}
+use mathlib.Core.Path.{◌≡◌}
+use lib.ListN.{length}
+use Rattle.wing_wire.specs.Meter.{keep_alives}
 use Rattle.wing_wire.proofs.meter.keep_alives_len.Given as goal
 
 abbrev pub invariant-loop-id : goal.invariant-loop-id

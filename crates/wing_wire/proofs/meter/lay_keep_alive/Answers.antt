@@ -2,7 +2,6 @@
 use native.Mathlib.Omega.{arith}
 use Rattle.wing_wire.specs.Meter.{keep_alive}
 use Rattle.wing_wire.proofs.Writing.Lays.{then}
-use borrow.Author.Rules.{rules}
 use Rattle.wing_wire.proofs.meter.lay_keep_alive.Goals as goal
 
 pub returns : goal.returns

@@ -1,7 +1,6 @@
 -- The invariant: laying the keep-alives left from the place reached on gives what laying all from the front on gives; a turn lays one into the part
 -- of out from there on (`in-part`, `goes_on`).
-use borrow.Author.Rules.{rules}
-use Prim.Native.Nat.{◌+◌, ◌-◌}
+use Prim.Native.Nat.{◌-◌}
 use mathlib.Core.Path.{◌≡◌, sym, ap, ◌∙◌}
 use native.Mathlib.Omega.{arith}
 use lib.ListN.{length, length-append}

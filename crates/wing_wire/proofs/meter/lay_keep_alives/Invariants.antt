@@ -1,12 +1,8 @@
-use borrow.Author.Rules.{rules}
-use Prim.Native.Nat.{◌+◌, ◌-◌}
-use mathlib.Core.Path.{◌≡◌, sym, ap, ◌∙◌}
-use native.Mathlib.Omega.{arith}
-use lib.ListN.{length, length-append}
-use lib.Seq.{sets, length-sets}
-use Rattle.wing_wire.specs.Meter.{keep_alive, keep_alives}
-use Rattle.wing_wire.proofs.Writing.Lays.{goes_on, in-part}
-use Rattle.wing_wire.proofs.Writing.Requests.{one-alive}
+use Prim.Native.Nat.{◌+◌}
+use mathlib.Core.Path.{◌≡◌}
+use lib.ListN.{length}
+use lib.Seq.{sets}
+use Rattle.wing_wire.specs.Meter.{keep_alives}
 use Rattle.wing_wire.proofs.meter.lay_keep_alives.Given as goal
 
 abbrev pub invariant-loop-id : goal.invariant-loop-id

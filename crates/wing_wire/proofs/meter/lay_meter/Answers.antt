@@ -3,7 +3,6 @@ use mathlib.Core.Path.{sym, ◌∙◌}
 use native.Mathlib.Omega.{arith}
 use Rattle.wing_wire.specs.Meter.{item_bytes}
 use Rattle.wing_wire.proofs.Writing.Lays.{then}
-use borrow.Author.Rules.{rules}
 use Rattle.wing_wire.proofs.meter.lay_meter.Goals as goal
 
 pub returns-in-Alone : goal.returns-in-Alone

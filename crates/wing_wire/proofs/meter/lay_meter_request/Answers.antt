@@ -1,7 +1,6 @@
 -- `meter_request` opened is the head, the items and three bytes, whose lays one after the other the law `then` joins.
 use Rattle.wing_wire.specs.Meter.{meter_request}
 use Rattle.wing_wire.proofs.Writing.Lays.{then}
-use borrow.Author.Rules.{rules}
 use Rattle.wing_wire.proofs.meter.lay_meter_request.Goals as goal
 
 pub returns : goal.returns

@@ -1,10 +1,8 @@
 -- The invariant: the first i meters are laid, in at most three bytes each; a turn lays one more (`meters-more`), and the law `then` joins it on.
 use borrow.Author.Rules.{rules}
-use Prim.Native.Nat.{◌+◌, ◌-◌, ◌*◌, ◌≤◌}
 use mathlib.Core.Path.{◌≡◌}
 use native.Mathlib.Omega.{arith}
-use lib.ListN.{length, take}
-use Rattle.wing_wire.specs.Write.{Laid}
+use lib.ListN.{length}
 use Rattle.wing_wire.specs.Meter.{meters_bytes}
 use Rattle.wing_wire.proofs.Writing.Lays.{then, nothing}
 use Rattle.wing_wire.proofs.Writing.Requests.{meters-more}

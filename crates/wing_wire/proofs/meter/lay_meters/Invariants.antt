@@ -1,12 +1,8 @@
-use borrow.Author.Rules.{rules}
 use Prim.Native.Nat.{◌+◌, ◌-◌, ◌*◌, ◌≤◌}
 use mathlib.Core.Path.{◌≡◌}
-use native.Mathlib.Omega.{arith}
 use lib.ListN.{length, take}
 use Rattle.wing_wire.specs.Write.{Laid}
 use Rattle.wing_wire.specs.Meter.{meters_bytes}
-use Rattle.wing_wire.proofs.Writing.Lays.{then, nothing}
-use Rattle.wing_wire.proofs.Writing.Requests.{meters-more}
 use Rattle.wing_wire.proofs.meter.lay_meters.Given as goal
 
 abbrev pub invariant-loop-i : goal.invariant-loop-i

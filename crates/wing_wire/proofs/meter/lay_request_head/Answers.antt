@@ -2,7 +2,6 @@
 use native.Mathlib.Omega.{arith}
 use Rattle.wing_wire.specs.Meter.{request_head}
 use Rattle.wing_wire.proofs.Writing.Lays.{then}
-use borrow.Author.Rules.{rules}
 use Rattle.wing_wire.proofs.meter.lay_request_head.Goals as goal
 
 pub returns : goal.returns

@@ -2,7 +2,6 @@
 use Prim.Native.Nat.{◌+◌}
 use native.Mathlib.Omega.{arith}
 use Rattle.wing_node.specs.Digits.{number_in, number_from}
-use borrow.Author.Rules.{rules}
 use Rattle.wing_wire.proofs.meter.pair_at.Goals as goal
 
 pub overflow_mul-result : goal.overflow_mul-result

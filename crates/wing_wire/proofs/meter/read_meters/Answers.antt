@@ -2,7 +2,6 @@
 -- the readings and the id.
 use native.Mathlib.Omega.{arith}
 use Rattle.wing_wire.proofs.Writing.Packets.{too_short, too_long, no_room, packet-whole}
-use borrow.Author.Rules.{rules}
 use Rattle.wing_wire.proofs.meter.read_meters.Goals as goal
 
 pub returns-then-packet-lt4 : goal.returns-then-packet-lt4

@@ -9,7 +9,6 @@ use Rattle.wing_wire.specs.Meter.{request_effect}
 use Rattle.wing_wire.specs.declared.meter.Requested.TheVariants.{Refused}
 use Rattle.wing_wire.proofs.Writing.Requests.{too_many, spent, request-whole, request-handed}
 use Rattle.wing_wire.proofs.Writing.Sizes.{meter-request-le}
-use borrow.Author.Rules.{rules}
 use Rattle.wing_wire.proofs.meter.request_meter.Goals as goal
 
 pub returns-then-count-gt64 : goal.returns-then-count-gt64

@@ -1,6 +1,5 @@
 -- Each arm is the line of `body_beside` with that variant, and the contract of `body_front` gives the body's bytes.
 use Rattle.wing_wire.specs.Reader.{body_beside}
-use borrow.Author.Rules.{rules}
 use Rattle.wing_wire.proofs.reader.body_beside.Goals as goal
 
 pub returns-in-More : goal.returns-in-More

@@ -2,10 +2,9 @@
 -- would change (`over-least`).
 use mathlib.Core.Path.{◌≡◌, refl, ◌∙◌, ap}
 use mathlib.Core.List.{List}
-use Prim.Native.Nat.{ℕ, ◌≤◌, ◌<◌, ◌-◌, min}
+use Prim.Native.Nat.{ℕ, ◌<◌, min}
 use native.Mathlib.Omega.{arith}
 use lib.ListN.{length, take, get_or, set}
-use borrow.Author.Rules.{rules}
 use Rattle.wing_wire.specs.Reader.{over}
 use Rattle.wing_wire.proofs.Reading.Overs.{over-turn, length_over, over-least}
 use Rattle.wing_wire.proofs.reader.copy_front.Goals as goal

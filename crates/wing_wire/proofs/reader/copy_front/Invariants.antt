@@ -1,11 +1,7 @@
-use mathlib.Core.Path.{◌≡◌, refl, ◌∙◌, ap}
-use mathlib.Core.List.{List}
-use Prim.Native.Nat.{ℕ, ◌≤◌, ◌<◌, ◌-◌, min}
-use native.Mathlib.Omega.{arith}
-use lib.ListN.{length, take, get_or, set}
-use borrow.Author.Rules.{rules}
+use mathlib.Core.Path.{◌≡◌}
+use Prim.Native.Nat.{◌≤◌, ◌-◌, min}
+use lib.ListN.{length, take}
 use Rattle.wing_wire.specs.Reader.{over}
-use Rattle.wing_wire.proofs.Reading.Overs.{over-turn, length_over, over-least}
 use Rattle.wing_wire.proofs.reader.copy_front.Given as goal
 
 abbrev pub invariant-loop-i : goal.invariant-loop-i

@@ -1,7 +1,6 @@
 -- The contract of `advance` gives the run, and those of `string_beside`, `body_beside` and `release` what `next_from` makes of it.
 use mathlib.Core.Path.{ap}
 use Rattle.wing_wire.specs.Reader.{next_from}
-use borrow.Author.Rules.{rules}
 use Rattle.wing_wire.proofs.reader.read_on.Goals as goal
 
 pub returns : goal.returns

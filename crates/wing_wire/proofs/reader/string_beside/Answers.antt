@@ -1,6 +1,5 @@
 -- Each arm is the line of `string_beside` with that variant, and the contract of `string_front` gives the string's bytes.
 use Rattle.wing_wire.specs.Reader.{string_beside}
-use borrow.Author.Rules.{rules}
 use Rattle.wing_wire.proofs.reader.string_beside.Goals as goal
 
 pub returns-in-More : goal.returns-in-More

@@ -7,7 +7,6 @@ use Rattle.wing_wire.proofs.Writing.Choices.{request-zero, request-other}
 use mir.Facts.{to_z-of_z}
 use Rattle.wing_wire.proofs.Writing.Lays.{then}
 use Rattle.wing_wire.specs.Command.{id_bytes}
-use borrow.Author.Rules.{rules}
 use Rattle.wing_wire.proofs.request.lay_request.Goals as goal
 
 pub returns-then-id-eq0 : goal.returns-then-id-eq0

@@ -1,6 +1,5 @@
 -- The contract of `write-request` with the byte dc.
 use mir.Facts.{to_z-of_z}
-use borrow.Author.Rules.{rules}
 use Rattle.wing_wire.proofs.request.request_node_data.Goals as goal
 
 pub returns : goal.returns

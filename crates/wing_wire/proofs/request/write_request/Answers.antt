@@ -5,7 +5,6 @@ use mathlib.Core.Path.{◌∙◌}
 use native.Mathlib.Omega.{arith}
 use Rattle.wing_wire.proofs.Writing.Lays.{written, handed-over}
 use Rattle.wing_wire.proofs.Writing.Sizes.{request-le}
-use borrow.Author.Rules.{rules}
 use Rattle.wing_wire.proofs.request.write_request.Goals as goal
 
 pub returns-then-out-ge10 : goal.returns-then-out-ge10

@@ -2,7 +2,6 @@
 use mir.Facts.{to_z-of_z}
 use Rattle.wing_wire.proofs.Writing.Lays.{then, nothing}
 use Rattle.wing_wire.specs.Command.{id_bytes, suffix_bytes}
-use borrow.Author.Rules.{rules}
 use Rattle.wing_wire.proofs.set.lay_format.Goals as goal
 
 pub returns-in-None : goal.returns-in-None

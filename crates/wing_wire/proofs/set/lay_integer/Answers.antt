@@ -4,7 +4,6 @@ use Rattle.wing_wire.proofs.Writing.Lays.{then}
 use mir.Facts.{to_z-of_z}
 use mathlib.Core.Path.{sym, ◌∙◌}
 use Rattle.wing_wire.proofs.Writing.Choices.{small, half, one_byte, two_bytes, four_bytes}
-use borrow.Author.Rules.{rules}
 use Rattle.wing_wire.proofs.set.lay_integer.Goals as goal
 
 pub overflow_cast-value : goal.overflow_cast-value

@@ -3,7 +3,6 @@ use Rattle.wing_wire.proofs.Writing.Lays.{then}
 use borrow.Author.Tests.{eq-eqb, ne_eqb, le-leb, lt-leb}
 use native.Mathlib.Omega.{arith}
 use Rattle.wing_wire.specs.Command.{length_bytes}
-use borrow.Author.Rules.{rules}
 use Rattle.wing_wire.proofs.set.lay_length.Goals as goal
 
 pub returns-then-len-eq0 : goal.returns-then-len-eq0

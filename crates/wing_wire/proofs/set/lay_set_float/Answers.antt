@@ -2,7 +2,6 @@
 use mir.Facts.{to_z-of_z}
 use Rattle.wing_wire.proofs.Writing.Lays.{then}
 use Rattle.wing_wire.specs.Command.{id_bytes, set_bytes, value_bytes, float_bytes}
-use borrow.Author.Rules.{rules}
 use Rattle.wing_wire.proofs.set.lay_set_float.Goals as goal
 
 pub returns : goal.returns

@@ -11,7 +11,6 @@ use Rattle.wing_node.proofs.Characters.Grammar.{decides}
 use Rattle.wing_wire.proofs.Writing.Choices.{string-long, string-bad, string-good}
 use Rattle.wing_wire.proofs.Writing.Lays.{written, handed-over}
 use Rattle.wing_wire.proofs.Writing.Sizes.{set-string-le}
-use borrow.Author.Rules.{rules}
 use Rattle.wing_wire.proofs.set.set_string.Goals as goal
 
 pub returns-then-value-gt256 : goal.returns-then-value-gt256

@@ -1,5 +1,4 @@
 -- Both returns are the branches of `sound_state`, by the contracts of `sound_escape` and `sound_token`.
-use borrow.Author.Rules.{rules}
 use Rattle.wing_wire.specs.State.{sound_state}
 use Rattle.wing_wire.proofs.state.is_sound_lent.Goals as goal
 

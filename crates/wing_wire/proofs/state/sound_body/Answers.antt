@@ -2,7 +2,6 @@
 use mathlib.Core.Path.{sym, ◌∙◌}
 use native.Mathlib.Omega.{arith}
 use borrow.Author.Tests.{le-leb, lt-leb}
-use borrow.Author.Rules.{rules}
 use Rattle.wing_wire.specs.State.{sound_body}
 use Rattle.wing_wire.proofs.Reading.Underway.{underway-le}
 use Rattle.wing_wire.proofs.state.sound_body.Goals as goal

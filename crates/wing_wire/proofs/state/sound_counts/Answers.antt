@@ -1,5 +1,4 @@
 -- Each arm is the line of `sound_counts` with that variant, by the contract of the function that it calls.
-use borrow.Author.Rules.{rules}
 use Rattle.wing_wire.specs.State.{sound_counts}
 use Rattle.wing_wire.proofs.state.sound_counts.Goals as goal
 

@@ -1,7 +1,6 @@
 -- Both returns are the branches of `sound_number`, by the contracts of `width_of`, `is_underway` and `is_within`.
 use mathlib.Core.Path.{sym, ◌∙◌}
 use native.Mathlib.Omega.{arith}
-use borrow.Author.Rules.{rules}
 use Rattle.wing_wire.specs.State.{sound_number}
 use Rattle.wing_wire.proofs.Reading.Underway.{underway-le}
 use Rattle.wing_wire.proofs.state.sound_number.Goals as goal

@@ -1,6 +1,5 @@
 -- Both returns are the branches of `sound_string`, by the contract of `is_underway`.
 use mathlib.Core.Path.{sym, ◌∙◌}
-use borrow.Author.Rules.{rules}
 use Rattle.wing_wire.specs.State.{sound_string}
 use Rattle.wing_wire.proofs.state.sound_string.Goals as goal
 

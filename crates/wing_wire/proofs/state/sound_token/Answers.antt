@@ -1,5 +1,4 @@
 -- Both returns are the branches of `sound_token`, by the contracts of `sound_counts`, `stored_by` and `zeros_from`.
-use borrow.Author.Rules.{rules}
 use Rattle.wing_wire.specs.State.{sound_token}
 use Rattle.wing_wire.proofs.state.sound_token.Goals as goal
 

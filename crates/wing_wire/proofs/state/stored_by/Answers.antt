@@ -1,5 +1,4 @@
 -- Each arm is the line of `stored_by` with that variant, and the contract of `collected` gives a string's count.
-use borrow.Author.Rules.{rules}
 use Rattle.wing_wire.specs.State.{stored_by}
 use Rattle.wing_wire.proofs.state.stored_by.Goals as goal
 

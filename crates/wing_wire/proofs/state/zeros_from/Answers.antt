@@ -1,12 +1,6 @@
 -- The invariant: the bytes from the start on are all 0 exactly if those joined so far are and those from i on are; a turn joins one more
 -- (`one_more`).
-use Prim.Native.Nat.{◌-◌}
-use mathlib.Core.Path.{◌≡◌, refl, sym, ◌∙◌}
-use lib.Dec.{eqb}
-use lib.ListN.{length, drop}
-use borrow.Author.Rules.{rules}
-use Rattle.wing_node.specs.Bool.{and}
-use Rattle.wing_wire.specs.State.{zeros}
+use mathlib.Core.Path.{sym, ◌∙◌}
 use Rattle.wing_wire.proofs.Reading.Zeros.{one_more, no_more}
 use Rattle.wing_wire.proofs.state.zeros_from.Goals as goal
 

@@ -1,11 +1,9 @@
 use Prim.Native.Nat.{◌-◌}
-use mathlib.Core.Path.{◌≡◌, refl, sym, ◌∙◌}
+use mathlib.Core.Path.{◌≡◌}
 use lib.Dec.{eqb}
 use lib.ListN.{length, drop}
-use borrow.Author.Rules.{rules}
 use Rattle.wing_node.specs.Bool.{and}
 use Rattle.wing_wire.specs.State.{zeros}
-use Rattle.wing_wire.proofs.Reading.Zeros.{one_more, no_more}
 use Rattle.wing_wire.proofs.state.zeros_from.Given as goal
 
 abbrev pub invariant-loop-i : goal.invariant-loop-i

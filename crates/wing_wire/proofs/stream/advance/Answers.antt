@@ -1,12 +1,8 @@
 -- The invariant: the run from here over the bytes left is the whole run; a turn takes one unit and the inner units after it (`once-whole`), and at
 -- the end nothing is left to run (`whole-ends`).
 use borrow.Author.Rules.{rules}
-use mathlib.Core.Path.{◌≡◌, refl, sym, ◌∙◌, ap}
-use Prim.Native.Nat.{◌+◌, ◌-◌, ◌*◌}
-use lib.ListN.{length}
-use Rattle.wing_wire.specs.Stream.{step_effect, follow_of, advance_of}
-use Rattle.wing_wire.specs.Units.{pending_count}
-use Rattle.wing_wire.specs.Plain.{stepped_effect}
+use mathlib.Core.Path.{refl, sym, ◌∙◌, ap}
+use Rattle.wing_wire.specs.Stream.{follow_of, advance_of}
 use Rattle.wing_wire.proofs.Reading.Plains.{whole, once-whole, once-less, whole-ends}
 use Rattle.wing_wire.proofs.stream.advance.Goals as goal
 

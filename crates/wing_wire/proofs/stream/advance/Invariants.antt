@@ -1,11 +1,10 @@
-use borrow.Author.Rules.{rules}
-use mathlib.Core.Path.{◌≡◌, refl, sym, ◌∙◌, ap}
+use mathlib.Core.Path.{◌≡◌}
 use Prim.Native.Nat.{◌+◌, ◌-◌, ◌*◌}
 use lib.ListN.{length}
-use Rattle.wing_wire.specs.Stream.{step_effect, follow_of, advance_of}
+use Rattle.wing_wire.specs.Stream.{step_effect}
 use Rattle.wing_wire.specs.Units.{pending_count}
 use Rattle.wing_wire.specs.Plain.{stepped_effect}
-use Rattle.wing_wire.proofs.Reading.Plains.{whole, once-whole, once-less, whole-ends}
+use Rattle.wing_wire.proofs.Reading.Plains.{whole}
 use Rattle.wing_wire.proofs.stream.advance.Given as goal
 
 abbrev pub invariant-loop-d : goal.invariant-loop-d

@@ -1,5 +1,4 @@
 -- Both returns are the branches of `is_free`, by the contracts of `is_more` and `is_plain`.
-use borrow.Author.Rules.{rules}
 use Rattle.wing_wire.proofs.stream.is_free.Goals as goal
 
 pub returns-then-is_more : goal.returns-then-is_more

@@ -1,6 +1,5 @@
 -- Each return is the branch of `is_on` with that test, by the contracts of `is_more` and `is_pending`.
 use borrow.Author.Tests.{lt-ltb, le-ltb}
-use borrow.Author.Rules.{rules}
 use Rattle.wing_wire.proofs.stream.is_on.Goals as goal
 
 pub returns-then-at-end : goal.returns-then-at-end

@@ -1,5 +1,4 @@
 -- Both returns are the branches of `is_plain`, by the contract of `is_pending`.
-use borrow.Author.Rules.{rules}
 use Rattle.wing_wire.proofs.stream.is_plain.Goals as goal
 
 pub returns : goal.returns

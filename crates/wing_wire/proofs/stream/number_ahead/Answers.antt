@@ -1,11 +1,7 @@
 -- The invariant: the inner units from i on give what those from the start on give; a turn takes one (`number-turn`), and the loop ends at the first
 -- byte that is none or after the last (`number-stops`, `number-ends`).
-use borrow.Author.Rules.{rules}
-use mathlib.Core.Path.{◌≡◌, refl, sym, ◌∙◌}
-use Prim.Native.Nat.{◌-◌}
+use mathlib.Core.Path.{sym, ◌∙◌}
 use native.Mathlib.Omega.{arith}
-use lib.ListN.{length, drop}
-use Rattle.wing_wire.specs.Plain.{number_ahead}
 use Rattle.wing_wire.proofs.Reading.Inners.{inner-more, number-turn, number-stops, number-ends}
 use Rattle.wing_wire.proofs.stream.number_ahead.Goals as goal
 

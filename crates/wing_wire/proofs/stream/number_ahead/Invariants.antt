@@ -1,10 +1,7 @@
-use borrow.Author.Rules.{rules}
-use mathlib.Core.Path.{◌≡◌, refl, sym, ◌∙◌}
+use mathlib.Core.Path.{◌≡◌}
 use Prim.Native.Nat.{◌-◌}
-use native.Mathlib.Omega.{arith}
 use lib.ListN.{length, drop}
 use Rattle.wing_wire.specs.Plain.{number_ahead}
-use Rattle.wing_wire.proofs.Reading.Inners.{inner-more, number-turn, number-stops, number-ends}
 use Rattle.wing_wire.proofs.stream.number_ahead.Given as goal
 
 abbrev pub invariant-loop-i : goal.invariant-loop-i

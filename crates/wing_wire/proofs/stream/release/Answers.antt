@@ -1,5 +1,4 @@
 -- Each arm is the line of `released` with that variant, and the contract of `clear` gives the store after a string or a body.
-use borrow.Author.Rules.{rules}
 use Rattle.wing_wire.proofs.stream.release.Goals as goal
 
 pub returns-in-String : goal.returns-in-String

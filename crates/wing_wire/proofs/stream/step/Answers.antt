@@ -1,7 +1,6 @@
 -- Both returns are the branches of `on_ahead` in `once_of`: `decode_next` gives the unit, `take` what it makes of the control, `is_free` the test, and
 -- `ahead` the inner units after it.
 use Rattle.wing_wire.specs.Plain.{on_ahead, once_of}
-use borrow.Author.Rules.{rules}
 use Rattle.wing_wire.proofs.stream.step.Goals as goal
 
 pub returns-then-is_free : goal.returns-then-is_free

@@ -1,11 +1,8 @@
 -- The invariant: the inner units from i on give what those from the start on give; a turn stores one (`string-turn`), and the loop ends at the first
 -- byte that is none or after the last (`string-stops`, `string-ends`).
 use borrow.Author.Rules.{rules}
-use mathlib.Core.Path.{◌≡◌, refl, sym, ◌∙◌}
-use Prim.Native.Nat.{◌-◌}
+use mathlib.Core.Path.{refl, sym, ◌∙◌}
 use native.Mathlib.Omega.{arith}
-use lib.ListN.{length, drop}
-use Rattle.wing_wire.specs.Plain.{string_ahead}
 use Rattle.wing_wire.proofs.Reading.Inners.{inner-more, string-turn, string-stops, string-ends}
 use Rattle.wing_wire.proofs.stream.string_ahead.Goals as goal
 

@@ -1,6 +1,5 @@
 -- Each arm is the line of `token_ahead` with that variant, by the contracts of `number_ahead` and `string_ahead`.
 use Rattle.wing_wire.specs.Plain.{token_ahead}
-use borrow.Author.Rules.{rules}
 use Rattle.wing_wire.proofs.stream.token_ahead.Goals as goal
 
 pub returns-in-Between : goal.returns-in-Between

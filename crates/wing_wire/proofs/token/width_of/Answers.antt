@@ -1,5 +1,4 @@
 -- Each arm is the line of `width_of` with that class.
-use borrow.Author.Rules.{rules}
 use Rattle.wing_wire.specs.Token.{width_of}
 use Rattle.wing_wire.proofs.token.width_of.Goals as goal
 

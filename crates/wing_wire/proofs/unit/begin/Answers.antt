@@ -1,7 +1,6 @@
 -- Both returns are the branches of `begin_of` with that test of the units wanted, by the contracts of `first_rule`, `single` and `token_of`.
 use mir.Facts.{to_z-of_z}
 use borrow.Author.Tests.{eq-eqb, ne_eqb}
-use borrow.Author.Rules.{rules}
 use Rattle.wing_wire.specs.Unit.{begin_of}
 use Rattle.wing_wire.proofs.unit.begin.Goals as goal
 

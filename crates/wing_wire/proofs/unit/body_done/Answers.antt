@@ -1,7 +1,6 @@
 -- Both returns are the branches of `body_done` with that test of the count.
 use mir.Facts.{to_z-of_z}
 use borrow.Author.Tests.{le-leb, lt-leb}
-use borrow.Author.Rules.{rules}
 use Rattle.wing_wire.specs.Unit.{body_done}
 use Rattle.wing_wire.proofs.unit.body_done.Goals as goal
 

@@ -1,7 +1,6 @@
 -- Both returns are the branches of `body_next` with that test of what is left, and the contract of `body_done` gives the last unit's answer.
 use mir.Facts.{to_z-of_z}
 use borrow.Author.Tests.{le-leb, lt-leb}
-use borrow.Author.Rules.{rules}
 use Rattle.wing_wire.specs.Unit.{body_next}
 use Rattle.wing_wire.proofs.unit.body_next.Goals as goal
 

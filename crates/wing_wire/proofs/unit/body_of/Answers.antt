@@ -1,6 +1,5 @@
 -- The return is `counted`, by the contract of `taken_of`.
 use mir.Facts.{to_z-of_z}
-use borrow.Author.Rules.{rules}
 use Rattle.wing_wire.proofs.unit.body_of.Goals as goal
 
 pub returns : goal.returns

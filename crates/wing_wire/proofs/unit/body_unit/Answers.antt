@@ -2,7 +2,6 @@
 use mathlib.Core.Path.{sym, ◌∙◌}
 use native.Mathlib.Omega.{arith}
 use mir.Facts.{to_z-of_z}
-use borrow.Author.Rules.{rules}
 use Rattle.wing_wire.specs.Unit.{body_unit}
 use Rattle.wing_wire.proofs.Reading.Clears.{room}
 use Rattle.wing_wire.proofs.unit.body_unit.Goals as goal

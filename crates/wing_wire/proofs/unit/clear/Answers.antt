@@ -1,9 +1,8 @@
 -- The invariant: the store is the one at entry with its first i bytes 0; a turn clears one more (`cleared-turn`), and past the store's end nothing
 -- is left to clear (`cleared-all`).
 use mathlib.Core.Path.{◌≡◌, refl, ◌∙◌, ap}
-use mathlib.Core.Logic.{⊎_elim}
 use mathlib.Core.List.{List}
-use Prim.Native.Nat.{ℕ, ◌-◌, ◌≤◌}
+use Prim.Native.Nat.{ℕ, ◌≤◌}
 use native.Mathlib.Omega.{arith}
 use lib.ListN.{length, set}
 use borrow.Author.Rules.{rules}

@@ -1,12 +1,7 @@
-use mathlib.Core.Path.{◌≡◌, refl, ◌∙◌, ap}
-use mathlib.Core.Logic.{⊎_elim}
-use mathlib.Core.List.{List}
-use Prim.Native.Nat.{ℕ, ◌-◌, ◌≤◌}
-use native.Mathlib.Omega.{arith}
-use lib.ListN.{length, set}
-use borrow.Author.Rules.{rules}
+use mathlib.Core.Path.{◌≡◌}
+use Prim.Native.Nat.{◌-◌, ◌≤◌}
+use lib.ListN.{length}
 use Rattle.wing_wire.specs.Unit.{cleared}
-use Rattle.wing_wire.proofs.Reading.Clears.{cleared-turn, cleared-all}
 use Rattle.wing_wire.proofs.unit.clear.Given as goal
 
 abbrev pub invariant-loop-i : goal.invariant-loop-i

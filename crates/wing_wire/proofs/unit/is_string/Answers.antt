@@ -1,5 +1,4 @@
 -- Each arm is the line of `is_string` with that class.
-use borrow.Author.Rules.{rules}
 use Rattle.wing_wire.specs.Unit.{is_string}
 use Rattle.wing_wire.proofs.unit.is_string.Goals as goal
 

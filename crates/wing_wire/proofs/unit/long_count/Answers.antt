@@ -1,7 +1,6 @@
 -- Both returns are the branches of `long_count_of` with that test of the count.
 use mir.Facts.{to_z-of_z}
 use borrow.Author.Tests.{eq-eqb, ne_eqb}
-use borrow.Author.Rules.{rules}
 use Rattle.wing_wire.specs.Unit.{long_count_of}
 use Rattle.wing_wire.proofs.unit.long_count.Goals as goal
 

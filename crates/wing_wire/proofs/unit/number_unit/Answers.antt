@@ -1,7 +1,6 @@
 -- Both returns are the branches of `number_unit` with that test of what is left, by the contracts of `shift_in` and `number`.
 use mir.Facts.{to_z-of_z}
 use borrow.Author.Tests.{le-leb, lt-leb}
-use borrow.Author.Rules.{rules}
 use Rattle.wing_wire.specs.Unit.{number_unit}
 use Rattle.wing_wire.proofs.unit.number_unit.Goals as goal
 

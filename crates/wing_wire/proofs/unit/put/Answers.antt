@@ -1,7 +1,6 @@
 -- Inside the store the byte is written; past its end setting a byte changes nothing (`set_out`).
 use mathlib.Core.Path.{sym}
 use lib.Seq.{set_out}
-use borrow.Author.Rules.{rules}
 use Rattle.wing_wire.proofs.unit.put.Goals as goal
 
 pub returns-else-at-store : goal.returns-else-at-store

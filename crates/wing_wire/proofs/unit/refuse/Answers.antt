@@ -1,6 +1,5 @@
 -- What `taken_of` says, of the token that is read to its end.
 use mir.Facts.{to_z-of_z}
-use borrow.Author.Rules.{rules}
 use Rattle.wing_wire.proofs.unit.refuse.Goals as goal
 
 pub returns : goal.returns

@@ -3,7 +3,6 @@
 use mir.Facts.{to_z-of_z}
 use mathlib.Core.Path.{sym, ◌∙◌}
 use lib.ListN.{take}
-use borrow.Author.Rules.{rules}
 use Rattle.wing_node.proofs.Refusals.{string-right, string-wrong}
 use Rattle.wing_wire.specs.Unit.{string_done}
 use Rattle.wing_wire.proofs.unit.string_done.Goals as goal

@@ -2,7 +2,6 @@
 -- last one's answer.
 use mir.Facts.{to_z-of_z}
 use borrow.Author.Tests.{le-leb, lt-leb}
-use borrow.Author.Rules.{rules}
 use Rattle.wing_wire.specs.Unit.{string_unit}
 use Rattle.wing_wire.proofs.unit.string_unit.Goals as goal
 

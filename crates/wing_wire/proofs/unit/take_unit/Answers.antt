@@ -1,6 +1,5 @@
 -- Each arm is the line of `unit_of` with that variant, by the contract of the function that it calls.
 use mir.Facts.{to_z-of_z}
-use borrow.Author.Rules.{rules}
 use Rattle.wing_wire.specs.Unit.{unit_of}
 use Rattle.wing_wire.proofs.unit.take_unit.Goals as goal
 

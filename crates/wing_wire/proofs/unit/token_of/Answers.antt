@@ -1,5 +1,4 @@
 -- Both returns are the branches of `token_of` by what `is_string` tells.
-use borrow.Author.Rules.{rules}
 use Rattle.wing_wire.specs.Unit.{token_of}
 use Rattle.wing_wire.proofs.unit.token_of.Goals as goal
 

@@ -1,5 +1,4 @@
 -- The contract of `Control::fresh`, beside a store of zeros.
-use borrow.Author.Rules.{rules}
 use Rattle.wing_wire.specs.State.{fresh_state}
 use Rattle.wing_wire.proofs.state.State.fresh.Goals as goal
 
