@@ -1,46 +1,46 @@
 // What is said on standard error.
 use crate::column::onward;
-use libc::STDERR_FILENO;
+use std::io;
 
-pub fn complain(text: &[u8]) {
-    io::write_all(STDERR_FILENO, text);
+pub fn complain(to: &impl Print, text: &[u8]) -> io::Result<()> {
+    to.write_all(text)
 }
 
-fn number(before: &[u8], n: usize) {
-    complain(before);
-    io::print_decimal(STDERR_FILENO, n as u64);
+fn number(to: &impl Print, before: &[u8], n: usize) -> io::Result<()> {
+    complain(to, before)?;
+    to.print(n)
 }
 
-pub fn unread() {
-    complain(b"meters: standard input was not read to its end\n");
+pub fn unread(to: &impl Print) -> io::Result<()> {
+    complain(to, b"meters: standard input was not read to its end\n")
 }
 
 // What a number means of a width or of a packet.
-fn cause(why: u8) {
+fn cause(to: &impl Print, why: u8) -> io::Result<()> {
     match why {
-        13 => complain(b", length outside 4 to 8,192\n"),
-        19 => complain(b", width not a number from 1 to 256\n"),
-        _ => complain(b", refused\n"),
+        13 => complain(to, b", length outside 4 to 8,192\n"),
+        19 => complain(to, b", width not a number from 1 to 256\n"),
+        _ => complain(to, b", refused\n"),
     }
 }
 
-pub fn refused_width(why: u8) {
-    number(b"meters: ", why as usize);
-    cause(why);
+pub fn refused_width(to: &impl Print, why: u8) -> io::Result<()> {
+    number(to, b"meters: ", why as usize)?;
+    cause(to, why)
 }
 
 // The packet after so many good ones.
-fn packet(good: usize) {
-    number(b"meters: packet ", onward(good, 1, usize::MAX));
+fn packet(to: &impl Print, good: usize) -> io::Result<()> {
+    number(to, b"meters: packet ", onward(good, 1, usize::MAX))
 }
 
-pub fn refused_packet(good: usize, why: u8) {
-    packet(good);
-    number(b": ", why as usize);
-    cause(why);
+pub fn refused_packet(to: &impl Print, good: usize, why: u8) -> io::Result<()> {
+    packet(to, good)?;
+    number(to, b": ", why as usize)?;
+    cause(to, why)
 }
 
-pub fn inside_packet(good: usize) {
-    packet(good);
-    complain(b": the input ends inside it\n");
+pub fn inside_packet(to: &impl Print, good: usize) -> io::Result<()> {
+    packet(to, good)?;
+    complain(to, b": the input ends inside it\n")
 }

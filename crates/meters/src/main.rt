@@ -1,5 +1,6 @@
 // Reads meter packets from standard input, each after its length in two bytes, and prints the figures of each strip's last
-// readings. A program has no exit status here: one that fails says so on standard error.
+// readings. Where it fails it says so on standard error and ends with status 0, or with 1 where
+// it cannot say so.
 #![tactic(auto)]
 
 mod column;
@@ -14,7 +15,8 @@ use crate::packets::{
     Column, FIRSTS, INPUT, Ids, PACKETS, READINGS, Readings, Stand, link, take_packets,
 };
 use crate::text::{PAGE, flush, front};
-use libc::STDIN_FILENO;
+use std::io;
+use std::io::Read;
 use wing_meters::window::{MadeAnswer, Window, make};
 
 // One byte more than an input may have, which tells a longer one.
@@ -35,78 +37,104 @@ fn input_of(len: usize, more: bool, whole: bool) -> Input {
 }
 
 // One read, after the bytes that are there. A full buffer is the end.
-fn take_some(t: Input, text: &mut [u8]) -> Input {
+fn take_some(input: &mut impl Read, t: Input, text: &mut [u8]) -> Input {
     let at = t.len;
     if at < text.len() {
-        let got = libc::read(STDIN_FILENO, &mut text[at..]);
-        let n = io::count(got, &text[at..]);
-        return input_of(at + n, got > 0, got >= 0);
+        let got = input.read(&mut text[at..]);
+        return match got {
+            Ok(n) => input_of(at + n, n > 0, true),
+            Err(_) => input_of(at, false, false),
+        };
     }
     input_of(at, false, true)
 }
 
-fn take_all(text: &mut Text) -> Input {
+fn take_all(input: &mut impl Read, text: &mut Text) -> Input {
     let mut t = input_of(0, true, true);
     let mut turns = u64::MAX;
     while turns > 0 && t.more {
-        t = take_some(t, text);
+        t = take_some(input, t, text);
         turns -= 1;
     }
     t
 }
 
-fn print(fresh: Window, packets: usize, ids: &Ids, readings: &Readings, ends: &Column) {
+fn print(
+    stdout: &impl Print,
+    stderr: &impl Print,
+    fresh: Window,
+    packets: usize,
+    ids: &Ids,
+    readings: &Readings,
+    ends: &Column,
+) -> io::Result<()> {
     let mut firsts = [0u32; FIRSTS];
     let mut nexts = [0u32; PACKETS];
     let mut bytes = [0u8; PAGE];
     link(packets, ids, &mut firsts, &mut nexts);
     let p = strips::lines(
-        fresh, packets, ids, &firsts, readings, ends, &mut nexts, &mut bytes,
+        stdout, fresh, packets, ids, &firsts, readings, ends, &mut nexts, &mut bytes,
     );
-    let q = flush(p, &bytes);
+    let q = flush(stdout, p, &bytes);
     if !q.whole {
-        complain(b"meters: the figures were not written to their end\n");
+        complain(
+            stderr,
+            b"meters: the figures were not written to their end\n",
+        )?;
     }
+    Ok(())
 }
 
 // Half a table must not look like a whole one: nothing is printed of an input with a packet that is wrong.
-fn answer(fresh: Window, text: &Text, len: usize) {
+fn answer(
+    stdout: &impl Print,
+    stderr: &impl Print,
+    fresh: Window,
+    text: &Text,
+    len: usize,
+) -> io::Result<()> {
     let mut readings = [0i16; READINGS];
     let mut ids = [0u16; PACKETS];
     let mut ends = [0u32; PACKETS];
     let p = take_packets(front(text, len), &mut readings, &mut ids, &mut ends);
     let s = p.stand;
     match s {
-        Stand::More => complaint::unread(),
-        Stand::Whole => print(fresh, p.packets, &ids, &readings, &ends),
-        Stand::Inside => complaint::inside_packet(p.packets),
-        Stand::Refused(why) => complaint::refused_packet(p.packets, why),
+        Stand::More => complaint::unread(stderr),
+        Stand::Whole => print(stdout, stderr, fresh, p.packets, &ids, &readings, &ends),
+        Stand::Inside => complaint::inside_packet(stderr, p.packets),
+        Stand::Refused(why) => complaint::refused_packet(stderr, p.packets, why),
     }
 }
 
-fn run(fresh: Window) {
+fn run(
+    input: &mut impl Read,
+    stdout: &impl Print,
+    stderr: &impl Print,
+    fresh: Window,
+) -> io::Result<()> {
     let mut text = [0u8; TEXT];
-    let t = take_all(&mut text);
+    let t = take_all(input, &mut text);
     if t.more || !t.whole {
-        complaint::unread();
-        return;
+        return complaint::unread(stderr);
     }
     if INPUT < t.len {
-        complain(b"meters: the input is longer than 1,048,576 bytes\n");
-        return;
+        return complain(
+            stderr,
+            b"meters: the input is longer than 1,048,576 bytes\n",
+        );
     }
-    answer(fresh, &text, t.len);
+    answer(stdout, stderr, fresh, &text, t.len)
 }
 
-fn main() {
-    if 2 < os::arg_count() {
-        complain(b"meters: the width is the only argument\n");
-        return;
+fn main(rt: HostRuntime) -> io::Result<()> {
+    let stderr = rt.stderr();
+    if width::is_given(&rt, 2) {
+        return complain(&stderr, b"meters: the width is the only argument\n");
     }
-    let made = make(width::asked());
+    let made = make(width::asked(&rt));
     let a = made.answer;
     match a {
-        MadeAnswer::Good => run(made.window),
-        MadeAnswer::Refused(why) => complaint::refused_width(why),
+        MadeAnswer::Good => run(&mut rt.stdin(), &rt.stdout(), &stderr, made.window),
+        MadeAnswer::Refused(why) => complaint::refused_width(&stderr, why),
     }
 }

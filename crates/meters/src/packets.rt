@@ -25,7 +25,7 @@ pub const FIRSTS: usize = 65536;
 pub type Firsts = [u32; FIRSTS];
 
 // Whether the input goes on, is at its end, ends inside the next packet, or has a next packet that is refused.
-#[derive(Drop)]
+#[derive(Clone, Copy)]
 pub enum Stand {
     More,
     Whole,
@@ -34,7 +34,7 @@ pub enum Stand {
 }
 
 // The place reached in the input, and how many packets and readings stand before it.
-#[derive(Drop)]
+#[derive(Clone, Copy)]
 pub struct Packets {
     pub at: usize,
     pub packets: usize,

@@ -60,11 +60,11 @@ fn window_of(
 }
 
 // No line for a strip without readings. No window here is refused: each begins fresh.
-fn with_line(p: Page, bytes: &mut Bytes, id: u16, strip: u16, w: Window) -> Page {
+fn with_line(to: &impl Print, p: Page, bytes: &mut Bytes, id: u16, strip: u16, w: Window) -> Page {
     let t = figures(w);
     match t {
         Told::None => p,
-        Told::Figures(f) => text::line(p, bytes, id, strip, f),
+        Told::Figures(f) => text::line(to, p, bytes, id, strip, f),
         Told::Refused(_) => Page {
             at: p.at,
             whole: false,
@@ -74,6 +74,7 @@ fn with_line(p: Page, bytes: &mut Bytes, id: u16, strip: u16, w: Window) -> Page
 
 // The lines of an id's strips, until no packet is left in its row.
 fn lines_of(
+    to: &impl Print,
     fresh: Window,
     id: u16,
     readings: &Readings,
@@ -86,7 +87,7 @@ fn lines_of(
     let mut strip = 0;
     while strip < STRIPS && entry(nexts, 0) > 0 {
         let w = window_of(fresh, strip, readings, ends, nexts);
-        p = with_line(p, bytes, id, strip, w);
+        p = with_line(to, p, bytes, id, strip, w);
         strip += 1;
     }
     p
@@ -94,6 +95,7 @@ fn lines_of(
 
 // All lines, the ids in the order in which they first come.
 pub fn lines(
+    to: &impl Print,
     fresh: Window,
     packets: usize,
     ids: &Ids,
@@ -103,14 +105,14 @@ pub fn lines(
     nexts: &mut Column,
     bytes: &mut Bytes,
 ) -> Page {
-    let mut p = text::begin();
+    let mut p = text::begin(to);
     let mut k = 0;
     while k < packets {
         k += 1;
         let id = id_of(ids, k);
         if entry(firsts, id as usize) == k {
             put(nexts, 0, k);
-            p = lines_of(fresh, id, readings, ends, nexts, p, bytes);
+            p = lines_of(to, fresh, id, readings, ends, nexts, p, bytes);
         }
     }
     p

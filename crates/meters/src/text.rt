@@ -1,6 +1,5 @@
 // Lines for standard output, gathered so that a write takes many.
 use crate::column::onward;
-use libc::STDOUT_FILENO;
 use wing_meters::figures::Figures;
 use wing_node::field::left;
 use wing_node::value::put_decimal;
@@ -27,24 +26,24 @@ pub fn front(s: &[u8], n: usize) -> &[u8] {
     &s[..0]
 }
 
-pub fn begin() -> Page {
+pub fn begin(to: &impl Print) -> Page {
     Page {
         at: 0,
-        whole: io::write_all(STDOUT_FILENO, b"id,strip,held,sum,mean,rest,top\n"),
+        whole: to.write_all(b"id,strip,held,sum,mean,rest,top\n").is_ok(),
     }
 }
 
 // After a write that failed nothing more is written: no line is left out before others.
-pub fn flush(p: Page, bytes: &Bytes) -> Page {
+pub fn flush(to: &impl Print, p: Page, bytes: &Bytes) -> Page {
     Page {
         at: 0,
-        whole: p.whole && io::write_all(STDOUT_FILENO, front(bytes, p.at)),
+        whole: p.whole && to.write_all(front(bytes, p.at)).is_ok(),
     }
 }
 
-fn with_room(p: Page, bytes: &Bytes) -> Page {
+fn with_room(to: &impl Print, p: Page, bytes: &Bytes) -> Page {
     if left(bytes, p.at) < LINE {
-        return flush(p, bytes);
+        return flush(to, p, bytes);
     }
     p
 }
@@ -67,8 +66,8 @@ fn wide(x: i16) -> i32 {
     x as i32
 }
 
-pub fn line(p: Page, bytes: &mut Bytes, id: u16, strip: u16, f: Figures) -> Page {
-    let q = with_room(p, bytes);
+pub fn line(to: &impl Print, p: Page, bytes: &mut Bytes, id: u16, strip: u16, f: Figures) -> Page {
+    let q = with_room(to, p, bytes);
     let mut at = put_number(bytes, q.at, id as i32, b',');
     at = put_number(bytes, at, strip as i32, b',');
     at = put_number(bytes, at, f.held as i32, b',');

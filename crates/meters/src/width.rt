@@ -1,4 +1,6 @@
 // The width of the windows.
+use std::env::FillError;
+use std::rt::Env;
 
 // More than any width.
 const NONE: u32 = 1000;
@@ -25,12 +27,21 @@ fn spelled(word: &[u8]) -> u32 {
     n
 }
 
-// The program's first argument, 256 where there is none. One of over 64 bytes is none that `arg` gives, and no width.
-pub fn asked() -> u32 {
-    if os::arg_count() < 2 {
-        return 256;
+// Whether the program has an argument at a place; at 0 is its name.
+pub fn is_given(rt: &impl Env, at: usize) -> bool {
+    match rt.arg(at, &mut []) {
+        Ok(_) => true,
+        Err(FillError::TooLong) => true,
+        Err(FillError::NotPresent) => false,
     }
+}
+
+// The program's first argument, 256 where there is none. One of over 64 bytes is no width.
+pub fn asked(rt: &impl Env) -> u32 {
     let mut word = [0u8; 64];
-    let n = os::arg(1, &mut word);
-    spelled(&word[..n])
+    match rt.arg(1, &mut word) {
+        Ok(n) => spelled(&word[..n]),
+        Err(FillError::TooLong) => 0,
+        Err(FillError::NotPresent) => 256,
+    }
 }

@@ -1,8 +1,9 @@
 // Reads standard input to its end into a mirror of 128 places, and prints its records.
-// A program has no exit status here: one that fails says so on standard error.
+// Where it fails it says so on standard error and ends with status 0, or with 1 where it cannot say so.
 #![tactic(auto)]
 
-use libc::{STDERR_FILENO, STDIN_FILENO, STDOUT_FILENO};
+use std::io;
+use std::io::Read;
 use wing_mirror::{answer, feed};
 use wing_wire::state::State;
 use wing_wire::write::Written;
@@ -41,58 +42,60 @@ fn fed(r: answer::FeedReply) -> Mirror {
 }
 
 // One read and its feed. A read takes at most the bytes that 01 lets a feed have.
-fn take_some(m: Mirror, table: &mut [u8]) -> Mirror {
+fn take_some(input: &mut impl Read, m: Mirror, table: &mut [u8]) -> Mirror {
     let mut buf = [0u8; 65536];
-    let got = libc::read(STDIN_FILENO, &mut buf);
+    let got = input.read(&mut buf);
     let s = m.state;
-    if got <= 0 {
-        return mirror_of(s, m.count, false, got == 0);
+    match got {
+        Ok(0) => mirror_of(s, m.count, false, true),
+        Ok(n) => fed(feed::feed(s, table, m.count, &buf[..n])),
+        Err(_) => mirror_of(s, m.count, false, false),
     }
-    let n = io::count(got, &buf);
-    fed(feed::feed(s, table, m.count, &buf[..n]))
 }
 
-fn take_all(table: &mut [u8]) -> Mirror {
+fn take_all(input: &mut impl Read, table: &mut [u8]) -> Mirror {
     let mut m = mirror_of(State::fresh(), 0, true, true);
     let mut turns = u64::MAX;
     while turns > 0 && m.more {
-        m = take_some(m, table);
+        m = take_some(input, m, table);
         turns -= 1;
     }
     m
 }
 
 // Whether all n bytes were written; none where there are not so many.
-fn write_front(bytes: &[u8], n: usize) -> bool {
+fn write_front(to: &impl Print, bytes: &[u8], n: usize) -> bool {
     if n <= bytes.len() {
-        return io::write_all(STDOUT_FILENO, &bytes[0..n]);
+        return to.write_all(&bytes[0..n]).is_ok();
     }
     false
 }
 
 // The listing goes out in one write where the system takes it so.
-fn print(table: &[u8], count: usize) -> bool {
+fn print(to: &impl Print, table: &[u8], count: usize) -> bool {
     let mut out = [0u8; LISTING];
     let w = wing_listing::print::print(table, count, &mut out);
     match w {
-        Written::Bytes(n) => write_front(&out, n),
+        Written::Bytes(n) => write_front(to, &out, n),
         Written::Refused(_) => false,
     }
 }
 
-fn complain(text: &[u8]) {
-    io::write_all(STDERR_FILENO, text);
+fn complain(to: &impl Print, text: &[u8]) -> io::Result<()> {
+    to.write_all(text)
 }
 
 // Half a table must not look like a whole one: nothing is listed of an input that was not read to its end.
-fn main() {
+fn main(rt: HostRuntime) -> io::Result<()> {
     let mut table = [0u8; TABLE];
-    let m = take_all(&mut table);
+    let m = take_all(&mut rt.stdin(), &mut table);
     if m.more || !m.whole {
-        complain(b"mirror: standard input was not read to its end\n");
-        return;
+        let text = b"mirror: standard input was not read to its end\n";
+        return complain(&rt.stderr(), text);
     }
-    if !print(&table, m.count) {
-        complain(b"mirror: the listing was not written to its end\n");
+    if !print(&rt.stdout(), &table, m.count) {
+        let text = b"mirror: the listing was not written to its end\n";
+        return complain(&rt.stderr(), text);
     }
+    Ok(())
 }

@@ -1,11 +1,13 @@
 // Reads a listing, as `mirror` prints one, from standard input, and writes what a console is sent to hold it to standard
-// output. A program has no exit status here: one that fails says so on standard error.
+// output. Where it fails it says so on standard error and ends with status 0, or with 1 where
+// it cannot say so.
 #![tactic(auto)]
 
 mod complaint;
 
 use crate::complaint::complain;
-use libc::{STDIN_FILENO, STDOUT_FILENO};
+use std::io;
+use std::io::Read;
 use wing_listing::answer::Loaded;
 use wing_listing::load::load;
 use wing_mirror::recall::recall;
@@ -33,21 +35,23 @@ fn input_of(len: usize, more: bool, whole: bool) -> Input {
 }
 
 // One read, after the bytes that are there. A full buffer is the end.
-fn take_some(t: Input, text: &mut [u8]) -> Input {
+fn take_some(input: &mut impl Read, t: Input, text: &mut [u8]) -> Input {
     let at = t.len;
     if at < text.len() {
-        let got = libc::read(STDIN_FILENO, &mut text[at..]);
-        let n = io::count(got, &text[at..]);
-        return input_of(at + n, got > 0, got >= 0);
+        let got = input.read(&mut text[at..]);
+        return match got {
+            Ok(n) => input_of(at + n, n > 0, true),
+            Err(_) => input_of(at, false, false),
+        };
     }
     input_of(at, false, true)
 }
 
-fn take_all(text: &mut [u8]) -> Input {
+fn take_all(input: &mut impl Read, text: &mut [u8]) -> Input {
     let mut t = input_of(0, true, true);
     let mut turns = u64::MAX;
     while turns > 0 && t.more {
-        t = take_some(t, text);
+        t = take_some(input, t, text);
         turns -= 1;
     }
     t
@@ -62,36 +66,37 @@ fn front(s: &[u8], n: usize) -> &[u8] {
 }
 
 // Whether all of it was written.
-fn send(table: &[u8], count: usize) -> bool {
+fn send(to: &impl Print, table: &[u8], count: usize) -> bool {
     let mut out = [0u8; RECALL];
     let w = recall(table, count, &mut out);
     match w {
-        Written::Bytes(n) => io::write_all(STDOUT_FILENO, front(&out, n)),
+        Written::Bytes(n) => to.write_all(front(&out, n)).is_ok(),
         Written::Refused(_) => false,
     }
 }
 
-fn answer(text: &[u8]) {
+fn answer(stdout: &impl Print, stderr: &impl Print, text: &[u8]) -> io::Result<()> {
     let mut table = [0u8; TABLE];
     let r = load(text, &mut table);
     let a = r.answer;
     match a {
         Loaded::Records(count) => {
-            if !send(&table, count) {
-                complain(b"recall: the bytes were not written to their end\n");
+            if !send(stdout, &table, count) {
+                complain(stderr, b"recall: the bytes were not written to their end\n")?;
             }
+            Ok(())
         }
-        Loaded::Refused { why, line } => complaint::refused(why, line),
+        Loaded::Refused { why, line } => complaint::refused(stderr, why, line),
     }
 }
 
 // Half a listing may be a good one: nothing is sent of an input that was not read to its end.
-fn main() {
+fn main(rt: HostRuntime) -> io::Result<()> {
+    let stderr = rt.stderr();
     let mut text = [0u8; TEXT];
-    let t = take_all(&mut text);
+    let t = take_all(&mut rt.stdin(), &mut text);
     if t.more || !t.whole {
-        complain(b"recall: standard input was not read to its end\n");
-        return;
+        return complain(&stderr, b"recall: standard input was not read to its end\n");
     }
-    answer(front(&text, t.len));
+    answer(&rt.stdout(), &stderr, front(&text, t.len))
 }

@@ -20,7 +20,7 @@ pub type Numbers = [usize; COUNT];
 // A line that has the form of an order: the part that answers it (0 for a line out of form), the order's letter there, whether
 // the answer's sum is asked, the first three and the last of the numbers of its words, and all of them, each in the place of
 // its word, or the sizes of a list with their count. Its bytes stand in the buffer lent, from a place up to another.
-#[derive(Drop)]
+#[derive(Clone, Copy)]
 pub struct Asked {
     pub part: u8,
     pub letter: u8,

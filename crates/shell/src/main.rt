@@ -17,6 +17,8 @@ mod windows;
 use crate::forms::{Asked, Bytes};
 use crate::mirror::{Kept, Memory, Session};
 use crate::show::Log;
+use std::io;
+use std::io::Read;
 use wing_meters::window::Window;
 
 // The longest line, and one byte more that tells a longer one.
@@ -30,7 +32,7 @@ type Buffer = [u8; BUFFER];
 
 // Bytes of the input that are not taken yet, from a place of their buffer up to another, and how many bytes of a line stand
 // in the line's buffer. ended: the line is complete. more: the input may go on.
-#[derive(Drop)]
+#[derive(Clone, Copy)]
 struct Input {
     at: usize,
     end: usize,
@@ -122,7 +124,7 @@ fn turn(mut t: Lasting, memory: &mut Memory, a: Asked, bytes: &[u8], log: &mut L
 
 // Prints an answer of so many bytes. A line out of form, which has none, is printed back; a comment and an empty line too,
 // so that the output reads by itself.
-fn print(line: &[u8], log: &mut Log, answer: usize) {
+fn print(to: &impl Print, line: &[u8], log: &mut Log, answer: usize) -> io::Result<()> {
     let mut n = answer;
     let mut letter = b'X';
     if forms::LINE < line.len() {
@@ -133,39 +135,57 @@ fn print(line: &[u8], log: &mut Log, answer: usize) {
     if n == 0 {
         n = show::tell(log, 0, letter, 0, 0, 0, line);
     }
-    show::print(log, n);
+    show::print(to, log, n)
 }
 
 fn answer(
+    to: &impl Print,
     mut t: Lasting,
     m: &mut Memory,
     line: &[u8],
     bytes: &mut Bytes,
     log: &mut Log,
-) -> Lasting {
+) -> io::Result<Lasting> {
     let a = forms::order(line, bytes, t.session.kept.held);
     t = turn(t, m, a, read::part(bytes, a.from, a.to), log);
-    print(line, log, t.session.kept.len);
-    t
+    print(to, line, log, t.session.kept.len)?;
+    Ok(t)
 }
 
-fn refill(mut t: Input, buffer: &mut Buffer) -> Input {
-    let got = libc::read(libc::STDIN_FILENO, buffer);
+fn refill(
+    input: &mut impl Read,
+    stderr: &impl Print,
+    mut t: Input,
+    buffer: &mut Buffer,
+) -> io::Result<Input> {
+    let got = input.read(buffer);
     t.at = 0;
-    t.end = io::count(got, buffer);
-    t.more = got > 0;
-    if got < 0 {
-        let text = b"shell: standard input was not read to its end\n";
-        io::write_all(libc::STDERR_FILENO, text);
+    match got {
+        Ok(n) => {
+            t.end = n;
+            t.more = n > 0;
+        }
+        Err(_) => {
+            t.end = 0;
+            t.more = false;
+            let text = b"shell: standard input was not read to its end\n";
+            stderr.write_all(text)?;
+        }
     }
-    t
+    Ok(t)
 }
 
 fn goes_on(t: Input) -> bool {
     t.more && !t.ended
 }
 
-fn read_line(mut t: Input, buffer: &mut Buffer, line: &mut Line) -> Input {
+fn read_line(
+    input: &mut impl Read,
+    stderr: &impl Print,
+    mut t: Input,
+    buffer: &mut Buffer,
+    line: &mut Line,
+) -> io::Result<Input> {
     t.len = 0;
     t.ended = false;
     let mut turns = u64::MAX;
@@ -178,11 +198,11 @@ fn read_line(mut t: Input, buffer: &mut Buffer, line: &mut Line) -> Input {
                 t.len = read::put(line, t.len, b);
             }
         } else {
-            t = refill(t, buffer);
+            t = refill(input, stderr, t, buffer)?;
         }
         turns -= 1;
     }
-    t
+    Ok(t)
 }
 
 // The last line needs no newline.
@@ -192,12 +212,15 @@ fn is_line(t: Input) -> bool {
 
 // Every line of the input. The buffers are lent: a loop beside the literals of such arrays is checked far slower.
 fn run(
+    input: &mut impl Read,
+    stdout: &impl Print,
+    stderr: &impl Print,
     buffer: &mut Buffer,
     line: &mut Line,
     memory: &mut Memory,
     bytes: &mut Bytes,
     log: &mut Log,
-) {
+) -> io::Result<()> {
     let mut s = start();
     let mut t = Input {
         at: 0,
@@ -208,19 +231,29 @@ fn run(
     };
     let mut turns = u64::MAX;
     while turns > 0 && t.more {
-        t = read_line(t, buffer, line);
+        t = read_line(input, stderr, t, buffer, line)?;
         if is_line(t) {
-            s = answer(s, memory, read::part(line, 0, t.len), bytes, log);
+            s = answer(stdout, s, memory, read::part(line, 0, t.len), bytes, log)?;
         }
         turns -= 1;
     }
+    Ok(())
 }
 
-fn main() {
+fn main(rt: HostRuntime) -> io::Result<()> {
     let mut buffer = [0u8; BUFFER];
     let mut line = [0u8; LINE];
     let mut memory = [0u8; mirror::MEMORY];
     let mut bytes = [0u8; forms::BYTES];
     let mut log = [0u8; show::LOG];
-    run(&mut buffer, &mut line, &mut memory, &mut bytes, &mut log);
+    run(
+        &mut rt.stdin(),
+        &rt.stdout(),
+        &rt.stderr(),
+        &mut buffer,
+        &mut line,
+        &mut memory,
+        &mut bytes,
+        &mut log,
+    )
 }

@@ -20,7 +20,7 @@ const HELD: usize = 80000;
 // What lasts from line to line, and the length of the last answer's text, 0 for a line out of form. The count is that of the
 // records, the size the table buffer's, the fill what the memory held when the mirror was fresh. fresh: the next feed
 // begins with a fresh decoder. held: the bytes at the front of the orders' buffer that wait for a later order.
-#[derive(Drop)]
+#[derive(Clone, Copy)]
 pub struct Kept {
     pub count: usize,
     pub size: usize,

@@ -10,7 +10,7 @@ use wing_wire::{escape, lent, reader, state};
 
 // How a stream is cut: at two places, and after these into pieces of a size; or each call gets a piece, through the lent
 // next of a random size, else, where there is a list of sizes, by the list over and over. inside: all of the state is told.
-#[derive(Drop)]
+#[derive(Clone, Copy)]
 struct Pieces {
     inside: bool,
     lent: bool,
