@@ -1,12 +1,15 @@
 #!/usr/bin/env python3
 """Spells the repository's own definitions and lemmas in snake case, after port.py.
 
-usage: tools/respell.py [ROOT]     rewrites crates/*/{specs,proofs}/**/*.antt and crates/*/src/**/*.rt in place; a second run writes nothing
+usage: tools/respell.py [ROOT]     rewrites crates/*/{specs,proofs}/**/*.antt and crates/*/src/**/*.rt in place
 
-What turns is each word of the .antt files that begins with a small letter and has a capital inside, as 'entryIn' to 'entry_in', unless a file imports it
-from the kit: also in clauses and 'ghost use' items of the sources and in the code spans of comments. A part of a name that is joined by a dash turns too,
-as 'length-digitsIn' to 'length-digits_in'; a dash stays in a lemma's name. A dash in a field, a constructor or a definition of specs/ becomes an
-underscore. Modules, types and Rust's names keep theirs. LEMMAS has the lemmas that would meet a definition's new spelling: they get the ending '_lem'.
+Run it once, right after port.py: in proofs of today's form it would turn names of goals too.
+
+What turns is each word of the .antt files, and each name that a source brings for its clauses, that begins with a small letter and has a capital inside,
+as 'entryIn' to 'entry_in', unless a file imports it from the kit: also in clauses and 'ghost use' items of the sources and in the code spans of
+comments. A part of a name that is joined by a dash turns too, as 'length-digitsIn' to 'length-digits_in'; a dash stays in a lemma's name. A dash in a
+field, a constructor or a definition of specs/ becomes an underscore. Modules, types and Rust's names keep theirs. LEMMAS has the lemmas that would meet
+a definition's new spelling: they get the ending '_lem'.
 """
 
 import os
@@ -69,6 +72,9 @@ def main():
         words.update(WORD.findall(bare))
         if "/specs/" in path:
             joined |= dashed(bare)
+    for _, text in texts(".rt"):
+        for m in re.finditer(r"^ghost use [^{;]*\{([^}]*)\}", text, re.M):
+            words.update(item.strip().split(" as ")[-1] for item in m.group(1).split(","))
     names = {w for w in words if turns(w)} - kit
     table = {w: snake(w) for w in names}
     table.update({w: snake(w).replace("-", "_") for w in joined})

@@ -14,9 +14,9 @@ ghost use Rattle.wing_wire.specs.EarlierReading.{CarriesOver};
 ghost use Rattle.wing_saved.specs.Saved.{SavedLaws};
 ghost use Rattle.wing_saved.specs.Earlier.{EarlierLaws};
 ghost use Rattle.wing_listing.specs.BothWays.{BothWays as ListedBothWays};
-ghost use Rattle.wing_listing.specs.Cases.{Case as ListedCase, cases as listedCases};
+ghost use Rattle.wing_listing.specs.Cases.{Case as ListedCase, cases as listed_cases};
 ghost use Rattle.wing_meters.specs.Moving.{Moving};
-ghost use Rattle.wing_meters.specs.Cases.{Case as WindowCase, cases as windowCases};
+ghost use Rattle.wing_meters.specs.Cases.{Case as WindowCase, cases as window_cases};
 ghost use Rattle.wing_mirror.specs.Record.{full};
 ghost use Rattle.wing_mirror.specs.HighEnd.{SearchReads};
 ghost use Rattle.wing_mirror.specs.History.{Agreement, Equality, Rebuilding, Histories};
@@ -179,10 +179,10 @@ pub fn marked_cases()
 
 // 01's example of a listing, and the boundary lines that 02 names: what the definitions give in each is what is wanted.
 pub fn listing_cases()
-    ensures { map (λ (c : ListedCase). c.got) listedCases ≡ map (λ (c : ListedCase). c.wanted) listedCases }
+    ensures { map (λ (c : ListedCase). c.got) listed_cases ≡ map (λ (c : ListedCase). c.wanted) listed_cases }
 {}
 
 // Figures of some readings, written out: what the definitions give in each case is what is wanted.
 pub fn window_cases()
-    ensures { map (λ (c : WindowCase). c.got) windowCases ≡ map (λ (c : WindowCase). c.wanted) windowCases }
+    ensures { map (λ (c : WindowCase). c.got) window_cases ≡ map (λ (c : WindowCase). c.wanted) window_cases }
 {}

@@ -78,6 +78,6 @@ pub record TableLoad : Type 0 where
 abbrev pub table_load : WingLoaded → List ℕ → TableLoad
 table_load r buffer = record { numbers = r; table = buffer }
 
--- of what the library's call leaves; the state beside its answer is always a fresh one (`Load-fresh` in Meanings)
+-- of what the library's call leaves; the state beside its answer is always a fresh one (`load_fresh` in Meanings)
 abbrev pub table_load_of : LoadEffect → TableLoad
 table_load_of e = table_load (loaded_numbers e.reply.answer) e.memory

@@ -3,7 +3,7 @@
 ghost use Rattle.std.specs.Prelude.{◌≡◌};
 ghost use Rattle.wing_node.specs.Refusal.{refusal_number, good_beside};
 ghost use Rattle.wing_mirror.specs.Counts.{zero_counts};
-ghost use Rattle.wing_c.specs.Numbers.{minus as minusOf, sent_back, no_refusal, written_as, written_numbers, body_numbers, set_as, set_numbers, feed_status, fed_numbers, lookup_numbers, same_number};
+ghost use Rattle.wing_c.specs.Numbers.{minus as minus_of, sent_back, no_refusal, written_as, written_numbers, body_numbers, set_as, set_numbers, feed_status, fed_numbers, lookup_numbers, same_number};
 ghost use Rattle.wing_c.specs.Numbers.{held_numbers, record_numbers, event_as, no_event, event_numbers, requested_numbers, meters_numbers, loaded_as, loaded_numbers};
 
 use wing_listing::answer::Loaded;
@@ -123,7 +123,7 @@ pub struct WingLoaded {
 
 // A refusal's number with a minus sign.
 pub(crate) fn minus(why: u8) -> i32
-    ensures { result ≡ minusOf why }
+    ensures { result ≡ minus_of why }
 {
     if why == 0 {
         return 0;
@@ -232,7 +232,7 @@ pub(crate) fn fed(r: LentFeedReply) -> WingFed
 }
 
 pub(crate) fn feed_refused(why: Refusal, count: usize) -> WingFed
-    ensures { result ≡ fed_numbers (minusOf (refusal_number why)) zero_counts count }
+    ensures { result ≡ fed_numbers (minus_of (refusal_number why)) zero_counts count }
 {
     WingFed {
         status: minus(number(why)),

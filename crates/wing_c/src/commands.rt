@@ -5,7 +5,7 @@ ghost use Rattle.wing_node.specs.Value.{integer, float};
 ghost use Rattle.wing_wire.specs.Write.{write_of};
 ghost use Rattle.wing_wire.specs.Command.{set_bytes, set_string, request_bytes};
 ghost use Rattle.wing_wire.specs.Meter.{request_meter, keep_alives, packet_of};
-ghost use Rattle.wing_c.specs.Written.{command, command_of, request as requestAs, request_of, packet as packetAs, packet_from};
+ghost use Rattle.wing_c.specs.Written.{command, command_of, request as request_as, request_of, packet as packet_as, packet_from};
 ghost use Rattle.wing_c.specs.Meters.{meter_of, meters_of, meter_at, HoldsMeters};
 
 use crate::answers;
@@ -111,7 +111,7 @@ pub extern "C" fn wing_request_meter(
     port: u16,
     last_id: u16,
 ) -> WingRequested
-    ensures { requestAs result out.new ≡ request_of (request_meter port last_id (meters_of meters.now) (length meters.now / 2) out.old) }
+    ensures { request_as result out.new ≡ request_of (request_meter port last_id (meters_of meters.now) (length meters.now / 2) out.old) }
 {
     let array = meters_of(meters);
     answers::requested(meter::request_meter(out, array, meters.len() / 2, port, last_id))
@@ -128,7 +128,7 @@ pub extern "C" fn wing_keep_alive_meters(out: &mut [u8], port: u16, last_id: u16
 // 01: the readings of a packet. 13, 9.
 #[unsafe(no_mangle)]
 pub extern "C" fn wing_read_meters(packet: &[u8], out: &mut [i16]) -> WingMeters
-    ensures { packetAs result out.new ≡ packet_from (packet_of packet.now out.old) }
+    ensures { packet_as result out.new ≡ packet_from (packet_of packet.now out.old) }
 {
     answers::meters(meter::read_meters(packet, out))
 }

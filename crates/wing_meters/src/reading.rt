@@ -1,9 +1,9 @@
 // Readings that go into a window, one by one: each takes the next place, where the oldest stands once the window is full.
 ghost use Rattle.std.specs.Prelude.{◌≡◌, true, ◌+◌, ◌-◌, ◌*◌, ◌≤◌, ◌<◌, ◌++◌, length, drop};
 ghost use Rattle.wing_meters.specs.Kept.{InRange, TopBefore};
-ghost use Rattle.wing_meters.specs.Level.{greatest as greatestOf};
-ghost use Rattle.wing_meters.specs.Window.{window as windowOf, taking, grown as grownOf, onward as onwardOf, sound_window};
-ghost use Rattle.wing_meters.specs.Calls.{reading_of, after_all, answers, rows, followed as followedOf, rows_effect, readings_of};
+ghost use Rattle.wing_meters.specs.Level.{greatest as greatest_of};
+ghost use Rattle.wing_meters.specs.Window.{window as window_of, taking, grown as grown_of, onward as onward_of, sound_window};
+ghost use Rattle.wing_meters.specs.Calls.{reading_of, after_all, answers, rows, followed as followed_of, rows_effect, readings_of};
 
 use crate::figures::Told;
 use crate::kept::{figures_in, lay_row, tell};
@@ -33,14 +33,14 @@ pub struct Followed {
 }
 
 fn grown(held: u16, width: u16) -> u16
-    ensures { result ≡ grownOf held width }
+    ensures { result ≡ grown_of held width }
 {
     if held < width { held + 1 } else { held }
 }
 
 fn onward(next: u16, width: u16) -> u16
     requires { next < width }
-    ensures { result ≡ onwardOf next width }
+    ensures { result ≡ onward_of next width }
 {
     let after = next + 1;
     if after < width { after } else { 0 }
@@ -49,7 +49,7 @@ fn onward(next: u16, width: u16) -> u16
 // The largest level after one left and one came: only where the largest has left is it looked for.
 fn top_after(top: u16, left: u16, came: u16, levels: &[u16]) -> u16
     requires { TopBefore top left came levels.now }
-    ensures { result ≡ greatestOf levels.now }
+    ensures { result ≡ greatest_of levels.now }
 {
     if top <= came {
         return came;
@@ -70,8 +70,8 @@ fn sum_after(sum: u32, left: u16, came: u16) -> u32
 
 // One reading takes the next place; the sum and the largest are kept up.
 fn step(c: Control, levels: &mut [u16], x: i16) -> Control
-    requires { (length levels.old ≡ 256) × (sound_window (windowOf c levels.old) ≡ true) }
-    ensures { (windowOf result levels.new ≡ taking (windowOf c levels.old) x) × InRange result }
+    requires { (length levels.old ≡ 256) × (sound_window (window_of c levels.old) ≡ true) }
+    ensures { (window_of result levels.new ≡ taking (window_of c levels.old) x) × InRange result }
 {
     let at = c.next as usize;
     let came = level_of(x);
@@ -110,9 +110,9 @@ pub fn reading(w: Window, x: i16) -> Taken
 }
 
 fn follow(c: Control, levels: &mut [u16], xs: &[i16], out: &mut [i32]) -> Control
-    requires { (length levels.old ≡ 256) × (sound_window (windowOf c levels.old) ≡ true) × (5 * length xs.now ≤ length out.old) }
-    ensures levels_after { windowOf result levels.new ≡ after_all (windowOf c levels.old) xs.now }
-    ensures out_after { out.new ≡ rows (answers (windowOf c levels.old) xs.now) ++ drop (5 * length xs.now) out.old }
+    requires { (length levels.old ≡ 256) × (sound_window (window_of c levels.old) ≡ true) × (5 * length xs.now ≤ length out.old) }
+    ensures levels_after { window_of result levels.new ≡ after_all (window_of c levels.old) xs.now }
+    ensures out_after { out.new ≡ rows (answers (window_of c levels.old) xs.now) ++ drop (5 * length xs.now) out.old }
 {
     let mut after = c;
     let mut i = 0;
@@ -126,7 +126,7 @@ fn follow(c: Control, levels: &mut [u16], xs: &[i16], out: &mut [i32]) -> Contro
 }
 
 fn refuse(why: u8, w: Window) -> Followed
-    ensures { result ≡ followedOf (RowsAnswer.Refused why) w }
+    ensures { result ≡ followed_of (RowsAnswer.Refused why) w }
 {
     Followed {
         answer: RowsAnswer::Refused(why),

@@ -1,14 +1,14 @@
 // Whether some list of readings leaves a window: levels added up, the greatest of them, and what is kept up beside them.
 ghost use Rattle.std.specs.Prelude.{◌≡◌, true, ◌≤◌, max, length};
-ghost use Rattle.wing_meters.specs.Level.{added as addedOf, greatest as greatestOf};
-ghost use Rattle.wing_meters.specs.Window.{window as windowOf, sound_control, sound_window};
+ghost use Rattle.wing_meters.specs.Level.{added as added_of, greatest as greatest_of};
+ghost use Rattle.wing_meters.specs.Window.{window as window_of, sound_control, sound_window};
 ghost use Rattle.wing_meters.specs.Kept.{InRange};
 
 use crate::window::Control;
 
 fn added(levels: &[u16]) -> u32
     requires { length levels.now ≤ 256 }
-    ensures { result ≡ addedOf levels.now }
+    ensures { result ≡ added_of levels.now }
 {
     let mut sum: u32 = 0;
     let mut i = 0;
@@ -27,7 +27,7 @@ fn higher(a: u16, b: u16) -> u16
 
 // 0 for none.
 pub(crate) fn greatest(levels: &[u16]) -> u16
-    ensures { result ≡ greatestOf levels.now }
+    ensures { result ≡ greatest_of levels.now }
 {
     let mut top: u16 = 0;
     let mut i = 0;
@@ -59,7 +59,7 @@ fn sound_control(c: Control) -> bool
 
 pub(crate) fn is_sound_lent(c: Control, levels: &[u16]) -> bool
     requires { length levels.now ≡ 256 }
-    ensures { (result ≡ sound_window (windowOf c levels.now)) × (result ≡ true → InRange c) }
+    ensures { (result ≡ sound_window (window_of c levels.now)) × (result ≡ true → InRange c) }
 {
     if sound_control(c) {
         if added(levels) == c.sum {

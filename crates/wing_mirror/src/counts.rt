@@ -2,7 +2,7 @@
 ghost use Rattle.std.specs.Prelude.{◌≡◌, ◌<◌};
 ghost use Rattle.wing_node.specs.Definition.{definition_of};
 ghost use Rattle.wing_node.specs.Refusal.{refusal_number};
-ghost use Rattle.wing_mirror.specs.Counts.{zero_counts, tick as tickOf, total, refusal_mark, body_mark};
+ghost use Rattle.wing_mirror.specs.Counts.{zero_counts, tick as tick_of, total, refusal_mark, body_mark};
 
 use crate::answer::Counts;
 use wing_node::definition::{Parsed, from_bytes};
@@ -36,7 +36,7 @@ pub(crate) fn zero_counts() -> Counts
 // One more of them.
 pub(crate) fn tick(mut c: Counts, m: Mark) -> Counts
     requires { total c < 4294967295 }
-    ensures { result ≡ tickOf m c }
+    ensures { result ≡ tick_of m c }
 {
     match m {
         Mark::Stored => {

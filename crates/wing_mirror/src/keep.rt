@@ -3,7 +3,7 @@ ghost use Rattle.std.specs.Prelude.{◌≡◌, true, false, ◌<◌, length};
 ghost use Rattle.wing_node.specs.Value.{node_value};
 ghost use Rattle.wing_wire.specs.State.{body_limit};
 ghost use Rattle.wing_wire.specs.Range.{Within};
-ghost use Rattle.wing_wire.specs.Reader.{value as valueEvent};
+ghost use Rattle.wing_wire.specs.Reader.{value as value_event};
 ghost use Rattle.wing_mirror.specs.Record.{full};
 ghost use Rattle.wing_mirror.specs.Table.{table as table_of, usable};
 ghost use Rattle.wing_mirror.specs.Call.{too_long};
@@ -41,7 +41,7 @@ fn mark(count: usize, counts: Counts, m: Mark) -> Tally
 // 01: a value is stored at its node, or has no place. 02: it came from the console.
 fn keep_value(table: &mut [u8], t: Tally, node: i32, value: Value, string: &[u8]) -> Tally
     requires { (usable full (table_of table.old t.count) ≡ true) × (total t.counts < 4294967295) × (too_long (node_value value string.now) ≡ false) }
-    ensures { tally_of result table.new ≡ keep_event full node (valueEvent (node_value value string.now)) (tally_of t table.old) }
+    ensures { tally_of result table.new ≡ keep_event full node (value_event (node_value value string.now)) (tally_of t table.old) }
 {
     let mut rec = [0u8; State::PLACE_WIDTH];
     lay_record(&mut rec, node, value, string, Origin::Console);

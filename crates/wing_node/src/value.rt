@@ -3,7 +3,7 @@ ghost use Rattle.std.specs.Prelude.{◌≡◌, ◌+◌, ◌≤◌, length, take,
 ghost use Rattle.wing_node.specs.Bytes.{placed, zeroed};
 ghost use Rattle.wing_node.specs.Field.{put_at};
 ghost use Rattle.wing_node.specs.Decimal.{digits, last_digits};
-ghost use Rattle.wing_node.specs.Decimal.{decimal as decimalOf};
+ghost use Rattle.wing_node.specs.Decimal.{decimal as decimal_of};
 ghost use Rattle.wing_node.specs.Value.{node_value, int_in, string_in, answer_of, some};
 
 use crate::field::left;
@@ -79,7 +79,7 @@ fn zero_from(from: usize, out: &mut [u8])
 
 // The decimal of x, at most eleven bytes: a minus sign and ten digits.
 fn decimal(x: i32) -> StringRead
-    ensures { result ≡ answer_of (some (decimalOf x)) }
+    ensures { result ≡ answer_of (some (decimal_of x)) }
 {
     let mut bytes = [0u8; 256];
     let k = put_decimal(&mut bytes, 0, x);
@@ -91,7 +91,7 @@ fn decimal(x: i32) -> StringRead
 
 // How many bytes the decimal of x has: they stand in out from a place on, and out is as it was where fewer are left there.
 pub fn put_decimal(out: &mut [u8], at: usize, x: i32) -> usize
-    ensures { (result ≡ length (decimalOf x)) × (out.new ≡ (put_at (decimalOf x) at out.old).bytes) }
+    ensures { (result ≡ length (decimal_of x)) × (out.new ≡ (put_at (decimal_of x) at out.old).bytes) }
 {
     let n = magnitude(x);
     let k = places(n);

@@ -9,7 +9,7 @@ ghost use Rattle.wing_node.specs.Result.{refused};
 ghost use Rattle.wing_wire.specs.Token.{class_number};
 ghost use Rattle.wing_wire.specs.State.{body_limit, state_of};
 ghost use Rattle.wing_wire.specs.Write.{write_effect, write_of};
-ghost use Rattle.wing_saved.specs.Saved.{saved_size, flag as flagOf, pending_flag, pending_byte_of, fields_of, head_under, head_bytes, state_bytes};
+ghost use Rattle.wing_saved.specs.Saved.{saved_size, flag as flag_of, pending_flag, pending_byte_of, fields_of, head_under, head_bytes, state_bytes};
 ghost use Rattle.wing_saved.specs.Saved.{pending_in, class_in, token_in, fields_in, control_in, begins, sound_only, head_from_under, head_from, head_as, loaded_as, save_of, load_of};
 
 use wing_node::field::{i32_at, put_i32, put_u32, u16_at, u32_at};
@@ -80,7 +80,7 @@ fn to_i8(u: u8) -> i8
 }
 
 fn flag(b: bool) -> u8
-    ensures { result ≡ flagOf b }
+    ensures { result ≡ flag_of b }
 {
     if b { 1 } else { 0 }
 }
