@@ -1,6 +1,6 @@
 /* How long a definition's body is skipped that is too long to be kept: count 0, a 32-bit count, and as many units, in feeds of 65,536 bytes.
  *
- *     rt staticlib wing_c && gcc -O2 -Iinclude bench/skip.c target/staticlib/libwing_c.a -o target/skip && target/skip 4294967295
+ *     tools/build wing_c && gcc -O2 -Iinclude bench/skip.c target/staticlib/libwing_c.a -o target/skip && target/skip 4294967295
  *
  * The count is over 4,096: the last unit must give one refused definition, and none before it may give anything. Prints the seconds.
  */

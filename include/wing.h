@@ -1,6 +1,6 @@
 /* A WING console's bytes, the mirror of its nodes, set orders and recall: the calls of libwing_c.a.
  *
- * C99, and C++. `rt staticlib wing_c` writes target/staticlib/libwing_c.a, for Linux on x86-64. docs/BOX.md shows a whole box.
+ * C99, and C++. `tools/build wing_c` writes target/staticlib/libwing_c.a, for Linux on x86-64. docs/BOX.md shows a whole box.
  *
  * Lent: every buffer is the caller's, before and after. A call reads or writes it while it runs and keeps no address. A buffer crosses
  * as a pointer and a number of elements (`x`, `x_len`); the pointer is never NULL, not even where the number is 0 (any address will do

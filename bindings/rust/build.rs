@@ -90,14 +90,14 @@ fn newest_below(folder: &Path) -> Option<SystemTime> {
 }
 
 fn make(top: &Path, archive: &Path) {
-    let done = Command::new("rt").args(["staticlib", "wing_c"]).current_dir(top).output();
+    let done = Command::new(top.join("tools/build")).arg("wing_c").current_dir(top).output();
     match done {
         Err(e) => fail(&format!(
-            "{} is missing or older than its sources, and 'rt staticlib wing_c' cannot be run ({e}): put the kit's rt on the path, or set WING_C_ARCHIVE",
+            "{} is missing or older than its sources, and 'tools/build wing_c' cannot be run ({e}): put the kit's rt on the path, or set WING_C_ARCHIVE",
             archive.display()
         )),
         Ok(out) if !out.status.success() || !archive.is_file() => fail(&format!(
-            "'rt staticlib wing_c' in {} failed:\n{}{}",
+            "'tools/build wing_c' in {} failed:\n{}{}",
             top.display(),
             String::from_utf8_lossy(&out.stdout),
             String::from_utf8_lossy(&out.stderr)
