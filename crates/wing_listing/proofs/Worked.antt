@@ -1,4 +1,4 @@
--- 01's example and the boundary lines, one joint proof: the whole table is computed at once.
+-- 01's example, the boundary lines and some whole texts, one joint proof: the whole table is computed at once.
 use mathlib.Core.Path.{◌≡◌, refl}
 use mathlib.Core.List.{map}
 use Rattle.wing_node.specs.Bytes.{joined}
@@ -7,14 +7,15 @@ use Rattle.wing_node.specs.Decimal.{digits_up_to, digits, decimal, number_spelle
 use Rattle.wing_node.specs.Utf8.{holds, begins, first_that, char_length, good_from, good, utf8}
 use Rattle.wing_mirror.specs.Table.{every}
 use Rattle.wing_mirror.specs.Call.{too_long, not_text}
+use Rattle.wing_mirror.specs.Query.{same_bytes}
 use Rattle.wing_listing.specs.Parts.{onto, parted}
 use Rattle.wing_listing.specs.Integers.{is_digit, no_leading_zero, is_natural, is_signed, fits32, is_integer}
 use Rattle.wing_listing.specs.Hex.{hex_digit, hex_value, is_hex, pair_of, from_pairs, are_pairs}
 use Rattle.wing_listing.specs.Listing.{letter_of, value_text, line_of, listing_of}
-use Rattle.wing_listing.specs.Reading.{is_value, value_said, is_line, entry_said, above, value_fault, line_fault}
-use Rattle.wing_listing.specs.Cases.{Case, lists, fine, wrong, cases}
+use Rattle.wing_listing.specs.Reading.{is_value, value_said, is_line, entry_said, above, value_fault, line_fault, after, lines_from, after_header, reading_of}
+use Rattle.wing_listing.specs.Cases.{Case, lists, fine, wrong, reads, cases}
 
 -- what the definitions give in every case is what is wanted
 pub worked : map (λ (c : Case). c.got) cases ≡ map (λ (c : Case). c.wanted) cases
-unfolding cases lists fine wrong listing_of line_of value_text letter_of line_fault value_fault above entry_said is_line value_said is_value are_pairs from_pairs pair_of is_hex hex_value hex_digit is_integer fits32 is_signed is_natural no_leading_zero is_digit parted onto too_long not_text every utf8 good_from good char_length first_that begins holds integer_of number_spelled decimal digits digits_up_to digits_in number_in number_from joined
+unfolding cases lists fine wrong reads reading_of after_header lines_from after same_bytes listing_of line_of value_text letter_of line_fault value_fault above entry_said is_line value_said is_value are_pairs from_pairs pair_of is_hex hex_value hex_digit is_integer fits32 is_signed is_natural no_leading_zero is_digit parted onto too_long not_text every utf8 good_from good char_length first_that begins holds integer_of number_spelled decimal digits digits_up_to digits_in number_in number_from joined
 worked = refl
