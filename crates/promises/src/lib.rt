@@ -16,7 +16,7 @@ ghost use Rattle.wing_saved.specs.Saved.{SavedLaws};
 ghost use Rattle.wing_saved.specs.Earlier.{EarlierLaws};
 ghost use Rattle.wing_saved.specs.Cases.{Case as SavedCase, cases as savedCases};
 ghost use Rattle.wing_listing.specs.BothWays.{BothWays as ListedBothWays};
-ghost use Rattle.wing_listing.specs.Cases.{Case as ListedCase, cases as listedCases};
+ghost use Rattle.wing_listing.specs.Cases.{Case as ListedCase, cases as listedCases, ends as listedEnds};
 ghost use Rattle.wing_meters.specs.Moving.{Moving};
 ghost use Rattle.wing_meters.specs.Cases.{Case as WindowCase, cases as windowCases};
 ghost use Rattle.wing_mirror.specs.Record.{full};
@@ -239,6 +239,11 @@ pub fn marked_cases()
 // So it is for whole texts.
 pub fn listing_cases()
     ensures { map (λ (c : ListedCase). c.got) listedCases ≡ map (λ (c : ListedCase). c.wanted) listedCases }
+{}
+
+// The largest and the least id and integer in a listing (02): what the definition gives is what is wanted.
+pub fn listing_ends()
+    ensures { listedEnds.got ≡ listedEnds.wanted }
 {}
 
 // 01's 15 and 14 bytes, and definitions of each type: what the parser, an item's number and, from the same fields (02), the writer give in each is what is wanted.

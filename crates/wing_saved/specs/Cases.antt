@@ -1,5 +1,6 @@
 -- The bytes before the store, written out for some controls, one table: the order of the fields and the width of each, byte for byte; and the same of
--- version 1, for two. Then the same of old states, which version 1 has, with the number of every class.
+-- version 1, for two.
+-- Then the same of old states, which version 1 has, with the number of every class.
 use Rattle.std.specs.Prelude.{ℕ, true, false, List, [], ◌∷◌, ◌++◌, pos, negsuc, take, drop, replicate}
 use Rattle.wing_wire.specs.State.{escape, control, fresh_control}
 use Rattle.wing_wire.specs.Earlier.{earlier_control, earlier_state, earlier_fresh}

@@ -20,8 +20,8 @@ use Rattle.wing_wire.specs.declared.state.Token.TheVariants.{Between, Number, St
 use Rattle.wing_wire.specs.declared.meter.Meter.TheVariants.{Channel, Aux, Bus, Main, Matrix, Dca, Fx, Source, Output, Monitor, Rta, Channel2, Aux2, Bus2, Main2, Matrix2}
 use Rattle.wing_wire.specs.declared.meter.MetersRead.TheVariants.{Readings}
 
--- what a case gives: units, a channel, the event of a next call, the bytes of a command, or what a packet leaves;
--- or the event at its node, or whether a state is sound
+-- what a case gives: units, a channel, the event of a next call, the bytes of a command, or what a packet leaves
+-- and the event at its node, or whether a state is sound
 pub data Outcome : Type 0 where
   units : List StreamUnit → Outcome
   channel : ℤ → Outcome
