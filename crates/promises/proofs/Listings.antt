@@ -79,6 +79,9 @@ print-call t out b = record {
   loads = λ n e s memory a f.
       let p : (usable full t ≡ true) × (n ≡ length (printed t)) × (take n (print_of t out).out ≡ printed t) = unfold print_of in print-told t out n e in
       subst (λ (x : List ℕ). EqualMirror t memory (load_of x memory)) (sym p.2) (both_ways.back t memory b p.0 (omega (arith, p.1)) a f);
+  loads_in_places = λ n e s memory a m f.
+      let p : (usable full t ≡ true) × (n ≡ length (printed t)) × (take n (print_of t out).out ≡ printed t) = unfold print_of in print-told t out n e in
+      subst (λ (x : List ℕ). EqualMirror t memory (load_of x memory)) (sym p.2) (both_ways.back t memory b p.0 (omega (arith, p.1)) ((allowed (length memory / width)).1 (a, m)) f);
   same = refl;
 }
   where

@@ -65,7 +65,7 @@ record Kept (k n : ℕ) (q : List ℕ) : Type 0 where
   pub known : k ≤ 2
   pub four : k ≤ 1 → n ≡ 4
   pub text : k ≡ 2 → (n ≤ 256) × (utf8 (take n q) ≡ true)
-  pub zero-filled : zeros (drop n q) ≡ true
+  pub zero_filled : zeros (drop n q) ≡ true
 
 kept-says : (k n : ℕ) (q : List ℕ) → well_kept k n q ≡ true → Kept k n q
 unfolding well_kept string_kept
@@ -76,13 +76,13 @@ kept-says k n q = go (leb k 1) refl
         let b = if-both (eqb n 4) (zeros (drop 4 q)) h in
         let l = eqb-true n 4 b.0 in
         let s = leb-true k 1 e in
-        record { known = omega arith; four = λ _. l; text = λ x. absurd (omega arith); zero-filled = rw l b.1 }
+        record { known = omega arith; four = λ _. l; text = λ x. absurd (omega arith); zero_filled = rw l b.1 }
     go false e h =
         let b = if-both (eqb k 2) (if (leb n 256) (if (zeros (drop n q)) (utf8 (take n q)) false) false) h in
         let z = eqb-true k 2 b.0 in
         let d = if-both (leb n 256) (if (zeros (drop n q)) (utf8 (take n q)) false) b.1 in
         let f = if-both (zeros (drop n q)) (utf8 (take n q)) d.1 in
-        record { known = omega arith; four = λ x. absurd (omega arith); text = λ _. (leb-true n 256 d.0, f.1); zero-filled = f.0 }
+        record { known = omega arith; four = λ x. absurd (omega arith); text = λ _. (leb-true n 256 d.0, f.1); zero_filled = f.0 }
 
 says-kept : (k n : ℕ) (q : List ℕ) → Kept k n q → well_kept k n q ≡ true
 unfolding well_kept string_kept
@@ -91,24 +91,24 @@ says-kept k n q h = go (leb k 1) refl
     go : (a : Bool) → leb k 1 ≡ a → if a (if (eqb n 4) (zeros (drop 4 q)) false) (if (eqb k 2) (if (leb n 256) (if (zeros (drop n q)) (utf8 (take n q)) false) false) false) ≡ true
     go true e =
         let l : n ≡ 4 = h.four (leb-true k 1 e) in
-        rw (eq-eqb n 4 l) (rw l at h.zero-filled)
+        rw (eq-eqb n 4 l) (rw l at h.zero_filled)
     go false e =
         let z : k ≡ 2 = omega (arith, leb-false k 1 e, h.known) in
         let t = h.text z in
-        rw (eq-eqb k 2 z, le-leb n 256 t.0, h.zero-filled) t.1
+        rw (eq-eqb k 2 z, le-leb n 256 t.0, h.zero_filled) t.1
 
 form-says : (p : List ℕ) → well_formed p ≡ true → RecordBytes p
 unfolding well_formed
 form-says p h =
     let b = if-both (leb (origin_byte_at p) 1) (well_kept (kind_at p) (length_at p) (drop 8 p)) h in
     let k = kept-says (kind_at p) (length_at p) (drop 8 p) b.1 in
-    record { kind = k.known; origin = leb-true (origin_byte_at p) 1 b.0; number = k.four; string = k.text; filled = zeros-filled (length_at p) p k.zero-filled }
+    record { kind = k.known; origin = leb-true (origin_byte_at p) 1 b.0; number = k.four; string = k.text; filled = zeros-filled (length_at p) p k.zero_filled }
 
 says-form : (p : List ℕ) → RecordBytes p → well_formed p ≡ true
 unfolding well_formed
 says-form p h =
     rw (le-leb (origin_byte_at p) 1 h.origin)
-    (says-kept (kind_at p) (length_at p) (drop 8 p) (record { known = h.kind; four = h.number; text = h.string; zero-filled = filled-zeros (length_at p) p h.filled }))
+    (says-kept (kind_at p) (length_at p) (drop 8 p) (record { known = h.kind; four = h.number; text = h.string; zero_filled = filled-zeros (length_at p) p h.filled }))
 
 -- ---- lists by number
 

@@ -62,6 +62,9 @@ pub record PrintCall (t : Table) (out : List ℕ) (answer : Written) (after : Li
   -- origin set aside, with a fresh decoder, whatever the memory held
   pub loads : (n : ℕ) → answer ≡ Bytes n → n ≤ 65536 → (memory : List ℕ) → places_allowed (length memory / width) ≡ true → t.count ≤ length memory / width →
       EqualMirror t memory (load_of (take n after) memory)
+  -- the same in figures: 1 to 1,024 places of 264 bytes each
+  pub loads_in_places : (n : ℕ) → answer ≡ Bytes n → n ≤ 65536 → (memory : List ℕ) → 1 ≤ length memory / 264 → length memory / 264 ≤ 1024 → t.count ≤ length memory / 264 →
+      EqualMirror t memory (load_of (take n after) memory)
   -- it is the call that BothWays of wing_listing's specs/ speaks of
   pub same : write_effect answer after ≡ print_of t out
 
