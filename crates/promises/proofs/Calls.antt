@@ -1,14 +1,15 @@
 -- What is promised of the mirror's calls, as specs/Mirror states it.
-use Prim.Native.Nat.{ℕ}
-use mathlib.Core.Bool.{Bool, true, false, not}
+use Prim.Native.Nat.{ℕ, zero, suc, ◌-◌, ◌<◌, ◌≤◌}
+use mathlib.Core.Bool.{Bool, true, false, not, true≢false}
 use mathlib.Core.Path.{◌≡◌, refl, sym, ◌∙◌, ap}
 use mathlib.Core.Logic.{◌↔◌}
 use mathlib.Core.List.{List, [], ◌∷◌, ◌++◌, map}
 use native.Mathlib.Omega.{arith}
+use native.Mathlib.Nat.{suc-sub-suc}
 use borrow.Author.Tests.{ltb-true, leb-true, eq-eqb, ne_eqb}
 use lib.Dec.{ltb, leb}
 use lib.IntN.{ℤ}
-use lib.ListN.{length, drop, get_or}
+use lib.ListN.{length, drop, get_or, replicate, length-replicate}
 use Rattle.wing_node.proofs.Refusals.{reason}
 use Rattle.wing_node.specs.Refusal.{refusal_number, alone, string_not_utf8}
 use Rattle.wing_node.specs.Bool.{if}
@@ -16,7 +17,8 @@ use Rattle.wing_node.specs.Result.{Result, ok, refused}
 use Rattle.wing_node.specs.Signed.{InBits}
 use Rattle.wing_node.specs.Utf8.{utf8}
 use Rattle.wing_node.specs.Value.{NodeValue, integer, float, string}
-use Rattle.wing_node.proofs.Branches.{branch}
+use Rattle.wing_node.specs.declared.value.Value.TheVariants.{String}
+use Rattle.wing_node.proofs.Branches.{branch, if-both}
 use Rattle.wing_wire.specs.Range.{AreBytes}
 use Rattle.wing_wire.specs.State.{body_limit, sound_state}
 use Rattle.wing_wire.specs.Write.{WriteEffect, write_effect, write_of}
@@ -25,35 +27,44 @@ use Rattle.wing_wire.specs.RoundTrip.{Settable}
 use Rattle.wing_wire.specs.SetOrders.{ReadsAsSet}
 use Rattle.wing_wire.specs.Answers.{written_result}
 use Rattle.wing_wire.specs.declared.state.State.{State}
-use Rattle.wing_wire.specs.declared.write.Written.TheVariants.{Bytes}
+use Rattle.wing_wire.specs.declared.write.Written.TheVariants.{Bytes, Refused}
+use Rattle.wing_wire.proofs.Reading.Overs.{over-whole}
 use Rattle.wing_wire.proofs.BothWays.Orders.{reads-as-set}
 use Rattle.wing_mirror.specs.Rows.{Table, Found, found, nothing}
-use Rattle.wing_mirror.specs.Entry.{Entry, entry, Typed}
+use Rattle.wing_mirror.specs.Entry.{Entry, entry, storable, Typed}
 use Rattle.wing_mirror.specs.Record.{entry_in, full}
 use Rattle.wing_mirror.specs.Table.{rows, usable, put, fits, lookup_of}
-use Rattle.wing_mirror.specs.Query.{answer_of, lookup_answer, read_of, refused_record, record_answer, same_tables, same_answer}
+use Rattle.wing_mirror.specs.Query.{answer_of, lookup_answer, value_of, bytes_beside, read_of, refused_record, record_answer, same_tables, same_answer}
 use Rattle.wing_mirror.specs.Answers.{lookup_result, entry_result, record_result, same_result, feed_result}
 use Rattle.wing_mirror.specs.Call.{text_in, too_long, not_text}
+use Rattle.wing_mirror.specs.Lookups.{RecordOf}
 use Rattle.wing_mirror.specs.Counts.{zero_counts}
-use Rattle.wing_mirror.specs.Mirror.{FeedEffect, fed_all, taken_feed, mirror_feed, lent_feed, SetEffect, mirror_set}
+use Rattle.wing_mirror.specs.Mirror.{FeedEffect, fed_all, taken_feed, mirror_feed, lent_feed, SetEffect, refused_set, mirror_set}
 use Rattle.wing_mirror.specs.Recall.{recall_bytes, recall_of}
 use Rattle.wing_mirror.specs.History.{Equal, mirror_step}
 use Rattle.wing_mirror.specs.Origins.{entries_of, Taken}
 use Rattle.wing_mirror.specs.declared.answer.Counts.{Counts}
 use Rattle.wing_mirror.specs.declared.answer.Lookup.TheVariants.{Refused as LookupRefused}
+use Rattle.wing_mirror.specs.declared.answer.RecordAnswer.TheVariants.{Record}
 use Rattle.wing_mirror.specs.declared.answer.RecordRead.{RecordRead}
 use Rattle.wing_mirror.specs.declared.answer.Same.TheVariants.{Yes, No, Refused as SameRefused}
+use Rattle.wing_mirror.specs.declared.origin.Origin.{Origin}
 use Rattle.wing_mirror.specs.declared.origin.Origin.TheVariants.{SetOrder}
 use Rattle.wing_mirror.proofs.Records.Full.{full-laws}
 use Rattle.wing_mirror.proofs.Histories.Origins.{who-set-it}
 use Rattle.wing_mirror.proofs.Records.Equals.{same-decides}
 use Rattle.wing_mirror.proofs.Records.Lookups.{read-row, lookups}
 use Rattle.wing_mirror.proofs.Calls.Outcomes.{passed, set_cases}
+use Rattle.wing_mirror.proofs.Calls.Feeds.{feed-counts}
 use Rattle.wing_mirror.proofs.Histories.Demand.{histories}
-use Rattle.promises.specs.Lines.{◌gives◌, by, Answers}
-use Rattle.promises.specs.Mirror.{mirror, set_lines, table_lines, record_lines, same_lines, FeedCall, LentFeedCall, SetCall, RecallCall, LookupCall, RecordCall, SameCall}
+use Rattle.promises.specs.Refusals.{no_place}
+use Rattle.promises.specs.Lines.{Line, ◌gives◌, by, sends, Answers}
+use Rattle.promises.specs.TableBytes.{place_at, id_at, NoPlaceLeft}
+use Rattle.promises.specs.Mirror.{mirror, value_lines, set_lines, set_value_lines, table_lines, record_lines, same_lines, said, beside, FeedCall, LentFeedCall, SetCall, RecallCall, LookupCall, RecordCall, SameCall}
 use Rattle.promises.proofs.Lines.{taken, line, unless, given}
-use Rattle.promises.proofs.Writers.{at_front, past-front, written-rest, command-writes}
+use Rattle.promises.proofs.Feeding.{feed-runs}
+use Rattle.promises.proofs.Writers.{at_front, Rest, refused-rest, whole-rest, written-rest, command-writes}
+use Rattle.promises.proofs.Tables.{id-there, formed as row-formed, no_place_lem}
 
 -- ---- feed
 
@@ -67,6 +78,8 @@ feed-call s t bytes = record {
       (unless feeds W counts (leb (length bytes) 65536) (alone 14) _ _ _ refl (refl, refl) (taken feeds W counts (taken_feed (fed_all full s t bytes)) refl)));
   step = refl;
   origins = (who-set-it full-laws).by_feed s t bytes;
+  bounded = unfold mirror_feed in feed-counts full s t bytes;
+  runs = feed-runs s t bytes;
 }
   where
     counts : Counts
@@ -96,30 +109,64 @@ settable (integer x) h p q = h
 settable (float bits) h p q = omega arith
 settable (string s) h p q = (leb-true (length s) 256 (passed (leb (length s) 256) p), passed (utf8 s) q)
 
+-- a value that no line of its own sends back passes both tests
+value_passes : (v : NodeValue) → sends (value_lines v) ≡ ok tt → (too_long v ≡ false) × (not_text v ≡ false)
+unfolding by too_long not_text
+value_passes (integer x) h = (refl, refl)
+value_passes (float bits) h = (refl, refl)
+value_passes (string s) h = go (leb (length s) 256) (utf8 s) h
+  where
+    go : (a b : Bool) → sends ((not a gives alone 10) ∷ (not b gives string_not_utf8 s) ∷ []) ≡ ok tt → (not a ≡ false) × (not b ≡ false)
+    go true true h = (refl, refl)
+    go true false h = absurd (given tt (string_not_utf8 s) (sym h))
+    go false b h = absurd (given tt (alone 10) (sym h))
+
+module _ (t : Table) (out : List ℕ) where
+  -- what a set came to, and that all is as it was
+  abbrev sets : SetEffect → Result (List ℕ)
+  sets x = written_result x.answer x.out
+
+  abbrev Stays : SetEffect → Type 0
+  Stays x = (x.out ≡ out) × (x.table ≡ t)
+
+  -- the tests of a value are its lines
+  value-answered : (v : NodeValue) (bytes : List ℕ) (ls : List Line) (y : SetEffect) → Answers ls bytes (sets y) (Stays y) →
+      let x = if (too_long v) (refused_set (alone 10) t out) (if (not_text v) (refused_set (string_not_utf8 (text_in v)) t out) y) in
+      Answers (value_lines v ++ ls) bytes (sets x) (Stays x)
+  unfolding too_long not_text written_result
+  value-answered (integer x) bytes ls y h = h
+  value-answered (float bits) bytes ls y h = h
+  value-answered (string s) bytes ls y h =
+      line sets Stays bytes (not (leb (length s) 256)) (alone 10) _ _ _ refl (refl, refl)
+      (line sets Stays bytes (not (utf8 s)) (string_not_utf8 s) _ _ _ refl (refl, refl) h)
+
 module _ (id : ℤ) (v : NodeValue) (t : Table) (out : List ℕ) where
   bytes : List ℕ
   bytes = set_bytes id v
 
-  set-answered : Answers (set_lines id v t out) bytes (written_result (mirror_set full id v t out).answer (mirror_set full id v t out).out) (((mirror_set full id v t out).out ≡ out) × ((mirror_set full id v t out).table ≡ t))
+  set-answered : Answers (set_lines id v t out) bytes (sets t out (mirror_set full id v t out)) (Stays t out (mirror_set full id v t out))
   unfolding mirror_set bytes written_result
   set-answered =
-      line sets W bytes (not (usable full t)) (alone 7) _ _ _ refl (refl, refl)
-      (line sets W bytes (too_long v) (alone 10) _ _ _ refl (refl, refl)
-      (line sets W bytes (not_text v) (string_not_utf8 (text_in v)) _ _ _ refl (refl, refl)
-      (line sets W bytes (not (fits full (entry id v SetOrder) t)) (alone 6) _ _ _ refl (refl, refl)
-      (line sets W bytes (ltb (length out) (length bytes)) (alone 9) _ _ _ refl (refl, refl) (taken sets W bytes (record { answer = Bytes (length bytes); out = bytes ++ drop (length bytes) out; table = put full (entry id v SetOrder) t }) (ap ok (at_front bytes out)))))))
-    where
-      sets : SetEffect → Result (List ℕ)
-      sets x = written_result x.answer x.out
+      line (sets t out) (Stays t out) bytes (not (usable full t)) (alone 7) _ _ _ refl (refl, refl)
+      (line (sets t out) (Stays t out) bytes (too_long v) (alone 10) _ _ _ refl (refl, refl)
+      (line (sets t out) (Stays t out) bytes (not_text v) (string_not_utf8 (text_in v)) _ _ _ refl (refl, refl)
+      (line (sets t out) (Stays t out) bytes (not (fits full (entry id v SetOrder) t)) (alone 6) _ _ _ refl (refl, refl)
+      (line (sets t out) (Stays t out) bytes (ltb (length out) (length bytes)) (alone 9) _ _ _ refl (refl, refl) (taken (sets t out) (Stays t out) bytes (record { answer = Bytes (length bytes); out = bytes ++ drop (length bytes) out; table = put full (entry id v SetOrder) t }) (ap ok (at_front bytes out)))))))
 
-      W : SetEffect → Type 0
-      W x = (x.out ≡ out) × (x.table ≡ t)
+  set-by-value : Answers (set_value_lines id v t out) bytes (sets t out (mirror_set full id v t out)) (Stays t out (mirror_set full id v t out))
+  unfolding mirror_set bytes written_result
+  set-by-value =
+      line (sets t out) (Stays t out) bytes (not (usable full t)) (alone 7) _ _ _ refl (refl, refl)
+      (value-answered t out v bytes _ _
+      (line (sets t out) (Stays t out) bytes (not (fits full (entry id v SetOrder) t)) (alone 6) _ _ _ refl (refl, refl)
+      (line (sets t out) (Stays t out) bytes (ltb (length out) (length bytes)) (alone 9) _ _ _ refl (refl, refl)
+      (taken (sets t out) (Stays t out) bytes (record { answer = Bytes (length bytes); out = bytes ++ drop (length bytes) out; table = put full (entry id v SetOrder) t }) (ap ok (at_front bytes out))))))
 
-  set_rest : (n : ℕ) → (mirror_set full id v t out).answer ≡ Bytes n → drop n (mirror_set full id v t out).out ≡ drop n out
+  set_rest : (n : ℕ) → (mirror_set full id v t out).answer ≡ Bytes n → (n ≡ length (set_bytes id v)) × (drop n (mirror_set full id v t out).out ≡ drop n out)
   unfolding bytes
   set_rest =
-      set_cases full id v t out (λ x. (n : ℕ) → x.answer ≡ Bytes n → drop n x.out ≡ drop n out) (λ k n e. refl)
-      (λ o p q f d n e. past-front bytes out n (let z : length bytes ≡ n = cc in z))
+      set_cases full id v t out (λ x. (n : ℕ) → x.answer ≡ Bytes n → (n ≡ length bytes) × (drop n x.out ≡ drop n out)) (λ k n e. absurd (let z : ◌≡◌ {A = ℕ} 0 1 = cc in omega arith))
+      (λ o p q f d. whole-rest bytes out)
 
   whole : ltb (length out) (length bytes) ≡ false → write_effect (Bytes (length bytes)) (bytes ++ drop (length bytes) out) ≡ write_of bytes out
   unfolding write_of
@@ -131,9 +178,32 @@ module _ (id : ℤ) (v : NodeValue) (t : Table) (out : List ℕ) where
       set_cases full id v t out (λ x. ReadsAsSet id v x.answer x.out) (λ k. tt)
       (λ o p q f d. reads-as-set id v i (settable v h p q) out (Bytes (length bytes)) (bytes ++ drop (length bytes) out) (whole d))
 
+  -- 6 comes exactly where the value does not fit, once the lines before it are passed
+  set-six : usable full t ≡ true → sends (value_lines v) ≡ ok tt → ((mirror_set full id v t out).answer ≡ Refused no_place ↔ fits full (entry id v SetOrder) t ≡ false)
+  unfolding mirror_set
+  set-six u h = let p = value_passes v h in rw (u, p.0, p.1) (go (fits full (entry id v SetOrder) t) (ltb (length out) (length (set_bytes id v))) _ _)
+    where
+      go : (f l : Bool) (o : List ℕ) (w : Table) → ((if (not f) (refused_set (alone 6) t out) (if l (refused_set (alone 9) t out) (record { answer = Bytes (length (set_bytes id v)); out = o; table = w }))).answer ≡ Refused (alone 6) ↔ f ≡ false)
+      go false l o w = (λ _. refl, λ _. refl)
+      go true true o w = (λ e. absurd (let z : ◌≡◌ {A = ℕ} 9 6 = cc in omega arith), λ e. absurd (true≢false e))
+      go true false o w = (λ e. absurd (let z : ◌≡◌ {A = ℕ} 0 1 = cc in omega arith), λ e. absurd (true≢false e))
+
+  set-unplaced : InBits 31 id → AreBytes t.buffer → usable full t ≡ true → sends (value_lines v) ≡ ok tt → ((mirror_set full id v t out).answer ≡ Refused no_place ↔ NoPlaceLeft id t)
+  set-unplaced i b u h =
+      let s = set-six u h in
+      let p = no_place_lem t id v SetOrder b i u in
+      (λ e. p.0 (s.0 e), λ x. s.1 (p.1 x))
+
   pub set-call : InBits 31 id → Typed v → SetCall id v t out (mirror_set full id v t out).answer (mirror_set full id v t out).table (mirror_set full id v t out).out
   unfolding mirror_step bytes
-  set-call i h = record { writes = record { answered = set-answered; rest = set_rest }; reads = set_reads i h; step = λ s. refl; origins = λ b n e. (who-set-it full-laws).by_set t id v out n b (i, h) e }
+  set-call i h = record {
+    writes = record { answered = set-answered; rest = λ n e. (set_rest n e).1; told = λ n e. (set_rest n e).0 };
+    by_value = set-by-value;
+    reads = set_reads i h;
+    step = λ s. refl;
+    origins = λ b n e. (who-set-it full-laws).by_set t id v out n b (i, h) e;
+    unplaced = set-unplaced i;
+  }
 
 -- ---- recall
 
@@ -142,13 +212,18 @@ unfolding recall_of written_result
 recall-call t out b = record {
   writes = record {
     answered = unless came W (recall_bytes full t) (usable full t) (alone 7) _ _ _ refl (refl, tt) (command-writes (recall_bytes full t) out).answered;
-    rest = branch (λ (x : WriteEffect). (n : ℕ) → x.answer ≡ Bytes n → drop n x.out ≡ drop n out) (usable full t) _ _ (λ _. written-rest (recall_bytes full t) out) (λ _ n e. refl);
+    rest = λ n e. (went n e).1;
+    told = λ n e. (went n e).0;
   };
   rebuilds = unfold recall_of in (histories full-laws).tables t b out;
+  order = unfold recall_bytes in refl;
 }
   where
     came : WriteEffect → Result (List ℕ)
     came x = written_result x.answer x.out
+
+    went : Rest (recall_bytes full t) out (recall_of full t out)
+    went = branch (Rest (recall_bytes full t) out) (usable full t) _ _ (λ _. written-rest (recall_bytes full t) out) (λ _. refused-rest (alone 7) (recall_bytes full t) out out)
 
     W : WriteEffect → Type 0
     W x = (x.out ≡ out) × Unit {0}
@@ -211,6 +286,37 @@ record-zeros t number n =
     of-refused : (k : ℕ) → P (refused_record k)
     of-refused k e = let z : k ≡ n = ap refusal_number (ap (reason (alone n)) e) in rw z
 
+-- zeros after some of them
+fewer-zeros : (k m : ℕ) → ◌≡◌ {A = List ℕ} (drop k (replicate m 0)) (replicate (m - k) 0)
+fewer-zeros zero m = let e : m - 0 ≡ m = omega arith in rw e
+fewer-zeros (suc k) zero = let e : zero - suc k ≡ 0 = omega arith in rw e
+fewer-zeros (suc k) (suc m) = rw (suc-sub-suc m k) (fewer-zeros k m)
+
+-- the reply of an entry, where its value may stand in a table
+read_whole : (id : ℤ) (v : NodeValue) (o : Origin) → storable v ≡ true → read_of (entry id v o) ≡ record { answer = Record id (said v) o; string = beside v }
+unfolding read_of value_of bytes_beside storable
+read_whole id (integer x) o h = refl
+read_whole id (float bits) o h = refl
+read_whole id (string s) o h =
+    let l : length s ≤ 256 = leb-true (length s) 256 (if-both (leb (length s) 256) (utf8 s) h).0 in
+    ap (λ (x : List ℕ). record { answer = Record id (String (length s)) o; string = x })
+    (over-whole s (replicate 256 0) (omega (arith, length-replicate {A = ℕ} 256 0)) ∙ ap (λ (x : List ℕ). s ++ x) (fewer-zeros (length s) 256))
+
+record-whole : (t : Table) (number : ℕ) → AreBytes t.buffer → (e : Entry) → record_result (record_answer full t number) ≡ ok e →
+    record_answer full t number ≡ record { answer = Record e.id (said e.value) e.origin; string = beside e.value }
+unfolding record_answer
+record-whole t number b e = go (usable full t) refl (ltb number t.count) refl
+  where
+    go : (u : Bool) → usable full t ≡ u → (l : Bool) → ltb number t.count ≡ l → record_result (record_answer full t number) ≡ ok e →
+        (if u (if l (read_of (entry_in (get_or (rows full t) number []))) (refused_record 14)) (refused_record 7)) ≡ record { answer = Record e.id (said e.value) e.origin; string = beside e.value }
+    go true p true q h =
+        let l = ltb-true number t.count q in
+        let same : ◌≡◌ {A = Result Entry} (ok (entry_in (get_or (rows full t) number []))) (ok e) = sym (read-row full-laws t b p number l) ∙ h in
+        let w : ◌≡◌ {A = Entry} (entry_in (get_or (rows full t) number [])) e = cc in
+        rw (← w) (read_whole (entry_in (get_or (rows full t) number [])).id (entry_in (get_or (rows full t) number [])).value (entry_in (get_or (rows full t) number [])).origin (full-laws.valid (get_or (rows full t) number []) (row-formed t b p number l)).text)
+    go true p false q h = absurd (given e (alone 14) (sym h ∙ refused-record-result t number 14 (record-14 t number p q)))
+    go false p l q h = absurd (given e (alone 7) (sym h ∙ refused-record-result t number 7 (record-7 t number p)))
+
 same-result : (t u : Table) → same_result (same_answer full t u) ≡ by (same_lines t u) (same_tables full t u)
 unfolding same_answer same_result by
 same-result t u = go (usable full t) (usable full u) (same_tables full t u)
@@ -234,11 +340,34 @@ same_entries : (t u : Table) → Taken full t → Taken full u → (same_result 
 unfolding same_result
 same_entries t u a b = (λ e. ap (map entry_in) ((same-equal t u a.1 b.1).0 e).records, λ q. ap same_result (((who-set-it full-laws).compared t u a b).1 q))
 
+-- a record that is there and has this id, by the table's bytes
+module _ (t : Table) (b : AreBytes t.buffer) (u : usable full t ≡ true) (id : ℤ) (n : ℕ) where
+  said-id : RecordOf full t n id → (n < t.count) × (id_at (place_at n t.buffer) ≡ id)
+  said-id r = go (ltb n t.count) refl
+    where
+      go : (x : Bool) → ltb n t.count ≡ x → (n < t.count) × (id_at (place_at n t.buffer) ≡ id)
+      go true q =
+          let l = ltb-true n t.count q in
+          let same : ◌≡◌ {A = Result Entry} (ok (entry_in (get_or (rows full t) n []))) (ok (entry id r.value r.origin)) = sym (read-row full-laws t b u n l) ∙ r.read in
+          let w : ◌≡◌ {A = Entry} (entry_in (get_or (rows full t) n [])) (entry id r.value r.origin) = cc in
+          (l, sym (id-there t n l) ∙ ap (λ (x : Entry). x.id) w)
+      go false q = absurd (given (entry id r.value r.origin) (alone 14) (sym r.read ∙ refused-record-result t n 14 (record-14 t n u q)))
+
+  id-said : (n < t.count) × (id_at (place_at n t.buffer) ≡ id) → RecordOf full t n id
+  id-said x =
+      let e = entry_in (get_or (rows full t) n []) in
+      record { value = e.value; origin = e.origin; read = read-row full-laws t b u n x.0 ∙ ap (λ (j : ℤ). ok (entry j e.value e.origin)) (id-there t n x.0 ∙ x.1) }
+
 pub lookup-call : (t : Table) (id : ℤ) → AreBytes t.buffer → InBits 31 id → LookupCall t id (lookup_answer full t id)
-lookup-call t id b i = record { result = lookup-result t id; at = λ number. (lookups full-laws).at t id number b i; nowhere = λ u. (lookups full-laws).none t id b i u }
+lookup-call t id b i = record {
+  result = lookup-result t id;
+  at = λ number. (lookups full-laws).at t id number b i;
+  nowhere = λ u. (lookups full-laws).none t id b i u;
+  there = λ u n. let at = (lookups full-laws).at t id n b i in (λ e. said-id t b u id n (at.0 e), λ x. at.1 (id-said t b u id n x));
+}
 
 pub record-call : (t : Table) (number : ℕ) → AreBytes t.buffer → RecordCall t number (record_answer full t number)
-record-call t number b = record { result = record-result t number b; zeros = record-zeros t number }
+record-call t number b = record { result = record-result t number b; whole = record-whole t number b; zeros = record-zeros t number; zero_bytes = λ n e. record-zeros t number n e }
 
 pub same-call : (t u : Table) → SameCall t u (same_answer full t u)
 same-call t u = record { result = same-result t u; equal = same-equal t u; entries = same_entries t u }

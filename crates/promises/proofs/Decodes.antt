@@ -9,6 +9,7 @@ use Rattle.wing_wire.specs.Units.{settled}
 use Rattle.wing_wire.specs.declared.state.Pending.TheVariants.{None, Byte}
 use Rattle.wing_wire.specs.declared.escape.Unit.TheVariants.{Nothing, Appended}
 use Rattle.wing_wire.specs.declared.state.Escape.{Escape}
+use Rattle.wing_wire.proofs.Reading.NextUnits.{units-by-step}
 use Rattle.wing_wire.proofs.Laws.{decoder-laws}
 use Rattle.promises.specs.Wire.{DecodeCall}
 
@@ -26,4 +27,4 @@ unfolding decode_next_of byte_next
 next_end e bytes at p l = rw (p, le-ltb at (length bytes) l)
 
 pub decode_call : (e : Escape) (bytes : List ℕ) (at : ℕ) → DecodeCall e bytes at (decode_next_of e bytes at)
-decode_call e bytes at = record { pending = next-pending e bytes at; byte = next-byte e bytes at; end = next_end e bytes at; sound = decoder-laws.sound.step e bytes at }
+decode_call e bytes at = record { pending = next-pending e bytes at; byte = next-byte e bytes at; end = next_end e bytes at; first = units-by-step e bytes at; sound = decoder-laws.sound.step e bytes at }

@@ -7,7 +7,10 @@ mod NextCalls
 mod Decodes
 mod Writers
 mod Savers
+mod Feeding
+mod Tables
 mod Calls
+mod Searching
 mod Listings
 mod Carries
 mod Windows

@@ -1,16 +1,22 @@
 -- What is promised of listings, as specs/Listing states it.
 use Prim.Native.Nat.{ℕ, ◌/◌, ◌≤◌}
-use mathlib.Core.Bool.{true, false, not}
+use mathlib.Core.Bool.{Bool, true, false, not}
 use mathlib.Core.Path.{◌≡◌, refl, sym, ◌∙◌, ap, ap₂, subst}
 use mathlib.Core.Logic.{◌⊎◌, inl, inr, ⊎_elim, ◌↔◌}
 use mathlib.Core.List.{List, [], ◌∷◌, ◌++◌, map}
 use native.Mathlib.Omega.{arith}
 use borrow.Author.Tests.{le-ltb, le-leb}
 use lib.Dec.{ltb, leb}
+use lib.IntN.{ℤ}
 use lib.ListN.{length, take, drop}
 use Rattle.wing_node.proofs.Refusals.{reason}
 use Rattle.promises.specs.Refusals.{string_wrong, no_place, table_unsound, string_long, number_over, line_wrong, id_not_above}
-use Rattle.wing_node.specs.Refusal.{refusal_number, good_beside, alone}
+use Rattle.wing_node.specs.Bool.{if}
+use Rattle.wing_node.specs.Refusal.{refusal_number, good_beside, alone, because, no_fault, by_number, string_not_utf8}
+use Rattle.wing_node.specs.Utf8.{utf8, good as good_of}
+use Rattle.wing_node.specs.Value.{NodeValue, integer, float, string}
+use Rattle.wing_node.specs.declared.refusal.Fault.{Fault}
+use Rattle.wing_node.specs.declared.refusal.Fault.TheVariants.{None, Refused as Because}
 use Rattle.wing_node.specs.declared.refusal.Refusal.{Refusal}
 use Rattle.wing_node.specs.Result.{Result, refused}
 use Rattle.wing_node.proofs.Branches.{branch}
@@ -19,12 +25,14 @@ use Rattle.wing_wire.specs.State.{fresh_state}
 use Rattle.wing_wire.specs.Write.{WriteEffect, write_effect, write_of}
 use Rattle.wing_wire.specs.Answers.{written_result}
 use Rattle.wing_wire.specs.declared.write.Written.TheVariants.{Bytes, Refused as NotWritten}
-use Rattle.wing_mirror.specs.Rows.{Table, laid, In}
+use Rattle.wing_mirror.specs.Rows.{Table, Found, laid, In}
+use Rattle.wing_mirror.specs.Entry.{Entry}
+use Rattle.wing_mirror.specs.Call.{too_long, not_text}
 use Rattle.wing_mirror.specs.Record.{width, record_of, full}
 use Rattle.wing_mirror.specs.Table.{table, places_allowed, usable}
 use Rattle.wing_listing.specs.Listing.{printed}
-use Rattle.wing_listing.specs.Reading.{Reading, good, bad, reading_of, entries_in}
-use Rattle.wing_listing.specs.FirstBad.{FirstBad}
+use Rattle.wing_listing.specs.Reading.{Reading, good, bad, above, value_fault, reading_of, entries_in}
+use Rattle.wing_listing.specs.FirstBad.{entry_fault, BadHeader, BadForm, FirstBad}
 use Rattle.wing_listing.specs.Calls.{LoadEffect, load_effect, reply_of, sent_back, load_entries, load_read, load_of, print_of}
 use Rattle.wing_listing.specs.Answers.{loaded_result, line_in}
 use Rattle.wing_listing.specs.BothWays.{EqualMirror}
@@ -32,9 +40,10 @@ use Rattle.wing_listing.specs.declared.answer.Loaded.{Loaded}
 use Rattle.wing_listing.specs.declared.answer.Loaded.TheVariants.{Records, Refused}
 use Rattle.wing_listing.proofs.Texts.Rounds.{both_ways, loaded-rest}
 use Rattle.wing_listing.proofs.Texts.Faults.{Wrong, Known, known-reading}
-use Rattle.promises.specs.Lines.{◌gives◌, by, Answers}
-use Rattle.promises.specs.Listing.{reading_fault, load_lines, PrintCall, LoadCall}
+use Rattle.promises.specs.Lines.{Line, ◌gives◌, by, sends, Answers}
+use Rattle.promises.specs.Listing.{reading_fault, load_lines, text_lines, entry_lines, PrintCall, LoadCall}
 use Rattle.promises.proofs.Lines.{taken, line, unless, given}
+use Rattle.promises.proofs.Tables.{allowed}
 use Rattle.promises.proofs.Writers.{at_front, came, Kept, Rest, refused-rest, written-rest, command-writes}
 
 -- ---- print
@@ -63,14 +72,21 @@ unfolding print_of written_result
 print-call t out b = record {
   writes = record {
     answered = unless came (Kept out) (printed t) (usable full t) (alone 7) _ _ _ refl (refl, tt) (command-writes (printed t) out).answered;
-    rest = branch (Rest out) (usable full t) _ _ (λ _. written-rest (printed t) out) (λ _. refused-rest (alone 7) out out);
+    rest = λ n e. (went n e).1;
+    told = λ n e. (went n e).0;
   };
   counted = λ n e. let p : (usable full t ≡ true) × (n ≡ length (printed t)) × (take n (print_of t out).out ≡ printed t) = unfold print_of in print-told t out n e in p.1;
   loads = λ n e s memory a f.
       let p : (usable full t ≡ true) × (n ≡ length (printed t)) × (take n (print_of t out).out ≡ printed t) = unfold print_of in print-told t out n e in
       subst (λ (x : List ℕ). EqualMirror t memory (load_of x memory)) (sym p.2) (both_ways.back t memory b p.0 (omega (arith, p.1)) a f);
+  loads_in_places = λ n e s memory a m f.
+      let p : (usable full t ≡ true) × (n ≡ length (printed t)) × (take n (print_of t out).out ≡ printed t) = unfold print_of in print-told t out n e in
+      subst (λ (x : List ℕ). EqualMirror t memory (load_of x memory)) (sym p.2) (both_ways.back t memory b p.0 (omega (arith, p.1)) ((allowed (length memory / width)).1 (a, m)) f);
   same = refl;
 }
+  where
+    went : Rest (printed t) out (print_of t out)
+    went = branch (Rest (printed t) out) (usable full t) _ _ (λ _. written-rest (printed t) out) (λ _. refused-rest (alone 7) (printed t) out out)
 
 -- ---- load
 
@@ -221,11 +237,52 @@ module _ (memory : List ℕ) where
       let p = both_ways.again text memory n e in
       rw (p.sound, p.prints, le-ltb (length out) (length text) h)
 
+-- a header or a line out of form
+out-of-form : (text : List ℕ) (why : Refusal) (line : ℕ) → BadHeader text why line ⊎ BadForm text why line → why ≡ line_wrong
+out-of-form text why line (inl f) = f.number
+out-of-form text why line (inr f) = f.number
+
+-- the fault that lines come to
+abbrev fault_by : List Line → Fault
+fault_by [] = no_fault
+fault_by (None ∷ ls) = fault_by ls
+fault_by (Because why ∷ ls) = because why
+
+fault-sends : (ls : List Line) (why : Refusal) → (fault_by ls ≡ because why) ↔ (sends ls ≡ refused why)
+unfolding by
+fault-sends [] why = ((λ e. absurd (let z : ◌≡◌ {A = ℕ} 0 1 = cc in omega arith)), (λ e. absurd (given tt why e)))
+fault-sends (None ∷ ls) why = fault-sends ls why
+fault-sends (Because k ∷ ls) why = ((λ e. cc), (λ e. cc))
+
+-- what is wrong with a value, by its lines
+value-lines : (v : NodeValue) → value_fault v ≡ fault_by (text_lines v)
+unfolding value_fault too_long not_text
+value-lines (integer x) = refl
+value-lines (float bits) = refl
+value-lines (string s) = by_tests (leb (length s) 256) (utf8 s)
+  where
+    by_tests : (short text : Bool) →
+        if (not short) (by_number 10) (if (not text) (because (string_not_utf8 s)) no_fault) ≡ fault_by ((not short gives string_long) ∷ (not text gives string_wrong (good_of s)) ∷ [])
+    by_tests true true = refl
+    by_tests true false = refl
+    by_tests false text = refl
+
+entry-within : (before : Found ℤ) (e : Entry) (why : Refusal) → (entry_fault before e ≡ because why) ↔ (sends (entry_lines before e) ≡ refused why)
+unfolding entry_fault
+entry-within before e why = rw (entry-fault (above before e.id)) (fault-sends (entry_lines before e) why)
+  where
+    entry-fault : (rises : Bool) → if rises (value_fault e.value) (by_number 18) ≡ fault_by ((not rises gives id_not_above) ∷ text_lines e.value)
+    entry-fault true = value-lines e.value
+    entry-fault false = refl
+
 pub load_call : (text memory : List ℕ) → LoadCall text memory (load_of text memory).reply (load_of text memory).memory
 load_call text memory = record {
   answered = load-answered memory text;
   no_other = load-reasons memory text;
   first = load-first memory text;
+  allowed = allowed (length memory / width);
+  form = out-of-form text;
+  within = entry-within;
   no_line = no_line_lem memory text (load_of text memory).reply.answer (load-about memory text);
   fresh = load_fresh memory text;
   sound = λ n e. (both_ways.again text memory n e).sound;

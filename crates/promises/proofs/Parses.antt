@@ -1,9 +1,15 @@
 -- What is promised of the parser and of the item calls, as specs/Node states it: wing_node's laws, said of the answers.
-use Prim.Native.Nat.{ℕ, ◌≤◌}
-use mathlib.Core.Path.{◌≡◌, refl, sym, ◌∙◌, ap}
+use Prim.Native.Nat.{ℕ, ◌-◌, ◌/◌, ◌%◌, ◌^◌, ◌≤◌, ◌<◌}
+use mathlib.Core.Bool.{Bool, true}
+use mathlib.Core.Path.{◌≡◌, refl, sym, ◌∙◌, ap, subst}
 use mathlib.Core.Logic.{◌↔◌, ◌⊎◌, inl, inr}
 use mathlib.Core.List.{List, [], ◌∷◌}
 use native.Mathlib.Omega.{arith}
+use lib.Dec.{T, ltb, leb, eqb, leb→le, eqb→eq}
+use borrow.Author.Tests.{lt-ltb}
+use Rattle.wing_node.specs.Bool.{if, and}
+use Rattle.wing_node.specs.Utf8.{ones_in, class}
+use Rattle.wing_node.proofs.Below.{every, and-T-left, and-T-right, below}
 use Rattle.promises.specs.Refusals.{definition_short, definition_wrong, number_over}
 use Rattle.wing_node.specs.Refusal.{refusal_number, good_beside}
 use Rattle.wing_node.specs.declared.refusal.Refusal.{Refusal}
@@ -16,7 +22,7 @@ use Rattle.wing_node.specs.Parsing.{parser_says, Takes, begin_says, number_says,
 use Rattle.wing_node.specs.declared.items.Walk.{Walk}
 use Rattle.wing_node.proofs.Bodies.Walks.{definitions}
 use Rattle.wing_mirror.specs.Rows.{In}
-use Rattle.promises.specs.Node.{AllStand, ParserCall, BeginCall, StepCall, ItemCall}
+use Rattle.promises.specs.Node.{AllStand, LeadingOnes, ParserCall, BeginCall, StepCall, ItemCall}
 use Rattle.promises.proofs.Lines.{given}
 
 -- 4 or 5 as a member of the list
@@ -119,4 +125,30 @@ module _ (body : List ℕ) where
       given = λ s l. i.given (whole-taken s) l;
       said = λ s l. i.said (whole-taken s) l;
       same = refl;
+    }
+
+-- ---- the class of a lead byte: one test, computed at each of 256 bytes
+
+abbrev bit_at : ℕ → ℕ → ℕ
+bit_at b i = b / 2 ^ (7 - i) % 2
+
+abbrev next_zero : ℕ → Bool → Bool
+next_zero b within = if within (eqb (bit_at b (class b)) 0) true
+
+leads : ℕ → Bool
+leads b = and (leb (class b) 8) (and (every (class b) (λ i. eqb (bit_at b i) 1)) (next_zero b (ltb (class b) 8)))
+
+computed : (b : ℕ) → b < 256 → T (leads b)
+unfolding leads ones_in class
+computed = below leads 256 tt
+
+pub leading_ones : (b : ℕ) → b < 256 → LeadingOnes (class b) b
+unfolding leads
+leading_ones b h =
+    let t = computed b h in
+    let u = and-T-right (leb (class b) 8) _ t in
+    record {
+      most = leb→le (class b) 8 (and-T-left (leb (class b) 8) _ t);
+      ones = λ i k. eqb→eq _ _ (below (λ i. eqb (bit_at b i) 1) (class b) (and-T-left (every (class b) (λ i. eqb (bit_at b i) 1)) _ u) i k);
+      next = λ k. eqb→eq _ _ (subst T (ap (next_zero b) (lt-ltb (class b) 8 k)) (and-T-right (every (class b) (λ i. eqb (bit_at b i) 1)) _ u));
     }

@@ -22,6 +22,7 @@ use Rattle.wing_saved.specs.Earlier.{earlier_from, carried_from, load_earlier_of
 use Rattle.wing_saved.proofs.Saving.Before.{earlier-laws}
 use Rattle.promises.specs.Saved.{SaveCall, LoadCall, LoadEarlierCall}
 use Rattle.promises.proofs.Lines.{unless}
+use Rattle.promises.proofs.Carries.{by_lines}
 use Rattle.promises.proofs.Writers.{at_front, came, Kept, Rest, refused-rest, written-rest, command-writes}
 
 -- what a call says that it wrote is kept as the state's
@@ -44,10 +45,14 @@ unfolding save_of written_result
 save-call s out t = record {
   writes = record {
     answered = unless came (Kept out) (state_bytes s) (sound_state s) (alone 8) _ _ _ refl (refl, tt) (command-writes (state_bytes s) out).answered;
-    rest = branch (Rest out) (sound_state s) _ _ (λ _. written-rest (state_bytes s) out) (λ _. refused-rest (alone 8) out out);
+    rest = λ n e. (went n e).1;
+    told = λ n e. (went n e).0;
   };
   saves = branch (Saved s) (sound_state s) _ _ (λ e. written-saved s out t e) (λ _. refused-saved s (alone 8) out);
 }
+  where
+    went : Rest (state_bytes s) out (save_of s out)
+    went = branch (Rest (state_bytes s) out) (sound_state s) _ _ (λ _. written-rest (state_bytes s) out) (λ _. refused-rest (alone 8) (state_bytes s) out out)
 
 -- beside a refusal stands a fresh state
 beside : (r : Result State) (why : Refusal) → r ≡ refused why → (loaded_as r).state ≡ fresh_state
@@ -72,6 +77,7 @@ load-earlier-call bytes are =
     let e = loaded-result r in
     record {
       back = λ s g. e ∙ earlier-laws.back bytes s g;
+      by_lines = λ s g. e ∙ (earlier-laws.back bytes s g ∙ by_lines s);
       again = λ t p. earlier-laws.again bytes t are (sym e ∙ p);
       refusal = λ n p. (earlier-laws.refusal bytes n (sym e ∙ p), beside r n (sym e ∙ p));
     }

@@ -1,18 +1,18 @@
 -- What is promised of the commands, the meter request and the packets, as specs/Wire states it.
-use Prim.Native.Nat.{ℕ, ◌+◌}
-use mathlib.Core.Path.{◌≡◌, refl, ap}
+use Prim.Native.Nat.{ℕ, ◌+◌, ◌-◌, ◌*◌, ◌/◌, ◌<◌}
+use mathlib.Core.Path.{◌≡◌, refl, sym, ◌∙◌, ap}
 use mathlib.Core.List.{List, ◌++◌}
 use native.Mathlib.Omega.{arith}
 use lib.Dec.{ltb, leb, eqb}
-use lib.IntN.{ℤ}
-use lib.ListN.{length, take, drop}
+use lib.IntN.{ℤ, pos}
+use lib.ListN.{length, take, drop, get_or, length-drop, get_or-append}
 use lib.Seq.{take-append_seam, drop-append_seam}
 use Rattle.wing_node.specs.Refusal.{alone, string_not_utf8}
 use Rattle.wing_node.specs.declared.refusal.Refusal.{Refusal}
-use Rattle.wing_node.specs.Field.{big}
+use Rattle.wing_node.specs.Field.{big, field_at}
 use Rattle.wing_node.specs.Result.{Result, ok}
 use Rattle.wing_node.specs.Utf8.{utf8}
-use Rattle.wing_node.specs.Signed.{InBits}
+use Rattle.wing_node.specs.Signed.{InBits, signed}
 use Rattle.wing_node.specs.Value.{NodeValue, string}
 use Rattle.wing_node.proofs.Branches.{branch}
 use Rattle.wing_wire.specs.Write.{WriteEffect, write_effect, write_of}
@@ -25,6 +25,7 @@ use Rattle.wing_wire.specs.declared.meter.Requested.TheVariants.{Bytes as Reques
 use Rattle.wing_wire.specs.declared.meter.MetersRead.TheVariants.{Readings, Refused as ReadRefused}
 use Rattle.wing_wire.specs.RoundTrip.{Settable}
 use Rattle.wing_wire.proofs.BothWays.Orders.{reads-as-set, reads-as-string}
+use Rattle.wing_wire.proofs.Writing.Packets.{readings-length, reading-at}
 use Rattle.promises.specs.Wire.{Writes, CommandCall, command_lines, string_lines, SetOrder, MeterCall, PacketCall}
 use Rattle.promises.proofs.Lines.{taken, line, unless}
 
@@ -45,37 +46,48 @@ came x = written_result x.answer x.out
 abbrev pub Kept : List ℕ → WriteEffect → Type 0
 Kept out x = (x.out ≡ out) × Unit {0}
 
--- the bytes past what is written are as they were
-abbrev pub Rest : List ℕ → WriteEffect → Type 0
-Rest out x = (n : ℕ) → x.answer ≡ Bytes n → drop n x.out ≡ drop n out
+-- the number told is that of the bytes written, and the bytes past them are as they were
+abbrev pub Rest : List ℕ → List ℕ → WriteEffect → Type 0
+Rest bytes out x = (n : ℕ) → x.answer ≡ Bytes n → (n ≡ length bytes) × (drop n x.out ≡ drop n out)
 
 -- a refusal wrote nothing
-pub refused-rest : (k : Refusal) (out after : List ℕ) → Rest out (write_effect (Refused k) after)
-refused-rest k out after n e = absurd (let z : ◌≡◌ {A = ℕ} 0 1 = cc in omega arith)
+pub refused-rest : (k : Refusal) (bytes out after : List ℕ) → Rest bytes out (write_effect (Refused k) after)
+refused-rest k bytes out after n e = absurd (let z : ◌≡◌ {A = ℕ} 0 1 = cc in omega arith)
 
-pub written-rest : (bytes out : List ℕ) → Rest out (write_of bytes out)
+pub whole-rest : (bytes out : List ℕ) → Rest bytes out (write_effect (Bytes (length bytes)) (bytes ++ drop (length bytes) out))
+whole-rest bytes out n e = let z : length bytes ≡ n = cc in (sym z, past-front bytes out n z)
+
+pub written-rest : (bytes out : List ℕ) → Rest bytes out (write_of bytes out)
 unfolding write_of
 written-rest bytes out =
-    branch (Rest out) (ltb (length out) (length bytes)) _ _ (λ _. refused-rest (alone 9) out out) (λ _ n e. past-front bytes out n (let z : length bytes ≡ n = cc in z))
+    branch (Rest bytes out) (ltb (length out) (length bytes)) _ _ (λ _. refused-rest (alone 9) bytes out out) (λ _. whole-rest bytes out)
 
 -- every command of given bytes
 pub command-writes : (bytes out : List ℕ) → CommandCall bytes out (write_of bytes out).answer (write_of bytes out).out
 unfolding write_of written_result
 command-writes bytes out = record {
   answered = line came (Kept out) bytes (ltb (length out) (length bytes)) (alone 9) _ _ _ refl (refl, tt) (taken came (Kept out) bytes (write_effect (Bytes (length bytes)) (bytes ++ drop (length bytes) out)) (ap ok (at_front bytes out)));
-  rest = unfold write_of in written-rest bytes out;
+  rest = λ n e. (went n e).1;
+  told = λ n e. (went n e).0;
 }
+  where
+    went : Rest bytes out (write_of bytes out)
+    went = unfold write_of in written-rest bytes out
 
 -- a set order of a string
 pub string-writes : (id : ℤ) (s out : List ℕ) → Writes (string_lines id s out) (set_bytes id (string s)) out (set_string id s out).answer (set_string id s out).out (Unit {0})
 unfolding set_string written_result
 string-writes id s out = record {
   answered = unless came (Kept out) bytes (leb (length s) 256) (alone 10) _ _ _ refl (refl, tt) (unless came (Kept out) bytes (utf8 s) (string_not_utf8 s) _ _ _ refl (refl, tt) (command-writes bytes out).answered);
-  rest = branch (Rest out) (leb (length s) 256) _ _ (λ _. branch (Rest out) (utf8 s) _ _ (λ _. written-rest bytes out) (λ _. refused-rest (string_not_utf8 s) out out)) (λ _. refused-rest (alone 10) out out);
+  rest = λ n e. (went n e).1;
+  told = λ n e. (went n e).0;
 }
   where
     bytes : List ℕ
     bytes = set_bytes id (string s)
+
+    went : Rest bytes out (set_string id s out)
+    went = branch (Rest bytes out) (leb (length s) 256) _ _ (λ _. branch (Rest bytes out) (utf8 s) _ _ (λ _. written-rest bytes out) (λ _. refused-rest (string_not_utf8 s) bytes out out)) (λ _. refused-rest (alone 10) bytes out out)
 
 -- ---- set orders: what was written is read back
 
@@ -93,9 +105,8 @@ unfolding request_meter write_request_of requested_result
 meters-write port last ms count out = record {
   answered = unless result-of W request (leb count 64) (alone 11) _ _ _ refl refl (line result-of W request (eqb last 65535) (alone 12) _ _ _ refl refl
       (line result-of W request (ltb (length out) (length bytes)) (alone 9) _ _ _ refl refl (taken result-of W request (request_effect (RequestWritten (length bytes) (last + 1)) (bytes ++ drop (length bytes) out)) (ap (λ (b : List ℕ). ok (record { bytes = b; id = last + 1 })) (at_front bytes out)))));
-  rest = branch R (leb count 64) _ _
-      (λ _. branch R (eqb last 65535) _ _ (λ _. of-refused 12) (λ _. branch R (ltb (length out) (length bytes)) _ _ (λ _. of-refused 9) (λ _ n id e. past-front bytes out n (let z : length bytes ≡ n = cc in z))))
-      (λ _. of-refused 11);
+  rest = λ n id e. (went n id e).1;
+  told = λ n id e. (went n id e).0;
 }
   where
     bytes : List ℕ
@@ -111,18 +122,27 @@ meters-write port last ms count out = record {
     W x = x.out ≡ out
 
     R : RequestEffect → Type 0
-    R x = (n id : ℕ) → x.answer ≡ RequestWritten n id → drop n x.out ≡ drop n out
+    R x = (n id : ℕ) → x.answer ≡ RequestWritten n id → (n ≡ length bytes) × (drop n x.out ≡ drop n out)
 
     of-refused : (k : ℕ) → R (request_effect (RequestRefused k) out)
-    of-refused k n id e = refl
+    of-refused k n id e = absurd (let z : ◌≡◌ {A = ℕ} 0 1 = cc in omega arith)
+
+    went : R (request_meter port last ms count out)
+    went =
+        branch R (leb count 64) _ _
+        (λ _. branch R (eqb last 65535) _ _ (λ _. of-refused 12) (λ _. branch R (ltb (length out) (length bytes)) _ _ (λ _. of-refused 9) (λ _ n id e. let z : length bytes ≡ n = cc in (sym z, past-front bytes out n z))))
+        (λ _. of-refused 11)
 
 pub packet-reads : (p : List ℕ) (out : List ℤ) → PacketCall p out (packet_of p out).answer (packet_of p out).out
 unfolding packet_of meters_result
 packet-reads p out = record {
   answered = line result-of W packet (ltb (length p) 4) (alone 13) _ _ _ refl refl (line result-of W packet (ltb 8192 (length p)) (alone 13) _ _ _ refl refl
       (line result-of W packet (ltb (length out) (length rs)) (alone 9) _ _ _ refl refl (taken result-of W packet (packet_effect (Readings (big (take 2 p)) (length rs)) (rs ++ drop (length rs) out)) (ap (λ (r : List ℤ). ok (record { id = big (take 2 p); readings = r })) (at_front rs out)))));
-  rest = branch R (ltb (length p) 4) _ _ (λ _. of-refused 13)
-      (λ _. branch R (ltb 8192 (length p)) _ _ (λ _. of-refused 13) (λ _. branch R (ltb (length out) (length rs)) _ _ (λ _. of-refused 9) (λ _ id n e. past-front rs out n (let z : length rs ≡ n = cc in z))));
+  rest = λ id n e. (went id n e).1;
+  told = λ id n e. (went id n e).0;
+  each = branch E (ltb (length p) 4) _ _ (λ _. none 13) (λ _. branch E (ltb 8192 (length p)) _ _ (λ _. none 13) (λ _. branch E (ltb (length out) (length rs)) _ _ (λ _. none 9) (λ _ id n e k l.
+      let z : length rs ≡ n = cc in
+      get_or-append rs (drop (length rs) out) (pos 0) k (omega arith) ∙ sym (reading-at p k (omega (arith, number))))));
 }
   where
     rs : List ℤ
@@ -138,7 +158,21 @@ packet-reads p out = record {
     W x = x.out ≡ out
 
     R : PacketEffect → Type 0
-    R x = (id n : ℕ) → x.answer ≡ Readings id n → drop n x.out ≡ drop n out
+    R x = (id n : ℕ) → x.answer ≡ Readings id n → (n ≡ (length p - 4) / 2) × (drop n x.out ≡ drop n out)
 
     of-refused : (k : ℕ) → R (packet_effect (ReadRefused k) out)
-    of-refused k id n e = refl
+    of-refused k id n e = absurd (let z : ◌≡◌ {A = ℕ} 0 1 = cc in omega arith)
+
+    E : PacketEffect → Type 0
+    E x = (id n : ℕ) → x.answer ≡ Readings id n → (k : ℕ) → k < n → get_or x.out k (pos 0) ≡ signed 15 (field_at 2 p (4 + 2 * k))
+
+    none : (k : ℕ) → E (packet_effect (ReadRefused k) out)
+    none k id n e i l = absurd (let z : ◌≡◌ {A = ℕ} 0 1 = cc in omega arith)
+
+    number : length rs ≡ (length p - 4) / 2
+    number = readings-length (drop 4 p) ∙ ap (λ (n : ℕ). n / 2) (length-drop 4 p)
+
+    went : R (packet_of p out)
+    went =
+        branch R (ltb (length p) 4) _ _ (λ _. of-refused 13)
+        (λ _. branch R (ltb 8192 (length p)) _ _ (λ _. of-refused 13) (λ _. branch R (ltb (length out) (length rs)) _ _ (λ _. of-refused 9) (λ _ id n e. let z : length rs ≡ n = cc in (sym z ∙ number, past-front rs out n z))))

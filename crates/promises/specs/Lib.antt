@@ -3,6 +3,7 @@ pub mod Lines
 pub mod Node
 pub mod Writer
 pub mod Wire
+pub mod TableBytes
 pub mod Mirror
 pub mod Saved
 pub mod Listing

@@ -1,8 +1,8 @@
 -- What is promised of the parser and of the item calls, by the body and the answer. The fields of a body and what each holds are told from
 -- its bytes (wing_node's specs/InBody); which of them stand in it, specs/Standing says.
-use Rattle.std.specs.Prelude.{ℕ, ◌+◌, ◌-◌, ◌≤◌, ◌<◌, ◌≡◌, false, true, ◌↔◌, ◌⊎◌, List, [], ◌∷◌, drop, length}
-use Rattle.wing_node.specs.Utf8.{good, Longest, utf8}
-use Rattle.wing_node.specs.Refusal.{good_beside}
+use Rattle.std.specs.Prelude.{ℕ, ◌+◌, ◌-◌, ◌/◌, ◌%◌, ◌^◌, ◌≤◌, ◌<◌, ◌≡◌, false, true, ◌↔◌, ◌⊎◌, List, [], ◌∷◌, drop, length}
+use Rattle.wing_node.specs.Utf8.{good, Longest, utf8, class, ClassesHold}
+use Rattle.wing_node.specs.Refusal.{good_beside, string_not_utf8, definition_not_utf8}
 use Rattle.wing_node.specs.declared.refusal.Refusal.{Refusal}
 use Rattle.wing_node.specs.Result.{Result, ok, refused}
 use Rattle.wing_node.specs.Types.{has_items}
@@ -17,7 +17,7 @@ use Rattle.wing_node.specs.declared.definition.Item.{Item}
 use Rattle.wing_node.specs.declared.items.Walk.{Walk}
 use Rattle.wing_node.specs.declared.items.Step.{Step}
 use Rattle.wing_mirror.specs.Rows.{In}
-use Rattle.promises.specs.Refusals.{definition_short, definition_wrong, number_over}
+use Rattle.promises.specs.Refusals.{string_wrong, definition_short, definition_wrong, number_over}
 
 -- 01: definition field past the end, 4: some number of fields stand whole and good at the front, and the next one is not whole
 abbrev pub Short : List ℕ → Type 0
@@ -78,8 +78,20 @@ pub record ItemCall (body : List ℕ) (number : ℕ) (answer : Item) : Type 0 wh
 abbrev pub Walks : Type 0
 Walks = (body : List ℕ) → AllStand body → Walking body
 
+-- 01: a byte's count of leading one bits: so many bits from the highest on are 1, and the next, if there is one, is 0
+pub record LeadingOnes (count b : ℕ) : Type 0 where
+  pub most : count ≤ 8
+  pub ones : (i : ℕ) → i < count → b / 2 ^ (7 - i) % 2 ≡ 1
+  pub next : count < 8 → b / 2 ^ (7 - count) % 2 ≡ 0
+
 -- 02: the good that stands beside 1 and 5, of the string that was refused: how many leading bytes form whole characters, the largest such number by RFC 3629's grammar;
 -- and a string is UTF-8 exactly if all of it is good
 pub record Goods : Type 0 where
   pub largest : (s : List ℕ) → Longest (good s) s
   pub all : (s : List ℕ) → (utf8 s ≡ true) ↔ (good s ≡ length s)
+  -- 02: the refusal of a string is 1 with its good, that of a definition's string 5 with its good
+  pub string : (s : List ℕ) → string_not_utf8 s ≡ string_wrong (good s)
+  pub definition : (s : List ℕ) → definition_not_utf8 s ≡ definition_wrong (good s)
+  -- 01: a lead byte's class is its count of leading one bits; of a byte that begins a character it says how many bytes the character has
+  pub classes : (b : ℕ) → b < 256 → LeadingOnes (class b) b
+  pub lengths : ClassesHold

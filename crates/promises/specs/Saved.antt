@@ -3,7 +3,7 @@ use Rattle.std.specs.Prelude.{ℕ, not, ◌≡◌, List, ◌∷◌, take}
 use Rattle.wing_node.specs.declared.refusal.Refusal.{Refusal}
 use Rattle.wing_node.specs.Result.{ok, refused}
 use Rattle.wing_wire.specs.State.{sound_state, fresh_state}
-use Rattle.wing_wire.specs.Earlier.{carry_of}
+use Rattle.wing_wire.specs.Earlier.{carried, carry_of}
 use Rattle.wing_wire.specs.declared.state.State.{State}
 use Rattle.wing_wire.specs.declared.earlier.State.{State as EarlierState}
 use Rattle.wing_wire.specs.declared.write.Written.{Written}
@@ -12,8 +12,8 @@ use Rattle.wing_saved.specs.Saved.{state_bytes, Saves, loaded_result}
 use Rattle.wing_saved.specs.Earlier.{EarlierSaves, CarriedSaves}
 use Rattle.wing_saved.specs.declared.LoadAnswer.{LoadAnswer}
 use Rattle.promises.specs.Refusals.{state_unsound}
-use Rattle.promises.specs.Lines.{Line, ◌gives◌}
-use Rattle.promises.specs.Wire.{command_lines, Writes}
+use Rattle.promises.specs.Lines.{Line, ◌gives◌, by}
+use Rattle.promises.specs.Wire.{carry_lines, command_lines, Writes}
 
 -- a state as bytes: an unsound state, too short an output
 abbrev pub save_lines : State → List ℕ → List Line
@@ -37,6 +37,8 @@ pub record LoadCall (bytes : List ℕ) (answer : LoadAnswer) (state : State) : T
 pub record LoadEarlierCall (bytes : List ℕ) (answer : LoadAnswer) (state : State) : Type 0 where
   -- the bytes of an old sound state are loaded as it is carried over, or sent back as it is
   pub back : (s : EarlierState) → EarlierSaves bytes s → loaded_result answer state ≡ carry_of s
+  -- the same by the lines that send an old state back
+  pub by_lines : (s : EarlierState) → EarlierSaves bytes s → loaded_result answer state ≡ by (carry_lines s) (carried s)
   -- bytes that are loaded are those of an old sound state, and this is carried over as what they are loaded as
   pub again : (t : State) → loaded_result answer state ≡ ok t → CarriedSaves bytes t
   -- any others are 8, beside a fresh state

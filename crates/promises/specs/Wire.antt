@@ -1,16 +1,17 @@
 -- What is promised of each call of the wire, by its arguments, its answer and the lent buffers after it.
-use Rattle.std.specs.Prelude.{ℕ, ◌+◌, ◌<◌, ◌≤◌, true, not, ◌≡◌, List, [], ◌∷◌, ◌++◌, ltb, leb, eqb, ℤ, length, take, drop, get_or}
+use Rattle.std.specs.Prelude.{ℕ, ◌+◌, ◌-◌, ◌*◌, ◌/◌, ◌<◌, ◌≤◌, true, not, ◌≡◌, List, [], ◌∷◌, ◌++◌, ltb, leb, eqb, ℤ, pos, length, take, drop, get_or, replicate}
 use Rattle.wing_node.specs.Refusal.{good_beside, alone}
 use Rattle.wing_node.specs.declared.refusal.Refusal.{Refusal}
-use Rattle.wing_node.specs.Field.{big}
+use Rattle.wing_node.specs.Field.{big, field_at}
 use Rattle.wing_node.specs.Result.{ok, refused}
+use Rattle.wing_node.specs.Signed.{signed}
 use Rattle.wing_node.specs.Utf8.{good, utf8}
 use Rattle.wing_node.specs.Value.{NodeValue, string}
-use Rattle.wing_wire.specs.State.{sound_escape, sound_state, fresh_state}
+use Rattle.wing_wire.specs.State.{body_limit, sound_escape, sound_state, fresh_state}
 use Rattle.wing_wire.specs.Earlier.{earlier_sound, is_started, carried, carried_result}
 use Rattle.wing_wire.specs.Escape.{decode_of, next_unit}
 use Rattle.wing_wire.specs.Stream.{Fed, run}
-use Rattle.wing_wire.specs.Units.{settled}
+use Rattle.wing_wire.specs.Units.{units, byte_units, settled, units_of}
 use Rattle.wing_wire.specs.Command.{set_bytes}
 use Rattle.wing_wire.specs.Meter.{meter_request, readings}
 use Rattle.wing_wire.specs.Reader.{Event, event_of, event_in, string_beside, body_beside, refused_next, next_of}
@@ -20,6 +21,8 @@ use Rattle.wing_wire.specs.SetOrders.{ReadsAsSet}
 use Rattle.wing_wire.specs.declared.state.State.{State}
 use Rattle.wing_wire.specs.declared.earlier.State.{State as EarlierState}
 use Rattle.wing_wire.specs.declared.earlier.CarryAnswer.{CarryAnswer}
+use Rattle.wing_wire.specs.declared.earlier.Token.TheVariants.{Number}
+use Rattle.wing_wire.specs.declared.token.Class.TheVariants.{LongCount}
 use Rattle.wing_wire.specs.declared.state.Escape.{Escape}
 use Rattle.wing_wire.specs.declared.state.Pending.TheVariants.{None, Byte}
 use Rattle.wing_wire.specs.declared.escape.Unit.TheVariants.{Nothing, Appended}
@@ -27,7 +30,7 @@ use Rattle.wing_wire.specs.declared.escape.NextUnit.{NextUnit}
 use Rattle.wing_wire.specs.declared.stream.Advanced.{Advanced}
 use Rattle.wing_wire.specs.declared.state.Token.TheVariants.{Between}
 use Rattle.wing_wire.specs.declared.unit.Answer.{Answer}
-use Rattle.wing_wire.specs.declared.unit.Answer.TheVariants.{More, Refused as AnswerRefused}
+use Rattle.wing_wire.specs.declared.unit.Answer.TheVariants.{More, String as AString, Body as ABody, Refused as AnswerRefused}
 use Rattle.wing_wire.specs.declared.reader.Reply.{Reply}
 use Rattle.wing_wire.specs.declared.write.Written.{Written}
 use Rattle.wing_wire.specs.declared.write.Written.TheVariants.{Bytes}
@@ -85,6 +88,11 @@ pub record Beside (reply : Reply) : Type 0 where
   pub store : List ℕ
   pub string : reply.string ≡ string_beside reply.answer store
   pub body : reply.body ≡ body_beside reply.answer store
+  -- with any other answer these bytes are all 0, and so are those after the string's or the body's own
+  pub no_string : ((n : ℕ) → reply.answer ≡ AString n → ⊥) → reply.string ≡ replicate 256 0
+  pub no_body : ((n : ℕ) → reply.answer ≡ ABody n → ⊥) → reply.body ≡ replicate body_limit 0
+  pub string_rest : (n : ℕ) → reply.answer ≡ AString n → drop n reply.string ≡ replicate (256 - n) 0
+  pub body_rest : (n : ℕ) → reply.answer ≡ ABody n → drop n reply.body ≡ replicate (body_limit - n) 0
 
 -- a next call
 pub record NextCall (s : State) (bytes : List ℕ) (reply : Reply) : Type 0 where
@@ -92,6 +100,8 @@ pub record NextCall (s : State) (bytes : List ℕ) (reply : Reply) : Type 0 wher
   pub same : reply ≡ next_of s bytes
   -- demand 1: 8, 14, and then nothing is taken and the state is as it was
   pub sent_back : (n : ℕ) → sends (next_lines s bytes) ≡ refused (alone n) → reply ≡ refused_next n s
+  -- with that number, and then nothing is taken and the state is as it was
+  pub as_it_was : (n : ℕ) → sends (next_lines s bytes) ≡ refused (alone n) → (reply.answer ≡ AnswerRefused (alone n)) × (reply.taken ≡ 0) × (reply.state ≡ s)
   -- else the decoder's own refusals are 1 with the string's good, 2 and 3, each with its token taken; when they come, specs/Tokens of the wire says
   pub refusals : sends (next_lines s bytes) ≡ ok tt → (why : Refusal) → reply.answer ≡ AnswerRefused why → In why (string_wrong (good_beside why) ∷ body_long ∷ body_empty ∷ []) × (reply.state.control.token ≡ Between)
   -- what stands beside the answer
@@ -124,6 +134,8 @@ pub record DecodeCall (e : Escape) (bytes : List ℕ) (at : ℕ) (answer : NextU
   -- else the byte at the place gives its unit or none; past the end there is none
   pub byte : e.pending ≡ None → at < length bytes → answer ≡ next_unit (decode_of e (get_or bytes at 0)).escape (decode_of e (get_or bytes at 0)).unit (at + 1)
   pub end : e.pending ≡ None → length bytes ≤ at → answer ≡ next_unit e Nothing at
+  -- the units that the bytes from the place on give are this one, if there is one, and those that come after it
+  pub first : let after = units_of answer.escape (drop answer.at bytes) in units_of e (drop at bytes) ≡ units (byte_units answer.unit ++ after.units) after.escape
   -- sound escapes stay sound
   pub sound : sound_escape e ≡ true → sound_escape answer.escape ≡ true
 
@@ -132,12 +144,22 @@ pub record CarryCall (s : EarlierState) (answer : CarryAnswer) (state : State) :
   pub answered : Answers (carry_lines s) (carried s) (carried_result answer state) (state ≡ fresh_state)
   -- and the state is sound
   pub sound : (t : State) → carried_result answer state ≡ ok t → sound_state t ≡ true
+  -- 02: the escapes, the node and the stored bytes are the same
+  pub kept : (t : State) → carried_result answer state ≡ ok t → (t.control.escape ≡ s.control.escape) × (t.control.node ≡ s.control.node) × (t.store ≡ s.store)
+  -- an old state was sound exactly if it is sound carried over
+  pub was : earlier_sound s ≡ sound_state (carried s)
+  -- 02: each that was sound is carried over, unless it stands within the four units after a count 0 with fewer than four left
+  pub taken : sound_state (carried s) ≡ true → ((left v : ℕ) → s.control.token ≡ Number LongCount left v → left ≡ 4) → carried_result answer state ≡ ok (carried s)
+  -- 02: one that has taken any of the four units gets 8
+  pub begun : (left v : ℕ) → s.control.token ≡ Number LongCount left v → left < 4 → carried_result answer state ≡ refused state_unsound
 
 -- a command: sent back as its lines have it, with the output as it was and what else must stay; else these bytes at the front of the output,
 -- whose bytes past them are not altered
 pub record Writes (lines : List Line) (bytes out : List ℕ) (answer : Written) (after : List ℕ) (Stays : Type 0) : Type 0 where
   pub answered : Answers lines bytes (written_result answer after) ((after ≡ out) × Stays)
   pub rest : (n : ℕ) → answer ≡ Bytes n → drop n after ≡ drop n out
+  -- the number told is that of these bytes
+  pub told : (n : ℕ) → answer ≡ Bytes n → n ≡ length bytes
 
 -- a command of given bytes: 9
 abbrev pub CommandCall : List ℕ → List ℕ → Written → List ℕ → Type 0
@@ -152,8 +174,14 @@ pub record SetOrder (lines : List Line) (id : ℤ) (v : NodeValue) (out : List �
 pub record MeterCall (port last : ℕ) (ms : List Meter) (count : ℕ) (out : List ℕ) (answer : Requested) (after : List ℕ) : Type 0 where
   pub answered : Answers (meter_lines port last ms count out) (record { bytes = meter_request port (last + 1) (take count ms); id = last + 1 }) (requested_result answer after) (after ≡ out)
   pub rest : (n id : ℕ) → answer ≡ RequestWritten n id → drop n after ≡ drop n out
+  -- the number told is that of its bytes
+  pub told : (n id : ℕ) → answer ≡ RequestWritten n id → n ≡ length (meter_request port (last + 1) (take count ms))
 
 -- a meter packet: 13, 9; else its id and readings, and the readings' buffer past them as it was
 pub record PacketCall (p : List ℕ) (out : List ℤ) (answer : MetersRead) (after : List ℤ) : Type 0 where
   pub answered : Answers (packet_lines p out) (record { id = big (take 2 p); readings = readings (drop 4 p) }) (meters_result answer after) (after ≡ out)
   pub rest : (id n : ℕ) → answer ≡ Readings id n → drop n after ≡ drop n out
+  -- 01: two bytes for each after the first four; an odd last byte is dropped
+  pub told : (id n : ℕ) → answer ≡ Readings id n → n ≡ (length p - 4) / 2
+  -- 01: each reading is the signed 16-bit field at its place
+  pub each : (id n : ℕ) → answer ≡ Readings id n → (k : ℕ) → k < n → get_or after k (pos 0) ≡ signed 15 (field_at 2 p (4 + 2 * k))

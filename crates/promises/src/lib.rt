@@ -6,6 +6,7 @@
 ghost use Rattle.std.specs.Prelude.{◌≡◌, map};
 ghost use Rattle.wing_node.specs.Written.{ReadsBack};
 ghost use Rattle.wing_node.specs.BothWays.{BothWays};
+ghost use Rattle.wing_node.specs.Cases.{AsWanted, definitions, items, bodies, strings};
 ghost use Rattle.wing_wire.specs.RoundTrip.{RoundTrip, RoundTripPieces};
 ghost use Rattle.wing_wire.specs.Repeated.{UntilMore};
 ghost use Rattle.wing_wire.specs.Tokens.{Tokens};
@@ -13,8 +14,9 @@ ghost use Rattle.wing_wire.specs.Cases.{Case, cases};
 ghost use Rattle.wing_wire.specs.EarlierReading.{CarriesOver};
 ghost use Rattle.wing_saved.specs.Saved.{SavedLaws};
 ghost use Rattle.wing_saved.specs.Earlier.{EarlierLaws};
+ghost use Rattle.wing_saved.specs.Cases.{Case as SavedCase, cases as saved_cases};
 ghost use Rattle.wing_listing.specs.BothWays.{BothWays as ListedBothWays};
-ghost use Rattle.wing_listing.specs.Cases.{Case as ListedCase, cases as listed_cases};
+ghost use Rattle.wing_listing.specs.Cases.{Case as ListedCase, cases as listed_cases, ends as listed_ends};
 ghost use Rattle.wing_meters.specs.Moving.{Moving};
 ghost use Rattle.wing_meters.specs.Cases.{Case as WindowCase, cases as window_cases};
 ghost use Rattle.wing_mirror.specs.Record.{full};
@@ -22,10 +24,12 @@ ghost use Rattle.wing_mirror.specs.HighEnd.{SearchReads};
 ghost use Rattle.wing_mirror.specs.History.{Agreement, Equality, Rebuilding, Histories};
 ghost use Rattle.wing_mirror.specs.Origins.{WhoSetIt};
 ghost use Rattle.wing_mirror.specs.OlderTables.{OriginForms};
+ghost use Rattle.wing_mirror.specs.Cases.{Case as MirrorCase, cases as mirror_cases};
 ghost use Rattle.promises.specs.Refusals.{Numbered};
 ghost use Rattle.promises.specs.Node.{Walks, Goods};
 ghost use Rattle.promises.specs.Wire.{with_event, listed, PiecesJoin};
-ghost use Rattle.promises.specs.Mirror.{UnplacedStays};
+ghost use Rattle.promises.specs.Mirror.{UnplacedStays, AgreementFrom, MachineReads, EventsCounted, SearchCounts};
+ghost use Rattle.promises.specs.TableBytes.{TableBytes, NoPlace, OriginNumbers};
 
 pub mod listing;
 pub mod meters;
@@ -43,6 +47,7 @@ pub fn demand_1_tokens()
 
 // Demand 1, the good of a string (02). The good that stands beside 1 and 5 is how many leading bytes of the refused string form whole characters, the largest
 // such number; a string is UTF-8 exactly if all of it is good.
+// A lead byte's class is its count of leading one bits (01), and says how many bytes its character has.
 pub fn demand_1_goods()
     ensures { Goods }
 {}
@@ -94,6 +99,7 @@ pub fn demand_2_both_ways()
 
 // Demand 3. 01: feed runs next until "more". From a sound state with at most 65,536 bytes next calls, each on what the one before
 // left, come to an end, and leave and hand on what the feed does.
+// The feed here is the wire's fold over the bytes (feed_events), of which demand 1 and 2 speak. Of the plain machine demand_3_machine_reads says it, of the mirror's feed its contract.
 pub fn demand_3_until_more()
     ensures { UntilMore with_event }
 {}
@@ -120,6 +126,24 @@ pub fn demand_3_whole()
     ensures { Histories full }
 {}
 
+// Demand 3 from any mirror that the calls take, with a byte pending in its decoder too: after any list of calls it has answered each as the plain machine that stands where
+// it stood, holds the machine's nodes, and has left the bytes after its last record.
+pub fn demand_3_from_any()
+    ensures { AgreementFrom }
+{}
+
+// Demand 3. The plain machine's decoder runs next until "more": its events, in order with their nodes, and the state that it leaves are those of next calls, each on what the one
+// before left. Of the mirror's feed, with what it stores and counts, the contract of feed says it.
+pub fn demand_3_machine_reads()
+    ensures { MachineReads }
+{}
+
+// Demand 1, within a feed. A refused string leaves the records as they were, whatever its good (02), and raises the count of strings refused by one, and no other; a body that the decoder or
+// the parser refuses likewise that of definitions refused, one that the parser takes that of definitions read, an end that of ends, a value that of values stored or of values with no place.
+pub fn demand_1_refused()
+    ensures { EventsCounted }
+{}
+
 // Who set it (02): an accepted set of any table leaves its node with its value and origin 1; an accepted feed leaves each node that its bytes give values, and that has a record after it, with the
 // last of them and origin 0, whatever it had, and such a node has one if it had before or if a place is free after it; both leave the others as they were. A byte of each record is its origin's number; two
 // tables compare with origins included; recall sends the same of two that differ in their origins alone; and one that equals another but for origins equals it whole exactly if the other's are all 0.
@@ -133,11 +157,39 @@ pub fn origin_forms()
     ensures { OriginForms }
 {}
 
+// A table's bytes (01, 02), in figures: the record of number n is bytes 264 n to 264 n + 263; what its bytes say as node, value and origin, of whatever release they are; the
+// places allowed are 1 to 1,024; and which tables are sound, and which the calls take.
+pub fn table_bytes()
+    ensures { TableBytes }
+{}
+
+// The origins' numbers (02), in figures: 0 for the console and 1 for a set order.
+pub fn origin_numbers()
+    ensures { OriginNumbers }
+{}
+
+// Feeds and sets of one place, records, tables that are taken and that are not, the recall and the places allowed, written out: what the definitions give in each case is what is wanted.
+pub fn mirror_cases()
+    ensures { map (λ (c : MirrorCase). c.got) mirror_cases ≡ map (λ (c : MirrorCase). c.wanted) mirror_cases }
+{}
+
+// No place (01): in a usable table a value has no place exactly if no record has its node's id and there are no more places than records, whoever gives it. Of the call
+// that sets, its contract says it.
+pub fn no_place()
+    ensures { NoPlace }
+{}
+
 // An old decoder state carried over (02): whatever bytes a fresh old decoder and a fresh new one were fed alike, none of whose units is one of the four after a
 // count 0, the old one's state is carried over as the new one's; and any old state, carried over, answers further bytes as it did as long as no such unit comes.
 // With the first such unit a sound state gets 8.
+// What is compared is the very state that the call answers with, and the units left out are those after a count 0 and no others.
 pub fn carried_over()
     ensures { CarriesOver listed }
+{}
+
+// Heads of saved states, written out byte for byte: today's, and those of old states under version 1, with the number of every class.
+pub fn saved_cases()
+    ensures { map (λ (c : SavedCase). c.got) saved_cases ≡ map (λ (c : SavedCase). c.wanted) saved_cases }
 {}
 
 // A decoder state as bytes: a sound state's bytes read back as that state, bytes that read as a state are its bytes, and any other
@@ -172,14 +224,36 @@ pub fn search_reads()
     ensures { SearchReads full }
 {}
 
+// The same where the ids part, those not above the one asked and then those above it; and where lookup tells a record's number, the ids read are those from the last down to that one.
+pub fn search_counts()
+    ensures { SearchCounts }
+{}
+
 // The cases that 01 marks #, and 02's counts: what the definitions give in each is what is wanted.
+// So it is at boundaries of 01's rules for states, escapes, requests and meters.
 pub fn marked_cases()
     ensures { map (λ (c : Case). c.got) cases ≡ map (λ (c : Case). c.wanted) cases }
 {}
 
 // 01's example of a listing, and the boundary lines that 02 names: what the definitions give in each is what is wanted.
+// So it is for whole texts.
 pub fn listing_cases()
     ensures { map (λ (c : ListedCase). c.got) listed_cases ≡ map (λ (c : ListedCase). c.wanted) listed_cases }
+{}
+
+// The largest and the least id and integer in a listing (02): what the definition gives is what is wanted.
+pub fn listing_ends()
+    ensures { listed_ends.got ≡ listed_ends.wanted }
+{}
+
+// 01's 15 and 14 bytes, and definitions of each type: what the parser, an item's number and, from the same fields (02), the writer give in each is what is wanted.
+pub fn definition_cases()
+    ensures { AsWanted definitions × (AsWanted items × AsWanted bodies) }
+{}
+
+// RFC 3629's grammar at the ends of each of its rows: how many leading bytes are good (02) in each case is what is wanted.
+pub fn utf8_cases()
+    ensures { AsWanted strings }
 {}
 
 // Figures of some readings, written out: what the definitions give in each case is what is wanted.

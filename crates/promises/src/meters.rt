@@ -1,4 +1,6 @@
 // A window over a strip's last readings, each call with what is promised of it as its contract. There is nothing here but the call.
+ghost use Rattle.std.specs.Prelude.{◌≡◌, true, ◌↔◌};
+ghost use Rattle.wing_meters.specs.Moving.{Left};
 ghost use Rattle.promises.specs.Meters.{MakeCall, ReadingCall, FiguresCall, ReadingsCall};
 
 use wing_meters::figures::Told;
@@ -9,6 +11,13 @@ pub fn make(width: u32) -> Made
     ensures { MakeCall width result.answer result.window }
 {
     wing_meters::window::make(width)
+}
+
+// A window is sound exactly if some list of readings leaves it.
+pub fn is_sound(w: Window) -> bool
+    ensures { result ≡ true ↔ Left w }
+{
+    wing_meters::window::is_sound(w)
 }
 
 pub fn reading(w: Window, x: i16) -> Taken

@@ -1,9 +1,11 @@
 // The calls of the mirror, each with what is promised of it as its contract. There is nothing here but the call.
-ghost use Rattle.std.specs.Prelude.{◌≡◌};
+ghost use Rattle.std.specs.Prelude.{◌≡◌, ◌/◌, length};
+ghost use Rattle.wing_node.specs.Utf8.{Decides};
 ghost use Rattle.wing_node.specs.Value.{integer as integer_of, float as float_of, string as string_of};
 ghost use Rattle.wing_wire.specs.State.{state_of};
 ghost use Rattle.wing_mirror.specs.Origin.{origin_number};
 ghost use Rattle.wing_mirror.specs.Table.{table as table_of};
+ghost use Rattle.promises.specs.TableBytes.{SoundBytes, UsableBytes};
 ghost use Rattle.promises.specs.Mirror.{mirror as mirror_of, FeedCall, LentFeedCall, SetCall, RecallCall, LookupCall, RecordCall, SameCall};
 
 use wing_mirror::answer::{FeedReply, LentFeedReply, Lookup, RecordRead, Same, SetReply};
@@ -69,6 +71,27 @@ pub fn same(a: &[u8], count_a: usize, b: &[u8], count_b: usize) -> Same
     ensures { SameCall (table_of a.now count_a) (table_of b.now count_b) result }
 {
     wing_mirror::query::same(a, count_a, b, count_b)
+}
+
+// 01: places = buffer length div 264.
+pub fn places(table: &[u8]) -> usize
+    ensures { result ≡ length table.now / 264 }
+{
+    wing_mirror::table::places(table)
+}
+
+// 01: the count is at most the places, the records have their form and order, and strings are UTF-8.
+pub fn is_sound(table: &[u8], count: usize) -> bool
+    ensures { Decides result (SoundBytes (table_of table.now count)) }
+{
+    wing_mirror::table::is_sound(table, count)
+}
+
+// The tables that the calls take: sound, with 1 to 1,024 places.
+pub fn is_usable(table: &[u8], count: usize) -> bool
+    ensures { Decides result (UsableBytes (table_of table.now count)) }
+{
+    wing_mirror::table::is_usable(table, count)
 }
 
 // 02: an origin's number, 0 for the console and 1 for a set order.

@@ -1,19 +1,21 @@
 // The calls on strings, values, definitions and their items, each with what is promised of it as its contract. There is nothing here but the call
 // (and, in to_bytes, a field that is read for the proof alone).
-ghost use Rattle.std.specs.Prelude.{◌≡◌};
+ghost use Rattle.std.specs.Prelude.{not, ◌≡◌, take};
 ghost use Rattle.wing_node.specs.Items.{walk};
 ghost use Rattle.wing_node.specs.Refusal.{refusal_number};
-ghost use Rattle.wing_node.specs.Utf8.{Octets, Longest, Decides};
+ghost use Rattle.wing_node.specs.Utf8.{Octets, Longest, Decides, good, utf8};
 ghost use Rattle.wing_node.specs.Value.{node_value, int_in, string_in};
 ghost use Rattle.wing_node.specs.Answers.{begun_result, start_result, string_result};
 ghost use Rattle.wing_node.specs.Writer.{lent};
+ghost use Rattle.promises.specs.Refusals.{string_wrong};
+ghost use Rattle.promises.specs.Lines.{◌gives◌};
 ghost use Rattle.promises.specs.Node.{ParserCall, BeginCall, StepCall, ItemCall};
 ghost use Rattle.promises.specs.Writer.{WriterCall, AnewCall};
 
 use wing_node::definition::{Item, Parsed};
 use wing_node::items::{Begun, Step, Walk};
 use wing_node::node_type::NodeType;
-use wing_node::refusal::Refusal;
+use wing_node::refusal::{Fault, Refusal};
 use wing_node::value::{StringRead, Value};
 use wing_node::walker::Start;
 use wing_node::writer::{BodyWritten, Fields};
@@ -37,6 +39,13 @@ pub fn number(why: Refusal) -> u8
     ensures { result ≡ refusal_number why }
 {
     wing_node::refusal::number(why)
+}
+
+// A string of the wire or to be set, the first n bytes of s or all where it has fewer: 1 with its good (02) if it isn't UTF-8, else no fault.
+pub fn string_fault(s: &[u8], n: u16) -> Fault
+    ensures { result ≡ (not (utf8 (take n s.now)) gives string_wrong (good (take n s.now))) }
+{
+    wing_node::refusal::string_fault(s, n)
 }
 
 pub fn from_bytes(body: &[u8]) -> Parsed

@@ -4,6 +4,8 @@ mod Loads
 mod Keeps
 mod Pairs
 mod Listed
+mod Sent
+mod Read
 pub mod Said
 mod Answered
 pub mod SaidDefinitions

@@ -33,7 +33,11 @@ use Rattle.wing_mirror.specs.declared.answer.Same.{Same}
 use Rattle.wing_mirror.specs.declared.answer.Same.TheVariants.{Yes, No, Refused as SameRefused}
 use Rattle.wing_mirror.specs.declared.origin.Origin.{Origin}
 use Rattle.wing_mirror.specs.declared.origin.Origin.TheVariants.{Console, SetOrder}
+use Rattle.wing_wire.specs.Command.{set_string}
+use Rattle.wing_wire.specs.Reader.{next_of}
 use Rattle.wing_mirror.specs.Origin.{origin_number}
+use Rattle.wing_mirror.specs.Record.{full}
+use Rattle.wing_mirror.specs.Mirror.{mirror_set}
 use Rattle.wing_listing.specs.Calls.{load_of}
 use Rattle.wing_listing.specs.declared.answer.Loaded.{Loaded}
 use Rattle.wing_listing.specs.declared.answer.Loaded.TheVariants.{Records, Refused as LoadRefused}
@@ -41,6 +45,8 @@ use Rattle.wing_c.specs.Numbers.{minus, sent_back, written_numbers, body_numbers
 use Rattle.wing_c.specs.Meanings.{by_status_and_good, written_in, body_in, set_in, feed_answer_in, counts_in, lookup_in, same_in, value_in, origin_in, record_in, kind_in, answer_in, requested_in, meters_in, loaded_in}
 use Rattle.wing_c.specs.Meanings.{OfRefusal, OfWritten, OfBody, OfFeed, OfLookup, OfSame, OfRecord, OfNext, OfRequested, OfMeters, OfLoaded, NextBeside, NumbersSay}
 use Rattle.wing_c.proofs.Listed.{load_told}
+use Rattle.wing_c.proofs.Read.{next-told}
+use Rattle.wing_c.proofs.Sent.{order-told, set_told}
 
 -- a refusal's status is below 0, and its number without the sign is the refusal's
 pub below : (n : ℕ) → 1 ≤ n → minus n ≡ negsuc (n - 1)
@@ -177,6 +183,9 @@ numbers-say =
       requested = requested;
       meters = meters;
       load = load;
+      next_call = λ s bytes node taken b r. next (next_of s bytes).answer node taken (next-told s bytes b r);
+      order_call = λ id s out. written (set_string id s out).answer (order-told id s out);
+      set_call = λ id v t out count. set (mirror_set full id v t out).answer count (set_told id v t out);
       load_call = λ text memory. load (load_of text memory).reply.answer (load_told text memory).answer;
       load_fresh = λ text memory. (load_told text memory).fresh;
       good_beside = λ why. record { written = refl; body = refl; set = λ count. refl; next = λ node taken. refl; load = λ line. refl };

@@ -1,13 +1,15 @@
 -- What the numbers of definitions and items mean, by the header's words, and that each of them is the meaning of its numbers.
-use Rattle.std.specs.Prelude.{ℕ, false, ◌≡◌, List, eqb, ℤ, pos}
+use Rattle.std.specs.Prelude.{ℕ, ◌^◌, ◌<◌, false, ◌≡◌, List, eqb, ℤ, pos}
 use Rattle.wing_node.specs.Bool.{if}
 use Rattle.wing_node.specs.Refusal.{good_beside}
+use Rattle.wing_node.specs.Result.{ok}
 use Rattle.wing_node.specs.Signed.{signed, InBits}
 use Rattle.wing_node.specs.Types.{type_of, unit_of}
 use Rattle.wing_node.specs.Definition.{definition_of}
 use Rattle.wing_node.specs.Items.{begin_of, step_at, item_numbered}
 use Rattle.wing_node.specs.Writer.{Lent, body_of_fields}
 use Rattle.wing_node.specs.Anew.{lent_from, anew_of}
+use Rattle.wing_node.specs.BothWays.{gives}
 use Rattle.wing_wire.specs.Range.{AreBytes}
 use Rattle.wing_node.specs.declared.refusal.Refusal.{Refusal}
 use Rattle.wing_node.specs.declared.node_type.NodeType.{NodeType}
@@ -88,6 +90,35 @@ fields_read r =
       steps = r.steps;
     }
 
+-- the fields to be written, with these limits, steps and longest string
+abbrev pub with_details : WingFields → ℕ → ℕ → ℤ → ℕ → WingFields
+with_details f min max steps max_len =
+    record {
+      parent_id = f.parent_id;
+      id = f.id;
+      index = f.index;
+      node_type = f.node_type;
+      unit = f.unit;
+      read_only = f.read_only;
+      count = f.count;
+      max_len = max_len;
+      min = min;
+      max = max;
+      steps = steps;
+    }
+
+-- 02: those its type lacks left out: types 1 and 2 have limits and steps, 4 has limits, 7 the longest string. The count stays: where the type has no items,
+-- one above 0 is 16
+abbrev pub of_its_type : NodeType → WingFields → WingFields
+of_its_type Node f = with_details f 0 0 (pos 0) 0
+of_its_type LinearFloat f = with_details f f.min f.max f.steps 0
+of_its_type LogarithmicFloat f = with_details f f.min f.max f.steps 0
+of_its_type FaderLevel f = with_details f 0 0 (pos 0) 0
+of_its_type Integer f = with_details f f.min f.max (pos 0) 0
+of_its_type StringEnum f = with_details f 0 0 (pos 0) 0
+of_its_type FloatEnum f = with_details f 0 0 (pos 0) 0
+of_its_type String f = with_details f 0 0 (pos 0) f.max_len
+
 -- a walk: the place in the body reached, the items left, the type
 unfoldable pub walk_in : WingWalk → Walk
 walk_in r = record { at = r.at; left = r.left; kind = type_of r.node_type }
@@ -122,6 +153,17 @@ pub data OfType : NodeType → Details → Type 0 where
   strings : {count first : ℕ} → OfType StringEnum (Items count first)
   floats : {count first : ℕ} → OfType FloatEnum (Items count first)
   text : {n : ℕ} → OfType String (MaxLen n)
+
+-- the fields to be written are within their types. No caller can fail it
+pub record TypedFields (f : WingFields) : Type 0 where
+  pub parent : InBits 31 f.parent_id
+  pub id : InBits 31 f.id
+  pub index : f.index < 2 ^ 16
+  pub count : f.count < 2 ^ 16
+  pub max_len : f.max_len < 2 ^ 16
+  pub min : f.min < 2 ^ 32
+  pub max : f.max < 2 ^ 32
+  pub steps : InBits 31 f.steps
 
 -- of the parser
 abbrev pub OfParsed : Parsed → Type 0
@@ -197,6 +239,9 @@ pub record DefinitionsSay : Type 0 where
   -- the fields that were read of a body, given with its names and items, are written as the body is anew: a limit's 32 bits serve both ways
   pub given_back : (body out : List ℕ) (d : Definition) → AreBytes body → definition_of body ≡ Good d →
       body_of_fields (fields_given (fields_read (taken_numbers d))) (lent_from body d) out ≡ anew_of body out
+  -- 02: what is written of numbers reads back as the same numbers, type, unit and count too, those that the type lacks left out
+  pub written_back : (f : WingFields) (l : Lent) (out body : List ℕ) → TypedFields f → gives (body_of_fields (fields_given f) l out) ≡ ok body →
+      let r = definition_numbers (definition_of body) in (r.status ≡ pos 0) × (fields_read r ≡ of_its_type (type_of f.node_type) f)
   pub good_beside : (why : Refusal) → GoodBeside why
   pub refused_zero : (why : Refusal) → RefusedZero why
   pub other_zero : OtherZero

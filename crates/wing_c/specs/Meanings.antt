@@ -3,7 +3,15 @@ use Rattle.std.specs.Prelude.{ℕ, suc, ◌≤◌, ◌≡◌, List, eqb, ℤ, po
 use Rattle.wing_node.specs.Bool.{if}
 use Rattle.wing_node.specs.Refusal.{good_beside}
 use Rattle.wing_node.specs.Signed.{signed, InBits}
+use Rattle.wing_node.specs.Value.{NodeValue}
 use Rattle.wing_wire.specs.State.{fresh_state}
+use Rattle.wing_wire.specs.Range.{AreBytes, InRange}
+use Rattle.wing_wire.specs.Reader.{next_of}
+use Rattle.wing_wire.specs.declared.state.State.{State}
+use Rattle.wing_wire.specs.Command.{set_string}
+use Rattle.wing_mirror.specs.Rows.{Table}
+use Rattle.wing_mirror.specs.Record.{full}
+use Rattle.wing_mirror.specs.Mirror.{mirror_set}
 use Rattle.wing_node.specs.declared.refusal.Refusal.{Refusal}
 use Rattle.wing_node.specs.declared.refusal.Refusal.TheVariants.{Number, StringNotUtf8, DefinitionNotUtf8}
 use Rattle.wing_node.specs.declared.value.Value.{Value}
@@ -272,6 +280,11 @@ pub record NumbersSay : Type 0 where
   pub requested : (r : Requested) → OfRequested r → requested_in (requested_numbers r) ≡ r
   pub meters : (m : MetersRead) → OfMeters m → meters_in (meters_numbers m) ≡ m
   pub load : (a : Loaded) → OfLoaded a → loaded_in (loaded_numbers a) ≡ a
+  -- what a next call answers is read back from its numbers, from any state in the range of its types and whatever the bytes: 1 with its good too
+  pub next_call : (s : State) (bytes : List ℕ) (node : ℤ) (taken : ℕ) → AreBytes bytes → InRange s.control s.store → let a = (next_of s bytes).answer in answer_in (event_numbers a node taken) ≡ a
+  -- what a set order of a string answers is read back from its numbers, 10, 1 with its good, 9, whatever it is given; and so is what a set through the mirror does
+  pub order_call : (id : ℤ) (s out : List ℕ) → let w = (set_string id s out).answer in written_in (written_numbers w) ≡ w
+  pub set_call : (id : ℤ) (v : NodeValue) (t : Table) (out : List ℕ) (count : ℕ) → let w = (mirror_set full id v t out).answer in set_in (set_numbers w count) ≡ w
   -- what a load answers is read back from its numbers, whatever the text and the table memory are; the state beside it, which is not among
   -- them, is always a fresh one
   pub load_call : (text memory : List ℕ) → let a = (load_of text memory).reply.answer in loaded_in (loaded_numbers a) ≡ a

@@ -1,5 +1,6 @@
 -- 01's example of a listing, and the boundaries that 02 names, line by line: one table.
-use Rattle.std.specs.Prelude.{ℕ, List, [], ◌∷◌, ℤ, pos, negsuc}
+-- Then whole texts, and one case more by itself: either end of ids and of integers.
+use Rattle.std.specs.Prelude.{ℕ, List, [], ◌∷◌, ◌++◌, ℤ, pos, negsuc, length, replicate}
 use Rattle.wing_node.specs.declared.refusal.Fault.TheVariants.{None, Refused as Because}
 use Rattle.wing_node.specs.declared.refusal.Fault.{Fault}
 use Rattle.wing_node.specs.Refusal.{refusal_number, good_beside}
@@ -8,7 +9,7 @@ use Rattle.wing_mirror.specs.Rows.{Found, found, nothing}
 use Rattle.wing_mirror.specs.Entry.{Entry, entry}
 use Rattle.wing_mirror.specs.declared.origin.Origin.TheVariants.{Console, SetOrder}
 use Rattle.wing_listing.specs.Listing.{listing_of}
-use Rattle.wing_listing.specs.Reading.{line_fault}
+use Rattle.wing_listing.specs.Reading.{line_fault, Reading, good, bad, reading_of}
 
 -- what the definitions give, and what is wanted
 pub record Case : Type 0 where
@@ -32,12 +33,28 @@ fine before line = record { got = fault_numbers (line_fault before line); wanted
 unfoldable pub wrong : Found ℤ → List ℕ → ℕ → ℕ → Case
 wrong before line why g = record { got = fault_numbers (line_fault before line); wanted = why ∷ g ∷ [] }
 
+-- the number of what is wrong with a text, the good that stands beside it and its line; 0 and how many entries it has if nothing is
+abbrev pub reading_numbers : Reading → List ℕ
+reading_numbers (good es) = 0 ∷ length es ∷ []
+reading_numbers (bad why line) = refusal_number why ∷ good_beside why ∷ line ∷ []
+
+-- a whole text, and what it is read as
+unfoldable pub reads : List ℕ → List ℕ → Case
+reads text numbers = record { got = reading_numbers (reading_of text); wanted = numbers }
+
+-- id,kind,value
+abbrev pub top : List ℕ
+top = 0x69 ∷ 0x64 ∷ 0x2c ∷ 0x6b ∷ 0x69 ∷ 0x6e ∷ 0x64 ∷ 0x2c ∷ 0x76 ∷ 0x61 ∷ 0x6c ∷ 0x75 ∷ 0x65 ∷ []
+
 -- each text in ASCII
 unfoldable pub cases : List Case
 cases =
     -- 01: id,kind,value; -2,f,3f800000; 1,i,5; 2,s,4142. 02: an origin is not listed
     lists (entry (negsuc 1) (float 0x3f800000) Console ∷ entry (pos 1) (integer (pos 5)) SetOrder ∷ entry (pos 2) (string (0x41 ∷ 0x42 ∷ [])) Console ∷ [])
     (0x69 ∷ 0x64 ∷ 0x2c ∷ 0x6b ∷ 0x69 ∷ 0x6e ∷ 0x64 ∷ 0x2c ∷ 0x76 ∷ 0x61 ∷ 0x6c ∷ 0x75 ∷ 0x65 ∷ 0x0a ∷ 0x2d ∷ 0x32 ∷ 0x2c ∷ 0x66 ∷ 0x2c ∷ 0x33 ∷ 0x66 ∷ 0x38 ∷ 0x30 ∷ 0x30 ∷ 0x30 ∷ 0x30 ∷ 0x30 ∷ 0x0a ∷ 0x31 ∷ 0x2c ∷ 0x69 ∷ 0x2c ∷ 0x35 ∷ 0x0a ∷ 0x32 ∷ 0x2c ∷ 0x73 ∷ 0x2c ∷ 0x34 ∷ 0x31 ∷ 0x34 ∷ 0x32 ∷ 0x0a ∷ []) ∷
+    -- -1000,i,999; 10,i,-999; 223,f,89abcdef; 224,s,; 1000,s,00c3be67: signs, hex digits from 6 to f, an empty string
+    lists (entry (negsuc 999) (integer (pos 999)) Console ∷ entry (pos 10) (integer (negsuc 998)) Console ∷ entry (pos 223) (float 0x89abcdef) SetOrder ∷ entry (pos 224) (string []) Console ∷ entry (pos 1000) (string (0x00 ∷ 0xc3 ∷ 0xbe ∷ 0x67 ∷ [])) Console ∷ [])
+    (top ++ (0x0a ∷ 0x2d ∷ 0x31 ∷ 0x30 ∷ 0x30 ∷ 0x30 ∷ 0x2c ∷ 0x69 ∷ 0x2c ∷ 0x39 ∷ 0x39 ∷ 0x39 ∷ 0x0a ∷ 0x31 ∷ 0x30 ∷ 0x2c ∷ 0x69 ∷ 0x2c ∷ 0x2d ∷ 0x39 ∷ 0x39 ∷ 0x39 ∷ 0x0a ∷ 0x32 ∷ 0x32 ∷ 0x33 ∷ 0x2c ∷ 0x66 ∷ 0x2c ∷ 0x38 ∷ 0x39 ∷ 0x61 ∷ 0x62 ∷ 0x63 ∷ 0x64 ∷ 0x65 ∷ 0x66 ∷ 0x0a ∷ 0x32 ∷ 0x32 ∷ 0x34 ∷ 0x2c ∷ 0x73 ∷ 0x2c ∷ 0x0a ∷ 0x31 ∷ 0x30 ∷ 0x30 ∷ 0x30 ∷ 0x2c ∷ 0x73 ∷ 0x2c ∷ 0x30 ∷ 0x30 ∷ 0x63 ∷ 0x33 ∷ 0x62 ∷ 0x65 ∷ 0x36 ∷ 0x37 ∷ 0x0a ∷ [])) ∷
     -- 1,i,2147483647: the largest integer
     fine nothing (0x31 ∷ 0x2c ∷ 0x69 ∷ 0x2c ∷ 0x32 ∷ 0x31 ∷ 0x34 ∷ 0x37 ∷ 0x34 ∷ 0x38 ∷ 0x33 ∷ 0x36 ∷ 0x34 ∷ 0x37 ∷ []) ∷
     -- 1,i,2147483648: one more
@@ -76,6 +93,20 @@ cases =
     wrong nothing (0x31 ∷ 0x2c ∷ 0x73 ∷ 0x2c ∷ 0x38 ∷ 0x30 ∷ []) 1 0 ∷
     -- 1,s,41c3: a letter, and a character that is cut off
     wrong nothing (0x31 ∷ 0x2c ∷ 0x73 ∷ 0x2c ∷ 0x34 ∷ 0x31 ∷ 0x63 ∷ 0x33 ∷ []) 1 1 ∷
+    -- 1,s,41c3a980: a letter and a whole character, then a byte that begins none: three bytes are good
+    wrong nothing (0x31 ∷ 0x2c ∷ 0x73 ∷ 0x2c ∷ 0x34 ∷ 0x31 ∷ 0x63 ∷ 0x33 ∷ 0x61 ∷ 0x39 ∷ 0x38 ∷ 0x30 ∷ []) 1 3 ∷
+    -- 1,s,414280c3a9: what follows a byte that begins none is not looked at
+    wrong nothing (0x31 ∷ 0x2c ∷ 0x73 ∷ 0x2c ∷ 0x34 ∷ 0x31 ∷ 0x34 ∷ 0x32 ∷ 0x38 ∷ 0x30 ∷ 0x63 ∷ 0x33 ∷ 0x61 ∷ 0x39 ∷ []) 1 2 ∷
+    -- 1,s, and 256 pairs 44: the longest string
+    fine nothing (0x31 ∷ 0x2c ∷ 0x73 ∷ 0x2c ∷ replicate 512 0x34) ∷
+    -- one pair more
+    wrong nothing (0x31 ∷ 0x2c ∷ 0x73 ∷ 0x2c ∷ replicate 514 0x34) 10 0 ∷
+    -- 256 pairs 88: not UTF-8
+    wrong nothing (0x31 ∷ 0x2c ∷ 0x73 ∷ 0x2c ∷ replicate 512 0x38) 1 0 ∷
+    -- 257 pairs 88: 10 comes before 1
+    wrong nothing (0x31 ∷ 0x2c ∷ 0x73 ∷ 0x2c ∷ replicate 514 0x38) 10 0 ∷
+    -- the same after 1: 18 before 10
+    wrong (found (pos 1)) (0x31 ∷ 0x2c ∷ 0x73 ∷ 0x2c ∷ replicate 514 0x38) 18 0 ∷
     -- 1,i,5,: a comma more
     wrong nothing (0x31 ∷ 0x2c ∷ 0x69 ∷ 0x2c ∷ 0x35 ∷ 0x2c ∷ []) 17 0 ∷
     -- 1,i: a comma less
@@ -99,4 +130,28 @@ cases =
     -- 0,s,80 after 1: 18 before 1
     wrong (found (pos 1)) (0x30 ∷ 0x2c ∷ 0x73 ∷ 0x2c ∷ 0x38 ∷ 0x30 ∷ []) 18 0 ∷
     -- above, over the sign: 0 after −1
-    fine (found (negsuc 0)) (0x30 ∷ 0x2c ∷ 0x69 ∷ 0x2c ∷ 0x35 ∷ []) ∷ []
+    fine (found (negsuc 0)) (0x30 ∷ 0x2c ∷ 0x69 ∷ 0x2c ∷ 0x35 ∷ []) ∷
+    -- (nothing): no header
+    reads ([]) (17 ∷ 0 ∷ 1 ∷ []) ∷
+    -- the header without its newline
+    reads (top) (17 ∷ 0 ∷ 1 ∷ []) ∷
+    -- a carriage return after the header
+    reads (top ++ (0x0d ∷ 0x0a ∷ [])) (17 ∷ 0 ∷ 1 ∷ []) ∷
+    -- the header alone: no entries
+    reads (top ++ (0x0a ∷ [])) (0 ∷ 0 ∷ []) ∷
+    -- a last line, 1,i,5, without its newline
+    reads (top ++ (0x0a ∷ 0x31 ∷ 0x2c ∷ 0x69 ∷ 0x2c ∷ 0x35 ∷ [])) (17 ∷ 0 ∷ 2 ∷ []) ∷
+    -- 1,i,5; an empty line
+    reads (top ++ (0x0a ∷ 0x31 ∷ 0x2c ∷ 0x69 ∷ 0x2c ∷ 0x35 ∷ 0x0a ∷ 0x0a ∷ [])) (17 ∷ 0 ∷ 3 ∷ []) ∷
+    -- 9,i,5; 10,i,5: two entries
+    reads (top ++ (0x0a ∷ 0x39 ∷ 0x2c ∷ 0x69 ∷ 0x2c ∷ 0x35 ∷ 0x0a ∷ 0x31 ∷ 0x30 ∷ 0x2c ∷ 0x69 ∷ 0x2c ∷ 0x35 ∷ 0x0a ∷ [])) (0 ∷ 2 ∷ []) ∷
+    -- 1,i,5; 3,i,5; 2,i,5: the third is not above the second
+    reads (top ++ (0x0a ∷ 0x31 ∷ 0x2c ∷ 0x69 ∷ 0x2c ∷ 0x35 ∷ 0x0a ∷ 0x33 ∷ 0x2c ∷ 0x69 ∷ 0x2c ∷ 0x35 ∷ 0x0a ∷ 0x32 ∷ 0x2c ∷ 0x69 ∷ 0x2c ∷ 0x35 ∷ 0x0a ∷ [])) (18 ∷ 0 ∷ 4 ∷ []) ∷
+    -- 1,i,5; 2,s,4180; x: the first bad line decides
+    reads (top ++ (0x0a ∷ 0x31 ∷ 0x2c ∷ 0x69 ∷ 0x2c ∷ 0x35 ∷ 0x0a ∷ 0x32 ∷ 0x2c ∷ 0x73 ∷ 0x2c ∷ 0x34 ∷ 0x31 ∷ 0x38 ∷ 0x30 ∷ 0x0a ∷ 0x78 ∷ 0x0a ∷ [])) (1 ∷ 1 ∷ 3 ∷ []) ∷ []
+
+-- -2147483648,i,2147483647; 2147483647,i,-2147483648: either end of ids and of integers
+abbrev pub ends : Case
+ends =
+    lists (entry (negsuc 2147483647) (integer (pos 2147483647)) Console ∷ entry (pos 2147483647) (integer (negsuc 2147483647)) SetOrder ∷ [])
+    (top ++ (0x0a ∷ 0x2d ∷ 0x32 ∷ 0x31 ∷ 0x34 ∷ 0x37 ∷ 0x34 ∷ 0x38 ∷ 0x33 ∷ 0x36 ∷ 0x34 ∷ 0x38 ∷ 0x2c ∷ 0x69 ∷ 0x2c ∷ 0x32 ∷ 0x31 ∷ 0x34 ∷ 0x37 ∷ 0x34 ∷ 0x38 ∷ 0x33 ∷ 0x36 ∷ 0x34 ∷ 0x37 ∷ 0x0a ∷ 0x32 ∷ 0x31 ∷ 0x34 ∷ 0x37 ∷ 0x34 ∷ 0x38 ∷ 0x33 ∷ 0x36 ∷ 0x34 ∷ 0x37 ∷ 0x2c ∷ 0x69 ∷ 0x2c ∷ 0x2d ∷ 0x32 ∷ 0x31 ∷ 0x34 ∷ 0x37 ∷ 0x34 ∷ 0x38 ∷ 0x33 ∷ 0x36 ∷ 0x34 ∷ 0x38 ∷ 0x0a ∷ []))

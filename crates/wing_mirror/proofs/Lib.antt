@@ -3,3 +3,4 @@ pub mod Lists
 pub mod Records
 pub mod Calls
 pub mod Histories
+pub mod Worked

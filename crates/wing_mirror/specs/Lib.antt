@@ -23,3 +23,4 @@ pub mod Sending
 pub mod History
 pub mod Origins
 pub mod OlderTables
+pub mod Cases

@@ -8,3 +8,4 @@ pub mod Characters
 pub mod Refusals
 pub mod Bodies
 pub mod Results
+pub mod Worked

@@ -1,5 +1,5 @@
 pub mod Worked
 pub mod Reading
-mod Writing
+pub mod Writing
 pub mod BothWays
 pub mod Laws

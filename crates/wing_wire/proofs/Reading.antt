@@ -14,6 +14,8 @@ pub mod Steps
 pub mod Bounds
 pub mod Sound
 pub mod Ranges
+pub mod Runs
+pub mod Refusing
 pub mod Handled
 pub mod Beside
 pub mod Few

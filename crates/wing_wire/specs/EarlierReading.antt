@@ -12,7 +12,7 @@ use Rattle.wing_wire.specs.Stream.{is_more, released, Fed, feed_of}
 use Rattle.wing_wire.specs.Units.{StreamUnit, units_of, units_taken}
 use Rattle.wing_wire.specs.Range.{AreBytes}
 use Rattle.wing_wire.specs.DecoderLaws.{state_in}
-use Rattle.wing_wire.specs.Earlier.{earlier_control, earlier_state, earlier_fresh, earlier_sound, is_long_count, carried_token, carry_of}
+use Rattle.wing_wire.specs.Earlier.{earlier_control, earlier_state, earlier_fresh, earlier_sound, is_long_count, carried_token, carried, carry_of}
 use Rattle.wing_wire.specs.declared.token.Class.{Class}
 use Rattle.wing_wire.specs.declared.token.Class.TheVariants.{NoEvent, Integer, String, Length, Int16, Int32, Float, Node, End, Count, LongCount}
 use Rattle.wing_wire.specs.declared.earlier.Token.{Token}
@@ -123,6 +123,10 @@ wants_long (Number class left v) = is_long_count class
 wants_long (InString want left) = false
 wants_long (InBody want left stored) = false
 
+-- a token that wants the units after a count 0, by its form
+pub data InLong : Token → Type 0 where
+  in_long : (left v : ℕ) → InLong (Number LongCount left v)
+
 -- the decoder's state
 abbrev pub earlier_in : {M : Type 0} → EarlierFed M → State
 earlier_in x = earlier_state x.control x.store
@@ -178,6 +182,10 @@ module _ {M : Type 0} (h : ℤ → Answer → List ℕ → M → M) where
     pub further : (x : EarlierFed M) (bytes : List ℕ) → no_long_count x bytes → feed_of (seeing h) (carried_fed x) bytes ≡ carried_fed (earlier_feed x bytes)
     -- the same unit by unit, so of a state between two units as well, where a byte may be pending: the escapes are the same in both
     pub units : (x : EarlierFed M) (us : List StreamUnit) → unstarted x us ≡ true → units_taken (seeing h) (carried_fed x) us ≡ carried_fed (earlier_units x us)
+    -- what is compared is the very state that the call answers with
+    pub same_state : (x : EarlierFed M) → let s = carried (earlier_in x) in ((carried_fed x).control ≡ s.control) × ((carried_fed x).store ≡ s.store)
+    -- the units left out are those after a count 0 and no others
+    pub long : (t : Token) → wants_long t ≡ true → InLong t
     -- a sound state within the four units after a count 0 gets 8 as soon as one of them is taken
     pub started : (x : EarlierFed M) (g : StreamUnit) → earlier_sound (earlier_in x) ≡ true → wants_long x.control.token ≡ true →
         wants_long (earlier_take x g).control.token ≡ true → carry_of (earlier_in (earlier_take x g)) ≡ refused (alone 8)

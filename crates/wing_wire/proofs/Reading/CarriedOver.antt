@@ -23,7 +23,7 @@ use Rattle.wing_wire.specs.Units.{StreamUnit, units_of, with_escape, unit_taken,
 use Rattle.wing_wire.specs.Range.{AreBytes}
 use Rattle.wing_wire.specs.DecoderLaws.{state_in}
 use Rattle.wing_wire.specs.Earlier.{earlier_counts, earlier_stored, earlier_sound, is_long_count, is_started, carried_token, carried, carry_of, carried_as, carried_result}
-use Rattle.wing_wire.specs.EarlierReading.{EarlierTaken, completed, awaited, earlier_begin, earlier_count, earlier_number, EarlierEffect, earlier_effect, earlier_text, earlier_next, earlier_unit, without_good, seeing, EarlierFed, wants_long, earlier_in, carried_fed, earlier_take, earlier_units, earlier_feed, unstarted, no_long_count, fresh_earlier, fresh_now, CarriesOver}
+use Rattle.wing_wire.specs.EarlierReading.{EarlierTaken, completed, awaited, earlier_begin, earlier_count, earlier_number, EarlierEffect, earlier_effect, earlier_text, earlier_next, earlier_unit, without_good, seeing, EarlierFed, wants_long, InLong, in_long, earlier_in, carried_fed, earlier_take, earlier_units, earlier_feed, unstarted, no_long_count, fresh_earlier, fresh_now, CarriesOver}
 use Rattle.wing_wire.specs.declared.token.Class.{Class}
 use Rattle.wing_wire.specs.declared.token.Class.TheVariants.{NoEvent, Integer, String, Length, Int16, Int32, Float, Node, End, Count, LongCount}
 use Rattle.wing_wire.specs.declared.state.Escape.{Escape}
@@ -301,6 +301,24 @@ long-taken node LongCount left v w false c e l =
     let most : left ≤ 4 = underway-le left 4 (and_left (underway left 4) (ltb v (256 ^ (4 - left))) c) in
     lt-ltb (left - 1) 4 (omega arith)
 
+-- what wants the units after a count 0 is a number of that class
+in-long : (t : EarlierToken) → wants_long t ≡ true → InLong t
+unfolding wants_long is_long_count
+in-long Between e = absurd (clash e refl)
+in-long (Number NoEvent left v) e = absurd (clash e refl)
+in-long (Number Integer left v) e = absurd (clash e refl)
+in-long (Number String left v) e = absurd (clash e refl)
+in-long (Number Length left v) e = absurd (clash e refl)
+in-long (Number Int16 left v) e = absurd (clash e refl)
+in-long (Number Int32 left v) e = absurd (clash e refl)
+in-long (Number Float left v) e = absurd (clash e refl)
+in-long (Number Node left v) e = absurd (clash e refl)
+in-long (Number End left v) e = absurd (clash e refl)
+in-long (Number Count left v) e = absurd (clash e refl)
+in-long (Number LongCount left v) e = in_long left v
+in-long (InString want left) e = absurd (clash e refl)
+in-long (InBody want left stored) e = absurd (clash e refl)
+
 -- of the four units after a count 0 one more is taken, and not the last
 one-taken : (node : ℤ) (t : EarlierToken) (s : List ℕ) (u : ℕ) (a : Bool) → earlier_counts t ≡ true → wants_long t ≡ true →
     wants_long (earlier_unit node t s u a).taken.token ≡ true → is_started (earlier_unit node t s u a).taken.token ≡ true
@@ -384,4 +402,4 @@ module _ {M : Type 0} (h : ℤ → Answer → List ℕ → M → M) where
       rw (fine, was, same)
 
   pub carries_over : CarriesOver h
-  carries_over = record { further = further; units = units-over; started = started; fresh = fresh }
+  carries_over = record { further = further; units = units-over; same_state = λ x. (refl, refl); long = in-long; started = started; fresh = fresh }

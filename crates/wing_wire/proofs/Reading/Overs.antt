@@ -23,6 +23,13 @@ length_over [] d = refl
 length_over (a ∷ s) [] = refl
 length_over (a ∷ s) (b ∷ d) = ap suc (length_over s d)
 
+-- past them the others are as they were
+pub over-rest : (n : ℕ) (s d : List ℕ) → drop n (over (take n s) d) ≡ drop n d
+over-rest zero s d = refl
+over-rest (suc n) [] d = refl
+over-rest (suc n) (a ∷ s) [] = refl
+over-rest (suc n) (a ∷ s) (b ∷ d) = over-rest n s d
+
 -- as far as both reach
 pub over-least : (n : ℕ) (s d : List ℕ) → over (take (min (min n (length s)) (length d)) s) d ≡ over (take n s) d
 over-least zero s d = rw (zero-min, zero-min)
