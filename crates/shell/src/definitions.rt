@@ -24,7 +24,7 @@ fn item(i: definition::Item, none: u8, refused: u8) -> Said {
     }
 }
 
-// The walker is made anew by the library for each step: a program that holds one would be proved by hand.
+// The walker is made anew by the library for each step.
 fn one_step(body: &[u8], w: items::Walk, lent: bool) -> items::Step {
     if lent {
         return walker::step_over(body, w);

@@ -110,8 +110,7 @@ fn event(log: &mut Log, at: usize, r: LentReply, e: Said) -> usize {
     show::say(log, to, e, &string)
 }
 
-// The lent next is called through next_over, since a program that lends a struct would be proved by hand. The reply of next
-// by value is parted from the state as the lent form has it.
+// The lent next is called through next_over. The reply of next by value is parted from the state as the lent form has it.
 fn next(is_lent: bool, s: state::State, bytes: &[u8]) -> lent::Parted {
     if is_lent {
         return lent::next_over(s, bytes);

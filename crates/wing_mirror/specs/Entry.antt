@@ -48,6 +48,6 @@ ids es = map (λ (e : Entry). e.id) es
 abbrev pub flipped : ℕ → ℕ
 flipped n = if (ltb n 0x80000000) (n + 0x80000000) (n - 0x80000000)
 
--- where an id stands in the order: rank-less (proofs/Records/Ids.antt) says that this is signed order
+-- where an id stands in the order: rank_less (proofs/Records/Ids.antt) says that this is signed order
 abbrev pub rank_of : ℤ → ℕ
 rank_of id = flipped (unsigned 31 id)

@@ -1,6 +1,5 @@
 // The item walker (01: "The item walker carries the lent body and the place reached, with the type and the number of
-// items left"). Thin over items.rt, which has the same walk on plain numbers for callers that hold no walker. begin and
-// step are walked by hand, since the borrow checker covers no struct that holds a slice.
+// items left"). Thin over items.rt, which has the same walk on plain numbers for callers that hold no walker.
 ghost use Rattle.std.specs.Prelude.{◌≡◌};
 ghost use Rattle.wing_node.specs.Items.{begin_of, step_at};
 ghost use Rattle.wing_node.specs.Walker.{start_of, opened_of, stepped_of};
@@ -102,7 +101,7 @@ pub fn step<'a>(w: Walker<'a>) -> Stepped<'a>
     }
 }
 
-// Test support: begin for programs that cannot hold a walker, since the borrow checker covers none that does; on plain numbers.
+// Test support: begin on plain numbers, with a walker of its own.
 pub fn begin_over(body: &[u8]) -> Start
     ensures { result ≡ start_of (begin_of body.now) }
 {

@@ -1,6 +1,5 @@
 // The next call in libwing's form, with the receiving state lent to be altered (01: "then add one thin call in the
-// lent form"). The core is next by value. proofs/lent/next_lent walks the thin call by hand, since the borrow checker
-// covers no &mut to a struct.
+// lent form"). The core is next by value.
 ghost use Rattle.std.specs.Prelude.{◌≡◌};
 ghost use Rattle.wing_wire.specs.Reader.{next_of, event_in, next_event};
 ghost use Rattle.wing_wire.specs.Lent.{whole_reply};
@@ -55,7 +54,7 @@ pub fn next_lent(s: &mut State, bytes: &[u8]) -> LentReply
     r.reply
 }
 
-// Test support: next_lent for programs that cannot lend a struct, since the borrow checker covers none that does. It lends a local.
+// Test support: next_lent by value. It lends a local.
 pub fn next_over(s: State, bytes: &[u8]) -> Parted
     ensures { (whole_reply result.reply result.state ≡ next_of s bytes.now) × (event_in (whole_reply result.reply result.state) ≡ next_event s bytes.now) }
 {
