@@ -1,7 +1,14 @@
 #!/usr/bin/env python3
-"""Turns a Proof.antt of goals and answers into Invariants.antt and Answers.antt.
+"""Turns a function's walked proof of the older kit, Proof.antt, into Invariants.antt and Answers.antt.
 
-usage: conv.py NAMES CRATES CRATE [PREFIX]
+usage: tools/proofs_to_answers.py NAMES CRATES CRATE [merged]
+
+NAMES is the names.json that 'rt check --generated FOLDER --old-names' writes in the crate's folder: each goal's old and new name, and the places of the walk with
+their labels. Since that needs the crates below it proved, the port made one crate of the sources of all libraries, each a module, and took the names of that one:
+'merged' says so. CRATES is the folder crates/, CRATE a crate of it, after port.py. Each Proof.antt that is understood is removed; a line is printed for what is not.
+
+A goal that was answered by 'search rules', 'omega arith', 'refl' or 'tt' is left to the check. Of the others the answer is kept, and a path into the walk, as
+'c.before.before.f.ensures', becomes the label's own, as 'c.f-x.ensures'.
 """
 import json, os, re, sys
 
