@@ -1,9 +1,7 @@
 // Text laid into the log. Each function takes the place that the log has reached and answers the next one; a full log
 // stays at its end.
-ghost use Rattle.std.specs.Prelude.{◌<◌, ◌≤◌, length};
 
 use crate::read;
-use std::io;
 use wing_node::field;
 use wing_node::refusal::Refusal;
 use wing_wire::state::zeros_from;
@@ -76,51 +74,16 @@ pub fn refused(letter: u8, why: Refusal) -> Said {
     one(letter, refusal(why))
 }
 
-fn digit(n: usize) -> u8
-    requires { n < 16 }
-{
-    if n < 10 {
-        b'0' + n as u8
-    } else {
-        b'a' - 10 + n as u8
-    }
-}
-
-// No number has more digits, in decimal or in hex.
-const DIGITS: usize = 20;
-
-// Puts a number's digits at the end of a buffer, with zeros in front up to a width, and answers where they begin.
-fn digits(n: usize, base: usize, width: usize, buffer: &mut [u8; DIGITS]) -> usize
-    requires nonzero { 0 < base }
-    requires small { base ≤ 16 }
-    ensures { result ≤ length buffer.new }
-{
-    let mut rest = n;
-    let mut from = DIGITS;
-    while from > 0 && (rest > 0 || DIGITS - from < width) {
-        from -= 1;
-        buffer[from] = digit(rest % base);
-        rest /= base;
-    }
-    from
-}
-
 pub fn decimal(log: &mut Log, at: usize, n: usize) -> usize {
-    let mut buffer = [0u8; DIGITS];
-    let from = digits(n, 10, 1, &mut buffer);
-    read::lay(log, at, &buffer[from..])
+    let mut digits = [0u8; 20];
+    let k = io::decimal(n as u64, &mut digits);
+    read::lay(log, at, &digits[..k])
 }
 
-// A width of 0 counts as 1, and one above 16 as 16.
 pub fn hex(log: &mut Log, at: usize, n: usize, width: usize) -> usize {
-    let mut buffer = [0u8; DIGITS];
-    let least = if width < 1 {
-        1
-    } else {
-        read::at_most(width, 16)
-    };
-    let from = digits(n, 16, least, &mut buffer);
-    read::lay(log, at, &buffer[from..])
+    let mut digits = [0u8; 16];
+    let k = io::hex(n as u64, width, &mut digits);
+    read::lay(log, at, &digits[..k])
 }
 
 // A number of 32 bits with its sign, by its bits.
@@ -318,7 +281,7 @@ pub fn summed(log: &mut Log, n: usize, asked: bool) -> usize {
 }
 
 // A whole line with its end.
-pub fn print(to: &impl Print, log: &mut Log, at: usize) -> io::Result<()> {
+pub fn print(to: &impl Print, log: &mut Log, at: usize) -> std::io::Result<()> {
     let n = read::put(log, at, b'\n');
     to.write_all(read::part(log, 0, n))
 }
