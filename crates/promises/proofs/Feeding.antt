@@ -28,7 +28,7 @@ use Rattle.wing_mirror.specs.Rows.{Table}
 use Rattle.wing_mirror.specs.Record.{full}
 use Rattle.wing_mirror.specs.Entry.{entry}
 use Rattle.wing_mirror.specs.Table.{usable, put}
-use Rattle.wing_mirror.specs.Counts.{zero_counts, mark_number, one, tick, refusal_mark, body_mark}
+use Rattle.wing_mirror.specs.Counts.{six, zero_counts, mark_number, one, tick, refusal_mark, body_mark}
 use Rattle.wing_mirror.specs.Mirror.{TableTally, table_tally, keep_event, FeedEffect, fed_all, mirror_feed}
 use Rattle.wing_mirror.specs.Machine.{decode_all}
 use Rattle.wing_mirror.specs.declared.answer.FeedAnswer.TheVariants.{Taken, Refused as FeedRefused}
@@ -36,7 +36,7 @@ use Rattle.wing_mirror.specs.declared.counts.Mark.{Mark}
 use Rattle.wing_mirror.specs.declared.counts.Mark.TheVariants.{Stored, Unplaced, StringRefused, DefinitionRead, DefinitionRefused, Ended}
 use Rattle.wing_mirror.specs.declared.origin.Origin.TheVariants.{Console}
 use Rattle.promises.specs.Wire.{with_event}
-use Rattle.promises.specs.Mirror.{MachineReads, six, EventsCounted}
+use Rattle.promises.specs.Mirror.{MachineReads, EventsCounted}
 use Rattle.promises.proofs.Lines.{given}
 
 -- ---- next until 'more'

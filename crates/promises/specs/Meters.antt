@@ -32,7 +32,7 @@ pub record MakeCall (width : ℕ) (answer : MadeAnswer) (w : Window) : Type 0 wh
   -- 02: a width from 1 to 256, exactly: a width that is taken is one, and of every such width the window is what the empty list of readings leaves
   pub wide : answer ≡ Good → Width width
   pub left : Width width → Leaves width [] w
-  -- it is the call that Moving of wing_meters' specs/ speaks of
+  -- it is the call that Calls of wing_meters' specs/ defines
   pub same : record { answer = answer; window = w } ≡ made_of width
 
 -- a reading that goes into a window
@@ -84,5 +84,5 @@ pub record ReadingsCall (w : Window) (xs out : List ℤ) (answer : RowsAnswer) (
   pub refusal : (Left w → ⊥) → rows_result answer laid ≡ refused state_unsound
   -- sent back, it leaves the output and the window as they were
   pub as_it_was : (why : Refusal) → rows_result answer laid ≡ refused why → (laid ≡ out) × (after ≡ w)
-  -- it is the call that Moving of wing_meters' specs/ speaks of
+  -- it is the call that Calls of wing_meters' specs/ defines
   pub same : rows_effect (followed answer after) laid ≡ readings_of w xs out

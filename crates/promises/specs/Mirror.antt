@@ -31,7 +31,7 @@ use Rattle.wing_mirror.specs.Query.{same_tables, refused_record}
 use Rattle.wing_mirror.specs.Answers.{lookup_result, record_result, same_result, feed_result}
 use Rattle.wing_mirror.specs.Lookups.{RecordOf}
 use Rattle.wing_mirror.specs.HighEnd.{counted_of, SearchReads}
-use Rattle.wing_mirror.specs.Counts.{zero_counts, total}
+use Rattle.wing_mirror.specs.Counts.{six, zero_counts, total}
 use Rattle.wing_mirror.specs.Call.{Call, feed, set, text_in, too_long, not_text, run_all, TypedCall}
 use Rattle.wing_mirror.specs.Mirror.{TableTally, table_tally, keep_event, fed_all}
 use Rattle.wing_mirror.specs.Machine.{Machine, decode_all, events, machine_step}
@@ -191,7 +191,7 @@ UnplacedStays = (node : ℤ) (v : NodeValue) (k : TableTally) → fits full (ent
 abbrev pub machine_at : Mirror → Machine
 machine_at m = record { decoder = m.decoder; map = entries_of full m.table }
 
--- 01: a history from any mirror that the calls take, with a byte pending too: the plain machine from there agrees with it. Bytes and the state's numbers are in the range of their types
+-- more than 01 asks: a history from any mirror that the calls take, with a byte pending too: the plain machine from there agrees with it. Bytes and the state's numbers are in the range of their types
 abbrev pub AgreementFrom : Type 0
 AgreementFrom = (m : Mirror) (calls : List Call) → InRange m.decoder.control m.decoder.store → sound_state m.decoder ≡ true →
     AreBytes m.table.buffer → usable full m.table ≡ true → All TypedCall calls →
@@ -202,10 +202,6 @@ abbrev pub MachineReads : Type 0
 MachineReads = (s : State) (bytes : List ℕ) → Accepted s bytes → PendingByte s.control.escape.pending → AreBytes bytes → NextCalls with_event s bytes [] (decode_all s bytes)
 
 -- ---- what a feed counts
-
--- 01: values stored, values with no place, strings refused, definitions read, definitions refused, ends
-abbrev pub six : ℕ → ℕ → ℕ → ℕ → ℕ → ℕ → Counts
-six a b c d e f = record { stored = a; unplaced = b; strings_refused = c; definitions_read = d; definitions_refused = e; ends = f }
 
 -- within a feed, with a table and counts so far: what each event leaves of both
 pub record EachCounted (node : ℤ) (t : Table) (a b c d e f : ℕ) : Type 0 where
@@ -238,5 +234,5 @@ pub record SearchCounts : Type 0 where
   -- the same by where the ids part, those not above the one asked and then those above it: for an id above all others one is read, and none in an empty table
   pub parted : (t : Table) (id : ℤ) (xs ys : List ℤ) → AreBytes t.buffer → InBits 31 id → usable full t ≡ true → ids (entries_of full t) ≡ xs ++ ys →
       All (λ (i : ℤ). lt_z id i ≡ false) xs → All (λ (i : ℤ). lt_z id i ≡ true) ys → ids_read id t ≡ length ys + if (eqb (length xs) 0) 0 1
-  -- and by the number that lookup tells: the record of that number is the last that is read
+  -- and by the number that lookup tells: as many ids as from the last record down to that one
   pub at : (t : Table) (id : ℤ) (number : ℕ) → AreBytes t.buffer → InBits 31 id → usable full t ≡ true → lookup_of full id t ≡ found number → ids_read id t + number ≡ t.count

@@ -224,7 +224,7 @@ pub fn search_reads()
     ensures { SearchReads full }
 {}
 
-// The same where the ids part, those not above the one asked and then those above it; and where lookup tells a record's number, the ids read are those from the last down to that one.
+// The same where the ids part, those not above the one asked and then those above it; and where lookup tells a record's number, as many ids are read as from the last record down to that one.
 pub fn search_counts()
     ensures { SearchCounts }
 {}

@@ -5,7 +5,7 @@ ghost use Rattle.wing_c.specs.WindowMeanings.{WindowsSay};
 
 // Every answer is what its numbers mean by the header's words: a status below 0 is the refusal of that number, 1 and 5 with the good beside
 // them, and nothing of an answer is dropped; what a case has not is 0.
-// So it is of what a next call, a set order, a set and a load answer, whatever they are given.
+// So it is of what a next call, a set order of a string, a set and a load answer, whatever they are given.
 pub fn numbers_say_answers()
     ensures { NumbersSay }
 {}

@@ -1,5 +1,5 @@
 -- Feeds and sets of a mirror, its records, which tables are taken, and its recall, written out: a table with one joint proof. What the calls leave is what the definitions give here, by the
--- contracts of the calls.
+-- contracts of the calls, and for `counts` and `come_out`, which run the plain machine, by the theorem on histories.
 use Rattle.std.specs.Prelude.{ℕ, ◌-◌, Bool, true, false, List, [], ◌∷◌, ◌++◌, map, pos, negsuc, length, replicate}
 use Rattle.wing_node.specs.Bytes.{joined}
 use Rattle.wing_node.specs.Refusal.{alone}
@@ -9,7 +9,7 @@ use Rattle.wing_mirror.specs.Entry.{Entry, entry}
 use Rattle.wing_mirror.specs.Layout.{kept}
 use Rattle.wing_mirror.specs.Record.{record_of, entry_in, full}
 use Rattle.wing_mirror.specs.Table.{table, places_allowed, usable, put}
-use Rattle.wing_mirror.specs.Counts.{mark_number, refusal_mark}
+use Rattle.wing_mirror.specs.Counts.{six, mark_number, refusal_mark}
 use Rattle.wing_mirror.specs.Call.{Call, feed, set, Outcome, fed, sent, refused, run_all}
 use Rattle.wing_mirror.specs.Machine.{new_machine, machine_step}
 use Rattle.wing_mirror.specs.Recall.{recall_bytes}
@@ -32,10 +32,6 @@ pub record Case : Type 0 where
 -- a case by both of its sides
 abbrev pub case : Shown → Shown → Case
 case got wanted = record { got = got; wanted = wanted }
-
--- 01: the six counts: values stored, values with no place, strings refused, definitions read, definitions refused, ends
-abbrev pub six : ℕ → ℕ → ℕ → ℕ → ℕ → ℕ → Counts
-six a b c d e f = record { stored = a; unplaced = b; strings_refused = c; definitions_read = d; definitions_refused = e; ends = f }
 
 -- the counts of a feed to a new machine with one place
 unfoldable pub counts : List ℕ → Counts → Case

@@ -12,6 +12,10 @@ use Rattle.wing_mirror.specs.declared.counts.Mark.TheVariants.{Stored, Unplaced,
 abbrev pub zero_counts : Counts
 zero_counts = record { stored = 0; unplaced = 0; strings_refused = 0; definitions_read = 0; definitions_refused = 0; ends = 0 }
 
+-- the six, in 01's order
+abbrev pub six : ℕ → ℕ → ℕ → ℕ → ℕ → ℕ → Counts
+six a b c d e f = record { stored = a; unplaced = b; strings_refused = c; definitions_read = d; definitions_refused = e; ends = f }
+
 -- the number of a mark among them
 unfoldable pub mark_number : Mark → ℕ
 mark_number Stored = 0

@@ -82,7 +82,8 @@ pub(crate) fn well_formed(rec: &[u8]) -> bool
     requires { length rec.now ≡ width }
     ensures { result ≡ well_formed rec.now }
 {
-    if rec[5] <= 1 {
+    let origin = rec[5];
+    if origin <= 1 {
         return well_kept(rec[4], field::u16_at(rec, 6), payload(rec));
     }
     false
