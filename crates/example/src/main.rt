@@ -10,9 +10,8 @@ use std::io::Read;
 use wing_mirror::feed::feed;
 use wing_mirror::recall::recall;
 use wing_mirror::{answer, origin, query, set};
-use wing_node::refusal::number;
+use wing_node::refusal::{Refusal, number};
 use wing_wire::state::State;
-use wing_wire::write::Written;
 
 // 16 places of 264 bytes.
 const TABLE: usize = 4224;
@@ -26,14 +25,14 @@ fn line(to: &impl Print, label: &[u8], n: u64) -> io::Result<()> {
     to.write_all(b"\n")
 }
 
-fn said(to: &impl Print, w: Written) -> io::Result<usize> {
+fn said(to: &impl Print, w: Result<usize, Refusal>) -> io::Result<usize> {
     match w {
-        Written::Bytes(n) => {
+        Ok(n) => {
             line(to, b"bytes to send: ", n as u64)?;
             Ok(n)
         }
-        Written::Refused(why) => {
-            line(to, b"refused: ", number(why) as u64)?;
+        Err(why) => {
+            line(to, b"refused: ", why.number() as u64)?;
             Ok(0)
         }
     }
@@ -47,28 +46,28 @@ fn given(to: &impl Print, a: answer::RecordAnswer) -> io::Result<()> {
             value: _,
             origin,
         } => { line(to, b"its origin: ", origin::number(origin) as u64) }
-        answer::RecordAnswer::Refused(why) => line(to, b"refused: ", why as u64),
+        answer::Err(why) => line(to, b"refused: ", why as u64),
     }
 }
 
 fn found(to: &impl Print, table: &[u8], count: usize, l: answer::Lookup) -> io::Result<()> {
     match l {
-        answer::Lookup::At(number) => {
+        answer::Ok(Some(number)) => {
             line(to, b"node 1 is record ", number as u64)?;
             let r = query::record(table, count, number);
             let a = r.answer;
             given(to, a)
         }
-        answer::Lookup::None => line(to, b"records of node 1: ", 0),
-        answer::Lookup::Refused(why) => line(to, b"refused: ", why as u64),
+        answer::Ok(None) => line(to, b"records of node 1: ", 0),
+        answer::Err(why) => line(to, b"refused: ", why as u64),
     }
 }
 
 fn compared(to: &impl Print, s: answer::Same) -> io::Result<()> {
     match s {
-        answer::Same::Yes => line(to, b"equal mirrors: ", 1),
-        answer::Same::No => line(to, b"equal mirrors: ", 0),
-        answer::Same::Refused(why) => line(to, b"refused: ", why as u64),
+        answer::Ok(true) => line(to, b"equal mirrors: ", 1),
+        answer::Ok(false) => line(to, b"equal mirrors: ", 0),
+        answer::Err(why) => line(to, b"refused: ", why as u64),
     }
 }
 

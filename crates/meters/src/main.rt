@@ -11,13 +11,11 @@ mod text;
 mod width;
 
 use crate::complaint::complain;
-use crate::packets::{
-    Column, FIRSTS, INPUT, Ids, PACKETS, READINGS, Readings, Stand, link, take_packets,
-};
+use crate::packets::{Column, FIRSTS, INPUT, Ids, PACKETS, READINGS, Readings, Stand, link, take_packets};
 use crate::text::{PAGE, flush, front};
 use std::io;
 use std::io::Read;
-use wing_meters::window::{MadeAnswer, Window, make};
+use wing_meters::window::{Window, make};
 
 // One byte more than an input may have, which tells a longer one.
 const TEXT: usize = 1048577;
@@ -135,6 +133,6 @@ fn main(rt: HostRuntime) -> io::Result<()> {
     let a = made.answer;
     match a {
         MadeAnswer::Good => run(&mut rt.stdin(), &rt.stdout(), &stderr, made.window),
-        MadeAnswer::Refused(why) => complaint::refused_width(&stderr, why),
+        Err(why) => complaint::refused_width(&stderr, why),
     }
 }

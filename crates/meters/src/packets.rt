@@ -2,6 +2,7 @@
 use crate::column::{entry, onward, put};
 use wing_node::field::{left, u16_at};
 use wing_wire::meter::{MetersRead, read_meters};
+use wing_node::refusal::Refusal;
 
 // The most bytes that an input may have.
 pub const INPUT: usize = 1048576;
@@ -87,7 +88,7 @@ fn read_after(packet: &[u8], readings: &mut [i16], at: usize) -> MetersRead {
     if at <= readings.len() {
         return read_meters(packet, &mut readings[at..]);
     }
-    MetersRead::Refused(9)
+    Err(Refusal::OutputShort)
 }
 
 // One more packet, which ends at a place.
@@ -116,7 +117,7 @@ fn keep(
             put(ends, after.packets, after.readings);
             after
         }
-        MetersRead::Refused(why) => stopped(p, Stand::Refused(why)),
+        Err(why) => stopped(p, Stand::Refused(why)),
     }
 }
 

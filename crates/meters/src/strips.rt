@@ -65,7 +65,7 @@ fn with_line(to: &impl Print, p: Page, bytes: &mut Bytes, id: u16, strip: u16, w
     match t {
         Told::None => p,
         Told::Figures(f) => text::line(to, p, bytes, id, strip, f),
-        Told::Refused(_) => Page {
+        Err(_) => Page {
             at: p.at,
             whole: false,
         },

@@ -6,7 +6,6 @@ use std::io;
 use std::io::Read;
 use wing_mirror::{answer, feed};
 use wing_wire::state::State;
-use wing_wire::write::Written;
 
 // 128 places of 264 bytes.
 const TABLE: usize = 33792;
@@ -37,7 +36,7 @@ fn fed(r: answer::FeedReply) -> Mirror {
     let a = r.answer;
     match a {
         answer::FeedAnswer::Taken => mirror_of(s, r.count, true, true),
-        answer::FeedAnswer::Refused(_) => mirror_of(s, r.count, false, false),
+        answer::Err(_) => mirror_of(s, r.count, false, false),
     }
 }
 
@@ -76,8 +75,8 @@ fn print(to: &impl Print, table: &[u8], count: usize) -> bool {
     let mut out = [0u8; LISTING];
     let w = wing_listing::print::print(table, count, &mut out);
     match w {
-        Written::Bytes(n) => write_front(to, &out, n),
-        Written::Refused(_) => false,
+        Ok(n) => write_front(to, &out, n),
+        Err(_) => false,
     }
 }
 

@@ -10,9 +10,7 @@ use lib.ListN.{length, drop, get_or}
 use lib.Seq.{drop-append_seam}
 use borrow.Author.Tests.{ltb-true, ltb-false}
 use Rattle.wing_node.proofs.Refusals.{reason}
-use Rattle.wing_node.specs.Refusal.{refusal_number, good_beside, no_fault, because, first_fault, text_fault}
-use Rattle.wing_node.specs.declared.refusal.Fault.TheVariants.{None, Refused as Because}
-use Rattle.wing_node.specs.declared.refusal.Fault.{Fault}
+use Rattle.wing_node.specs.Refusal.{refusal_number, good_beside, no_fault, because, first_fault, text_fault, Fault}
 use Rattle.wing_node.specs.declared.refusal.Refusal.{Refusal}
 use Rattle.wing_node.specs.Bool.{if, or}
 use Rattle.wing_node.specs.Bytes.{placed}
@@ -26,10 +24,7 @@ use Rattle.wing_node.specs.Writer.{Lent, type_given, body_given, exact_items, te
 use Rattle.wing_node.specs.Anew.{fields_of, lent_from, anew_from, anew_of}
 use Rattle.wing_node.specs.BothWays.{InWidth, WrittenAnew, Reading, gives as result}
 use Rattle.wing_node.specs.declared.definition.Definition.{Definition}
-use Rattle.wing_node.specs.declared.definition.Parsed.{Parsed}
-use Rattle.wing_node.specs.declared.definition.Parsed.TheVariants.{Good, Refused as ParsedRefused}
 use Rattle.wing_node.specs.declared.writer.Fields.{Fields}
-use Rattle.wing_node.specs.declared.writer.BodyWritten.TheVariants.{Bytes}
 use Rattle.wing_node.proofs.Bodies.Back.{given_by, writer-gives, texts-decide, texts-first}
 use Rattle.wing_node.proofs.Bodies.Checks.{exact-decides}
 use Rattle.wing_node.proofs.Bodies.Held.{stand-within}
@@ -41,6 +36,7 @@ use Rattle.promises.specs.Node.{AllStand}
 use Rattle.promises.specs.Writer.{writer_lines, BodyWrites, WriterCall, AnewCall}
 use Rattle.promises.proofs.Lines.{given}
 use Rattle.promises.proofs.Parses.{parser-call}
+use Rattle.std.specs.Prelude.{Ok, Err}
 
 module _ (d : Fields) (l : Lent) (out : List ℕ) where
   abbrev b : List ℕ
@@ -59,12 +55,12 @@ module _ (d : Fields) (l : Lent) (out : List ℕ) where
   in_order false false true u x p q r large short = refl
   in_order false false false true x p q r large short = refl
   in_order false false false false false p q r large short = refl
-  in_order false false false false true (Because why) q r large short = refl
-  in_order false false false false true None (Because why) r large short = refl
-  in_order false false false false true None None (Because why) large short = refl
-  in_order false false false false true None None None true short = refl
-  in_order false false false false true None None None false true = refl
-  in_order false false false false true None None None false false = refl
+  in_order false false false false true (Err why) q r large short = refl
+  in_order false false false false true (Ok u) (Err why) r large short = refl
+  in_order false false false false true (Ok u) (Ok v) (Err why) large short = refl
+  in_order false false false false true (Ok u) (Ok v) (Ok w) true short = refl
+  in_order false false false false true (Ok u) (Ok v) (Ok w) false true = refl
+  in_order false false false false true (Ok u) (Ok v) (Ok w) false false = refl
 
   -- a name's line
   text-line : (s : List ℕ) → text_fault s ≡ (not (utf8 s) gives definition_wrong (good s))
@@ -87,16 +83,16 @@ module _ (d : Fields) (l : Lent) (out : List ℕ) where
 
   -- refused, the output is as it was; else what stands past the body is
   kept : (fault : Fault) (why : Refusal) → result (body_put fault b out) ≡ refused why → (body_put fault b out).out ≡ out
-  kept None why e = absurd (given _ why e)
-  kept (Because other) why e = refl
+  kept (Ok u) why e = absurd (given _ why e)
+  kept (Err other) why e = refl
 
-  past : (fault : Fault) (n : ℕ) → (body_put fault b out).answer ≡ Bytes n → (n ≡ length b) × (drop n (body_put fault b out).out ≡ drop n out)
+  past : (fault : Fault) (n : ℕ) → (body_put fault b out).answer ≡ Ok n → (n ≡ length b) × (drop n (body_put fault b out).out ≡ drop n out)
   unfolding placed
-  past None n e =
+  past (Ok u) n e =
       let m : length b ≡ n = cc in
       let k : 0 + length b ≡ length b = omega arith in
       (sym m, rw (← m, k) (drop-append_seam b (drop (length b) out)))
-  past (Because why) n e = absurd (let z : ◌≡◌ {A = ℕ} 0 1 = cc in omega arith)
+  past (Err why) n e = absurd (let z : ◌≡◌ {A = ℕ} 0 1 = cc in omega arith)
 
   pub body-writes : BodyWrites d l out (body_of_fields d l out).answer (body_of_fields d l out).out
   unfolding body_of_fields
@@ -120,30 +116,30 @@ module _ (body out : List ℕ) (bytes : (i : ℕ) → get_or body i 0 < 256) whe
   abbrev fields : ℕ
   fields = extent (all_fields body) body
 
-  stood : (why : Refusal) → definition_of body ≡ ParsedRefused why → AllStand body → ⊥
+  stood : (why : Refusal) → definition_of body ≡ Err why → AllStand body → ⊥
   stood why e h = given _ why (sym ((parser-call body).taken.1 h) ∙ ap (parsed_result body) e)
 
-  reading : (d : Definition) → definition_of body ≡ Good d → Reading body d
+  reading : (d : Definition) → definition_of body ≡ Ok d → Reading body d
   reading d e = record { bytes = bytes; answer = e }
 
-  anew : (a : Parsed) → definition_of body ≡ a → AllStand body → fields ≤ 4096 → fields ≤ length out → WrittenAnew body (result (anew_from body a out))
-  anew (Good d) e s h r = both_ways.anew body out d (reading d e) h r
-  anew (ParsedRefused why) e s h r = absurd (stood why e s)
+  anew : (a : Result Definition) → definition_of body ≡ a → AllStand body → fields ≤ 4096 → fields ≤ length out → WrittenAnew body (result (anew_from body a out))
+  anew (Ok d) e s h r = both_ways.anew body out d (reading d e) h r
+  anew (Err why) e s h r = absurd (stood why e s)
 
-  long : (a : Parsed) → definition_of body ≡ a → AllStand body → 4096 < fields → result (anew_from body a out) ≡ refused body_long
-  long (Good d) e s h = both_ways.long body out d (reading d e) h
-  long (ParsedRefused why) e s h = absurd (stood why e s)
+  long : (a : Result Definition) → definition_of body ≡ a → AllStand body → 4096 < fields → result (anew_from body a out) ≡ refused body_long
+  long (Ok d) e s h = both_ways.long body out d (reading d e) h
+  long (Err why) e s h = absurd (stood why e s)
 
-  short : (a : Parsed) → definition_of body ≡ a → AllStand body → fields ≤ 4096 → length out < fields → result (anew_from body a out) ≡ refused output_short
-  short (Good d) e s h r = both_ways.short body out d (reading d e) h r
-  short (ParsedRefused why) e s h r = absurd (stood why e s)
+  short : (a : Result Definition) → definition_of body ≡ a → AllStand body → fields ≤ 4096 → length out < fields → result (anew_from body a out) ≡ refused output_short
+  short (Ok d) e s h r = both_ways.short body out d (reading d e) h r
+  short (Err why) e s h r = absurd (stood why e s)
 
-  kept-anew : (a : Parsed) (why : Refusal) → result (anew_from body a out) ≡ refused why → (anew_from body a out).out ≡ out
-  kept-anew (Good d) why e = (body-writes (fields_of d) (lent_from body d) out).answered.as_it_was why e
-  kept-anew (ParsedRefused other) why e = refl
+  kept-anew : (a : Result Definition) (why : Refusal) → result (anew_from body a out) ≡ refused why → (anew_from body a out).out ≡ out
+  kept-anew (Ok d) why e = (body-writes (fields_of d) (lent_from body d) out).answered.as_it_was why e
+  kept-anew (Err other) why e = refl
 
   -- of a body that the parser takes, 2, 9 or bytes
-  only : (d : Definition) → definition_of body ≡ Good d → (why : Refusal) → result (anew_from body (Good d) out) ≡ refused why → (why ≡ body_long) ⊎ (why ≡ output_short)
+  only : (d : Definition) → definition_of body ≡ Ok d → (why : Refusal) → result (anew_from body (Ok d) out) ≡ refused why → (why ≡ body_long) ⊎ (why ≡ output_short)
   only d e why r = go (ltb 4096 fields) (ltb (length out) fields) refl refl
     where
       go : (x y : Bool) → ltb 4096 fields ≡ x → ltb (length out) fields ≡ y → (why ≡ body_long) ⊎ (why ≡ output_short)
@@ -152,24 +148,24 @@ module _ (body out : List ℕ) (bytes : (i : ℕ) → get_or body i 0 < 256) whe
       go false false p q = absurd (given _ why (sym (both_ways.anew body out d (record { bytes = bytes; answer = e }) (ltb-false _ _ p) (ltb-false _ _ q)).written ∙ r))
 
   -- 4 and 5 are the parser's
-  parsers : (a : Parsed) → definition_of body ≡ a → (k : Refusal) → (k ≡ body_long → ⊥) → (k ≡ output_short → ⊥) → (result (anew_from body a out) ≡ refused k) ↔ (parsed_result body a ≡ refused k)
-  parsers (Good d) e k p q = (λ r. absurd (neither k p q (only d e k r)), λ r. absurd (given _ k r))
+  parsers : (a : Result Definition) → definition_of body ≡ a → (k : Refusal) → (k ≡ body_long → ⊥) → (k ≡ output_short → ⊥) → (result (anew_from body a out) ≡ refused k) ↔ (parsed_result body a ≡ refused k)
+  parsers (Ok d) e k p q = (λ r. absurd (neither k p q (only d e k r)), λ r. absurd (given _ k r))
     where
       neither : (k : Refusal) → (k ≡ body_long → ⊥) → (k ≡ output_short → ⊥) → (k ≡ body_long) ⊎ (k ≡ output_short) → ⊥
       neither k p q (inl z) = p z
       neither k p q (inr z) = q z
-  parsers (ParsedRefused other) e k p q = (λ r. ap refused (ap (reason other) r), λ r. ap refused (ap (reason other) r))
+  parsers (Err other) e k p q = (λ r. ap refused (ap (reason other) r), λ r. ap refused (ap (reason other) r))
 
   through : {P : Type 0} (k : Refusal) → (k ≡ body_long → ⊥) → (k ≡ output_short → ⊥) → (parsed_result body (definition_of body) ≡ refused k) ↔ P → (result (anew_from body (definition_of body) out) ≡ refused k) ↔ P
   through k p q h = (λ r. h.0 ((parsers (definition_of body) refl k p q).0 r), λ s. (parsers (definition_of body) refl k p q).1 (h.1 s))
 
-  others : (a : Parsed) → definition_of body ≡ a → (why : Refusal) → result (anew_from body a out) ≡ refused why → In why (definition_short ∷ definition_wrong (good_beside why) ∷ body_long ∷ output_short ∷ [])
-  others (Good d) e why r = own (only d e why r)
+  others : (a : Result Definition) → definition_of body ≡ a → (why : Refusal) → result (anew_from body a out) ≡ refused why → In why (definition_short ∷ definition_wrong (good_beside why) ∷ body_long ∷ output_short ∷ [])
+  others (Ok d) e why r = own (only d e why r)
     where
       own : (why ≡ body_long) ⊎ (why ≡ output_short) → In why (definition_short ∷ definition_wrong (good_beside why) ∷ body_long ∷ output_short ∷ [])
       own (inl z) = inr (inr (inl z))
       own (inr z) = inr (inr (inr (inl z)))
-  others (ParsedRefused other) e why r = parsed ((parser-call body).refusals.no_other why (ap (parsed_result body) e ∙ ap refused (ap (reason other) r)))
+  others (Err other) e why r = parsed ((parser-call body).refusals.no_other why (ap (parsed_result body) e ∙ ap refused (ap (reason other) r)))
     where
       parsed : In why (definition_short ∷ definition_wrong (good_beside why) ∷ []) → In why (definition_short ∷ definition_wrong (good_beside why) ∷ body_long ∷ output_short ∷ [])
       parsed (inl z) = inl z

@@ -27,7 +27,6 @@ use Rattle.wing_wire.specs.RoundTrip.{Settable}
 use Rattle.wing_wire.specs.SetOrders.{ReadsAsSet}
 use Rattle.wing_wire.specs.Answers.{written_result}
 use Rattle.wing_wire.specs.declared.state.State.{State}
-use Rattle.wing_wire.specs.declared.write.Written.TheVariants.{Bytes, Refused}
 use Rattle.wing_wire.proofs.Reading.Overs.{over-whole}
 use Rattle.wing_wire.proofs.BothWays.Orders.{reads-as-set}
 use Rattle.wing_mirror.specs.Rows.{Table, Found, found, nothing}
@@ -65,6 +64,8 @@ use Rattle.promises.proofs.Lines.{taken, line, unless, given}
 use Rattle.promises.proofs.Feeding.{feed-runs}
 use Rattle.promises.proofs.Writers.{at_front, Rest, refused-rest, whole-rest, written-rest, command-writes}
 use Rattle.promises.proofs.Tables.{id-there, formed as row-formed, no_place_lem}
+use Rattle.wing_node.specs.declared.refusal.Refusal.TheVariants.{NoPlace, NumberOver, OutputShort, StateUnsound, StringLong, TableUnsound}
+use Rattle.std.specs.Prelude.{Ok, Err}
 
 -- ---- feed
 
@@ -73,9 +74,9 @@ pub feed-call : (s : State) (t : Table) (bytes : List ℕ) →
     FeedCall (mirror s t) bytes x.answer x.counts (mirror x.state x.table)
 unfolding mirror_feed mirror_step feed_result
 feed-call s t bytes = record {
-  answered = unless feeds W counts (sound_state s) (alone 8) _ _ _ refl (refl, refl)
-      (unless feeds W counts (usable full t) (alone 7) _ _ _ refl (refl, refl)
-      (unless feeds W counts (leb (length bytes) 65536) (alone 14) _ _ _ refl (refl, refl) (taken feeds W counts (taken_feed (fed_all full s t bytes)) refl)));
+  answered = unless feeds W counts (sound_state s) StateUnsound _ _ _ refl (refl, refl)
+      (unless feeds W counts (usable full t) TableUnsound _ _ _ refl (refl, refl)
+      (unless feeds W counts (leb (length bytes) 65536) NumberOver _ _ _ refl (refl, refl) (taken feeds W counts (taken_feed (fed_all full s t bytes)) refl)));
   step = refl;
   origins = (who-set-it full-laws).by_feed s t bytes;
   bounded = unfold mirror_feed in feed-counts full s t bytes;
@@ -116,10 +117,10 @@ value_passes (integer x) h = (refl, refl)
 value_passes (float bits) h = (refl, refl)
 value_passes (string s) h = go (leb (length s) 256) (utf8 s) h
   where
-    go : (a b : Bool) → sends ((not a gives alone 10) ∷ (not b gives string_not_utf8 s) ∷ []) ≡ ok tt → (not a ≡ false) × (not b ≡ false)
+    go : (a b : Bool) → sends ((not a gives StringLong) ∷ (not b gives string_not_utf8 s) ∷ []) ≡ ok tt → (not a ≡ false) × (not b ≡ false)
     go true true h = (refl, refl)
     go true false h = absurd (given tt (string_not_utf8 s) (sym h))
-    go false b h = absurd (given tt (alone 10) (sym h))
+    go false b h = absurd (given tt StringLong (sym h))
 
 module _ (t : Table) (out : List ℕ) where
   -- what a set came to, and that all is as it was
@@ -131,13 +132,13 @@ module _ (t : Table) (out : List ℕ) where
 
   -- the tests of a value are its lines
   value-answered : (v : NodeValue) (bytes : List ℕ) (ls : List Line) (y : SetEffect) → Answers ls bytes (sets y) (Stays y) →
-      let x = if (too_long v) (refused_set (alone 10) t out) (if (not_text v) (refused_set (string_not_utf8 (text_in v)) t out) y) in
+      let x = if (too_long v) (refused_set StringLong t out) (if (not_text v) (refused_set (string_not_utf8 (text_in v)) t out) y) in
       Answers (value_lines v ++ ls) bytes (sets x) (Stays x)
   unfolding too_long not_text written_result
   value-answered (integer x) bytes ls y h = h
   value-answered (float bits) bytes ls y h = h
   value-answered (string s) bytes ls y h =
-      line sets Stays bytes (not (leb (length s) 256)) (alone 10) _ _ _ refl (refl, refl)
+      line sets Stays bytes (not (leb (length s) 256)) StringLong _ _ _ refl (refl, refl)
       (line sets Stays bytes (not (utf8 s)) (string_not_utf8 s) _ _ _ refl (refl, refl) h)
 
 module _ (id : ℤ) (v : NodeValue) (t : Table) (out : List ℕ) where
@@ -147,28 +148,28 @@ module _ (id : ℤ) (v : NodeValue) (t : Table) (out : List ℕ) where
   set-answered : Answers (set_lines id v t out) bytes (sets t out (mirror_set full id v t out)) (Stays t out (mirror_set full id v t out))
   unfolding mirror_set bytes written_result
   set-answered =
-      line (sets t out) (Stays t out) bytes (not (usable full t)) (alone 7) _ _ _ refl (refl, refl)
-      (line (sets t out) (Stays t out) bytes (too_long v) (alone 10) _ _ _ refl (refl, refl)
+      line (sets t out) (Stays t out) bytes (not (usable full t)) TableUnsound _ _ _ refl (refl, refl)
+      (line (sets t out) (Stays t out) bytes (too_long v) StringLong _ _ _ refl (refl, refl)
       (line (sets t out) (Stays t out) bytes (not_text v) (string_not_utf8 (text_in v)) _ _ _ refl (refl, refl)
-      (line (sets t out) (Stays t out) bytes (not (fits full (entry id v SetOrder) t)) (alone 6) _ _ _ refl (refl, refl)
-      (line (sets t out) (Stays t out) bytes (ltb (length out) (length bytes)) (alone 9) _ _ _ refl (refl, refl) (taken (sets t out) (Stays t out) bytes (record { answer = Bytes (length bytes); out = bytes ++ drop (length bytes) out; table = put full (entry id v SetOrder) t }) (ap ok (at_front bytes out)))))))
+      (line (sets t out) (Stays t out) bytes (not (fits full (entry id v SetOrder) t)) NoPlace _ _ _ refl (refl, refl)
+      (line (sets t out) (Stays t out) bytes (ltb (length out) (length bytes)) OutputShort _ _ _ refl (refl, refl) (taken (sets t out) (Stays t out) bytes (record { answer = Ok (length bytes); out = bytes ++ drop (length bytes) out; table = put full (entry id v SetOrder) t }) (ap ok (at_front bytes out)))))))
 
   set-by-value : Answers (set_value_lines id v t out) bytes (sets t out (mirror_set full id v t out)) (Stays t out (mirror_set full id v t out))
   unfolding mirror_set bytes written_result
   set-by-value =
-      line (sets t out) (Stays t out) bytes (not (usable full t)) (alone 7) _ _ _ refl (refl, refl)
+      line (sets t out) (Stays t out) bytes (not (usable full t)) TableUnsound _ _ _ refl (refl, refl)
       (value-answered t out v bytes _ _
-      (line (sets t out) (Stays t out) bytes (not (fits full (entry id v SetOrder) t)) (alone 6) _ _ _ refl (refl, refl)
-      (line (sets t out) (Stays t out) bytes (ltb (length out) (length bytes)) (alone 9) _ _ _ refl (refl, refl)
-      (taken (sets t out) (Stays t out) bytes (record { answer = Bytes (length bytes); out = bytes ++ drop (length bytes) out; table = put full (entry id v SetOrder) t }) (ap ok (at_front bytes out))))))
+      (line (sets t out) (Stays t out) bytes (not (fits full (entry id v SetOrder) t)) NoPlace _ _ _ refl (refl, refl)
+      (line (sets t out) (Stays t out) bytes (ltb (length out) (length bytes)) OutputShort _ _ _ refl (refl, refl)
+      (taken (sets t out) (Stays t out) bytes (record { answer = Ok (length bytes); out = bytes ++ drop (length bytes) out; table = put full (entry id v SetOrder) t }) (ap ok (at_front bytes out))))))
 
-  set_rest : (n : ℕ) → (mirror_set full id v t out).answer ≡ Bytes n → (n ≡ length (set_bytes id v)) × (drop n (mirror_set full id v t out).out ≡ drop n out)
+  set_rest : (n : ℕ) → (mirror_set full id v t out).answer ≡ Ok n → (n ≡ length (set_bytes id v)) × (drop n (mirror_set full id v t out).out ≡ drop n out)
   unfolding bytes
   set_rest =
-      set_cases full id v t out (λ x. (n : ℕ) → x.answer ≡ Bytes n → (n ≡ length bytes) × (drop n x.out ≡ drop n out)) (λ k n e. absurd (let z : ◌≡◌ {A = ℕ} 0 1 = cc in omega arith))
+      set_cases full id v t out (λ x. (n : ℕ) → x.answer ≡ Ok n → (n ≡ length bytes) × (drop n x.out ≡ drop n out)) (λ k n e. absurd (let z : ◌≡◌ {A = ℕ} 0 1 = cc in omega arith))
       (λ o p q f d. whole-rest bytes out)
 
-  whole : ltb (length out) (length bytes) ≡ false → write_effect (Bytes (length bytes)) (bytes ++ drop (length bytes) out) ≡ write_of bytes out
+  whole : ltb (length out) (length bytes) ≡ false → write_effect (Ok (length bytes)) (bytes ++ drop (length bytes) out) ≡ write_of bytes out
   unfolding write_of
   whole d = rw d
 
@@ -176,19 +177,19 @@ module _ (id : ℤ) (v : NodeValue) (t : Table) (out : List ℕ) where
   unfolding bytes
   set_reads i h =
       set_cases full id v t out (λ x. ReadsAsSet id v x.answer x.out) (λ k. tt)
-      (λ o p q f d. reads-as-set id v i (settable v h p q) out (Bytes (length bytes)) (bytes ++ drop (length bytes) out) (whole d))
+      (λ o p q f d. reads-as-set id v i (settable v h p q) out (Ok (length bytes)) (bytes ++ drop (length bytes) out) (whole d))
 
   -- 6 comes exactly where the value does not fit, once the lines before it are passed
-  set-six : usable full t ≡ true → sends (value_lines v) ≡ ok tt → ((mirror_set full id v t out).answer ≡ Refused no_place ↔ fits full (entry id v SetOrder) t ≡ false)
+  set-six : usable full t ≡ true → sends (value_lines v) ≡ ok tt → ((mirror_set full id v t out).answer ≡ Err no_place ↔ fits full (entry id v SetOrder) t ≡ false)
   unfolding mirror_set
   set-six u h = let p = value_passes v h in rw (u, p.0, p.1) (go (fits full (entry id v SetOrder) t) (ltb (length out) (length (set_bytes id v))) _ _)
     where
-      go : (f l : Bool) (o : List ℕ) (w : Table) → ((if (not f) (refused_set (alone 6) t out) (if l (refused_set (alone 9) t out) (record { answer = Bytes (length (set_bytes id v)); out = o; table = w }))).answer ≡ Refused (alone 6) ↔ f ≡ false)
+      go : (f l : Bool) (o : List ℕ) (w : Table) → ((if (not f) (refused_set NoPlace t out) (if l (refused_set OutputShort t out) (record { answer = Ok (length (set_bytes id v)); out = o; table = w }))).answer ≡ Err NoPlace ↔ f ≡ false)
       go false l o w = (λ _. refl, λ _. refl)
       go true true o w = (λ e. absurd (let z : ◌≡◌ {A = ℕ} 9 6 = cc in omega arith), λ e. absurd (true≢false e))
       go true false o w = (λ e. absurd (let z : ◌≡◌ {A = ℕ} 0 1 = cc in omega arith), λ e. absurd (true≢false e))
 
-  set-unplaced : InBits 31 id → AreBytes t.buffer → usable full t ≡ true → sends (value_lines v) ≡ ok tt → ((mirror_set full id v t out).answer ≡ Refused no_place ↔ NoPlaceLeft id t)
+  set-unplaced : InBits 31 id → AreBytes t.buffer → usable full t ≡ true → sends (value_lines v) ≡ ok tt → ((mirror_set full id v t out).answer ≡ Err no_place ↔ NoPlaceLeft id t)
   set-unplaced i b u h =
       let s = set-six u h in
       let p = no_place_lem t id v SetOrder b i u in
@@ -211,7 +212,7 @@ pub recall-call : (t : Table) (out : List ℕ) → AreBytes t.buffer → RecallC
 unfolding recall_of written_result
 recall-call t out b = record {
   writes = record {
-    answered = unless came W (recall_bytes full t) (usable full t) (alone 7) _ _ _ refl (refl, tt) (command-writes (recall_bytes full t) out).answered;
+    answered = unless came W (recall_bytes full t) (usable full t) TableUnsound _ _ _ refl (refl, tt) (command-writes (recall_bytes full t) out).answered;
     rest = λ n e. (went n e).1;
     told = λ n e. (went n e).0;
   };
@@ -223,7 +224,7 @@ recall-call t out b = record {
     came x = written_result x.answer x.out
 
     went : Rest (recall_bytes full t) out (recall_of full t out)
-    went = branch (Rest (recall_bytes full t) out) (usable full t) _ _ (λ _. written-rest (recall_bytes full t) out) (λ _. refused-rest (alone 7) (recall_bytes full t) out out)
+    went = branch (Rest (recall_bytes full t) out) (usable full t) _ _ (λ _. written-rest (recall_bytes full t) out) (λ _. refused-rest TableUnsound (recall_bytes full t) out out)
 
     W : WriteEffect → Type 0
     W x = (x.out ≡ out) × Unit {0}
@@ -258,7 +259,7 @@ lookup-result : (t : Table) (id : ℤ) → lookup_result (lookup_answer full t i
 unfolding lookup_answer answer_of lookup_result by
 lookup-result t id = go (usable full t) (lookup_of full id t)
   where
-    go : (a : Bool) (f : Found ℕ) → lookup_result (if a (answer_of f) (LookupRefused 7)) ≡ by ((not a gives alone 7) ∷ []) f
+    go : (a : Bool) (f : Found ℕ) → lookup_result (if a (answer_of f) (LookupRefused 7)) ≡ by ((not a gives TableUnsound) ∷ []) f
     go true (found k) = refl
     go true nothing = refl
     go false f = refl
@@ -270,7 +271,7 @@ record-result t number b = go (usable full t) refl (ltb number t.count) refl
     e : Entry
     e = entry_in (get_or (rows full t) number [])
 
-    go : (u : Bool) → usable full t ≡ u → (l : Bool) → ltb number t.count ≡ l → record_result (record_answer full t number) ≡ by ((not u gives alone 7) ∷ (not l gives alone 14) ∷ []) e
+    go : (u : Bool) → usable full t ≡ u → (l : Bool) → ltb number t.count ≡ l → record_result (record_answer full t number) ≡ by ((not u gives TableUnsound) ∷ (not l gives NumberOver) ∷ []) e
     go true p true q = read-row full-laws t b p number (ltb-true number t.count q)
     go true p false q = refused-record-result t number 14 (record-14 t number p q)
     go false p l q = refused-record-result t number 7 (record-7 t number p)
@@ -314,14 +315,14 @@ record-whole t number b e = go (usable full t) refl (ltb number t.count) refl
         let same : ◌≡◌ {A = Result Entry} (ok (entry_in (get_or (rows full t) number []))) (ok e) = sym (read-row full-laws t b p number l) ∙ h in
         let w : ◌≡◌ {A = Entry} (entry_in (get_or (rows full t) number [])) e = cc in
         rw (← w) (read_whole (entry_in (get_or (rows full t) number [])).id (entry_in (get_or (rows full t) number [])).value (entry_in (get_or (rows full t) number [])).origin (full-laws.valid (get_or (rows full t) number []) (row-formed t b p number l)).text)
-    go true p false q h = absurd (given e (alone 14) (sym h ∙ refused-record-result t number 14 (record-14 t number p q)))
-    go false p l q h = absurd (given e (alone 7) (sym h ∙ refused-record-result t number 7 (record-7 t number p)))
+    go true p false q h = absurd (given e NumberOver (sym h ∙ refused-record-result t number 14 (record-14 t number p q)))
+    go false p l q h = absurd (given e TableUnsound (sym h ∙ refused-record-result t number 7 (record-7 t number p)))
 
 same-result : (t u : Table) → same_result (same_answer full t u) ≡ by (same_lines t u) (same_tables full t u)
 unfolding same_answer same_result by
 same-result t u = go (usable full t) (usable full u) (same_tables full t u)
   where
-    go : (a b c : Bool) → same_result (if a (if b (if c Yes No) (SameRefused 7)) (SameRefused 7)) ≡ by ((not a gives alone 7) ∷ (not b gives alone 7) ∷ []) c
+    go : (a b c : Bool) → same_result (if a (if b (if c Yes No) (SameRefused 7)) (SameRefused 7)) ≡ by ((not a gives TableUnsound) ∷ (not b gives TableUnsound) ∷ []) c
     go true true true = refl
     go true true false = refl
     go true false c = refl
@@ -351,7 +352,7 @@ module _ (t : Table) (b : AreBytes t.buffer) (u : usable full t ≡ true) (id : 
           let same : ◌≡◌ {A = Result Entry} (ok (entry_in (get_or (rows full t) n []))) (ok (entry id r.value r.origin)) = sym (read-row full-laws t b u n l) ∙ r.read in
           let w : ◌≡◌ {A = Entry} (entry_in (get_or (rows full t) n [])) (entry id r.value r.origin) = cc in
           (l, sym (id-there t n l) ∙ ap (λ (x : Entry). x.id) w)
-      go false q = absurd (given (entry id r.value r.origin) (alone 14) (sym r.read ∙ refused-record-result t n 14 (record-14 t n u q)))
+      go false q = absurd (given (entry id r.value r.origin) NumberOver (sym r.read ∙ refused-record-result t n 14 (record-14 t n u q)))
 
   id-said : (n < t.count) × (id_at (place_at n t.buffer) ≡ id) → RecordOf full t n id
   id-said x =

@@ -5,7 +5,6 @@ use mathlib.Core.Path.{◌≡◌, refl, sym, ◌∙◌, ap, subst}
 use mathlib.Core.List.{[], ◌∷◌}
 use native.Mathlib.Omega.{arith}
 use borrow.Author.Tests.{lt-ltb, le-ltb}
-use Rattle.wing_node.specs.Refusal.{alone}
 use Rattle.wing_node.specs.declared.refusal.Refusal.{Refusal}
 use Rattle.wing_node.specs.Bool.{if}
 use Rattle.wing_node.specs.Result.{Result, ok, refused}
@@ -19,13 +18,14 @@ use Rattle.wing_wire.specs.declared.token.Class.TheVariants.{NoEvent, Integer, S
 use Rattle.wing_wire.proofs.Reading.CarriedOver.{sound-carried, carry-taken, carried-result}
 use Rattle.promises.specs.Lines.{◌gives◌, by}
 use Rattle.promises.specs.Wire.{carry_lines, CarryCall}
+use Rattle.wing_node.specs.declared.refusal.Refusal.TheVariants.{StateUnsound}
 
 -- both tests give 8, so that their order does not show
 pub by_lines : (s : EarlierState) → carry_of s ≡ by (carry_lines s) (carried s)
 unfolding carry_of by
 by_lines s = go (is_started s.control.token) (earlier_sound s)
   where
-    go : (p q : Bool) → if p (refused (alone 8)) (if q (ok (carried s)) (refused (alone 8))) ≡ by ((not q gives alone 8) ∷ (p gives alone 8) ∷ []) (carried s)
+    go : (p q : Bool) → if p (refused StateUnsound) (if q (ok (carried s)) (refused StateUnsound)) ≡ by ((not q gives StateUnsound) ∷ (p gives StateUnsound) ∷ []) (carried s)
     go true true = refl
     go true false = refl
     go false true = refl
@@ -59,7 +59,7 @@ carry-takes : (s : EarlierState) → sound_state (carried s) ≡ true → ((left
 unfolding carry_of
 carry-takes s e k = rw (unstarted s.control.token k, sym (sound-carried s) ∙ e)
 
-carry-begun : (s : EarlierState) (left v : ℕ) → s.control.token ≡ Number LongCount left v → left < 4 → carry_of s ≡ refused (alone 8)
+carry-begun : (s : EarlierState) (left v : ℕ) → s.control.token ≡ Number LongCount left v → left < 4 → carry_of s ≡ refused StateUnsound
 unfolding carry_of is_started is_long_count
 carry-begun s left v e l = rw (e, lt-ltb left 4 l)
 

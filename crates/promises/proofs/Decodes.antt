@@ -6,14 +6,14 @@ use borrow.Author.Tests.{lt-ltb, le-ltb}
 use lib.ListN.{length, get_or}
 use Rattle.wing_wire.specs.Escape.{decode_of, next_unit, byte_next, decode_next_of}
 use Rattle.wing_wire.specs.Units.{settled}
-use Rattle.wing_wire.specs.declared.state.Pending.TheVariants.{None, Byte}
 use Rattle.wing_wire.specs.declared.escape.Unit.TheVariants.{Nothing, Appended}
 use Rattle.wing_wire.specs.declared.state.Escape.{Escape}
 use Rattle.wing_wire.proofs.Reading.NextUnits.{units-by-step}
 use Rattle.wing_wire.proofs.Laws.{decoder-laws}
 use Rattle.promises.specs.Wire.{DecodeCall}
+use Rattle.std.specs.Prelude.{None, Some}
 
-next-pending : (e : Escape) (bytes : List ℕ) (at u : ℕ) → e.pending ≡ Byte u → decode_next_of e bytes at ≡ next_unit (settled e) (Appended u) at
+next-pending : (e : Escape) (bytes : List ℕ) (at u : ℕ) → e.pending ≡ Some u → decode_next_of e bytes at ≡ next_unit (settled e) (Appended u) at
 unfolding decode_next_of
 next-pending e bytes at u p = rw p
 

@@ -10,11 +10,9 @@ use lib.Dec.{leb}
 use lib.ListN.{length}
 use Rattle.wing_node.specs.Refusal.{refusal_number}
 use Rattle.wing_node.specs.declared.refusal.Refusal.{Refusal}
-use Rattle.wing_node.specs.Result.{ok, refused}
+use Rattle.wing_node.specs.Result.{ok, refused, Result}
 use Rattle.wing_node.specs.Definition.{definition_of}
 use Rattle.wing_node.specs.Answers.{DefinitionValues, parsed_result}
-use Rattle.wing_node.specs.declared.definition.Parsed.{Parsed}
-use Rattle.wing_node.specs.declared.definition.Parsed.TheVariants.{Good, Refused}
 use Rattle.wing_node.proofs.Branches.{branch}
 use Rattle.wing_node.proofs.Refusals.{reason}
 use Rattle.wing_node.proofs.Bodies.Walks.{definitions}
@@ -38,6 +36,8 @@ use Rattle.wing_mirror.specs.declared.origin.Origin.TheVariants.{Console}
 use Rattle.promises.specs.Wire.{with_event}
 use Rattle.promises.specs.Mirror.{MachineReads, EventsCounted}
 use Rattle.promises.proofs.Lines.{given}
+use Rattle.wing_node.specs.declared.definition.Definition.{Definition}
+use Rattle.std.specs.Prelude.{Ok, Err}
 
 -- ---- next until 'more'
 
@@ -94,16 +94,16 @@ module _ (t : Table) (a b c d e f : ℕ) where
   one-unplaced = simp add-zero
 
 -- a body's mark, by what the parser answers
-mark-refused : (bytes : List ℕ) (why : Refusal) (x : Parsed) → parsed_result bytes x ≡ refused why → FourOrFive why → body_mark x ≡ DefinitionRefused
+mark-refused : (bytes : List ℕ) (why : Refusal) (x : Result Definition) → parsed_result bytes x ≡ refused why → FourOrFive why → body_mark x ≡ DefinitionRefused
 unfolding body_mark refusal_mark
-mark-refused bytes why (Good d) q h = absurd (given _ why q)
-mark-refused bytes why (Refused other) q (inl h) = ap (λ (w : Refusal). refusal_mark (refusal_number w)) (ap (reason why) q ∙ h)
-mark-refused bytes why (Refused other) q (inr h) = ap (λ (w : Refusal). refusal_mark (refusal_number w)) (ap (reason why) q ∙ h)
+mark-refused bytes why (Ok d) q h = absurd (given _ why q)
+mark-refused bytes why (Err other) q (inl h) = ap (λ (w : Refusal). refusal_mark (refusal_number w)) (ap (reason why) q ∙ h)
+mark-refused bytes why (Err other) q (inr h) = ap (λ (w : Refusal). refusal_mark (refusal_number w)) (ap (reason why) q ∙ h)
 
-mark-read : (bytes : List ℕ) (v : DefinitionValues) (x : Parsed) → parsed_result bytes x ≡ ok v → body_mark x ≡ DefinitionRead
+mark-read : (bytes : List ℕ) (v : DefinitionValues) (x : Result Definition) → parsed_result bytes x ≡ ok v → body_mark x ≡ DefinitionRead
 unfolding body_mark
-mark-read bytes v (Good d) q = refl
-mark-read bytes v (Refused why) q = absurd (given v why (sym q))
+mark-read bytes v (Ok d) q = refl
+mark-read bytes v (Err why) q = absurd (given v why (sym q))
 
 pub events-counted : EventsCounted
 unfolding keep_event refusal_mark now

@@ -12,11 +12,9 @@ use lib.ListN.{length, take, drop}
 use Rattle.wing_node.proofs.Refusals.{reason}
 use Rattle.promises.specs.Refusals.{string_wrong, no_place, table_unsound, string_long, number_over, line_wrong, id_not_above}
 use Rattle.wing_node.specs.Bool.{if}
-use Rattle.wing_node.specs.Refusal.{refusal_number, good_beside, alone, because, no_fault, by_number, string_not_utf8}
+use Rattle.wing_node.specs.Refusal.{refusal_number, good_beside, because, no_fault, string_not_utf8, Fault}
 use Rattle.wing_node.specs.Utf8.{utf8, good as good_of}
 use Rattle.wing_node.specs.Value.{NodeValue, integer, float, string}
-use Rattle.wing_node.specs.declared.refusal.Fault.{Fault}
-use Rattle.wing_node.specs.declared.refusal.Fault.TheVariants.{None, Refused as Because}
 use Rattle.wing_node.specs.declared.refusal.Refusal.{Refusal}
 use Rattle.wing_node.specs.Result.{Result, refused}
 use Rattle.wing_node.proofs.Branches.{branch}
@@ -24,7 +22,6 @@ use Rattle.wing_wire.specs.Range.{AreBytes}
 use Rattle.wing_wire.specs.State.{fresh_state}
 use Rattle.wing_wire.specs.Write.{WriteEffect, write_effect, write_of}
 use Rattle.wing_wire.specs.Answers.{written_result}
-use Rattle.wing_wire.specs.declared.write.Written.TheVariants.{Bytes, Refused as NotWritten}
 use Rattle.wing_mirror.specs.Rows.{Table, Found, laid, In}
 use Rattle.wing_mirror.specs.Entry.{Entry}
 use Rattle.wing_mirror.specs.Call.{too_long, not_text}
@@ -45,33 +42,35 @@ use Rattle.promises.specs.Listing.{reading_fault, load_lines, text_lines, entry_
 use Rattle.promises.proofs.Lines.{taken, line, unless, given}
 use Rattle.promises.proofs.Tables.{allowed}
 use Rattle.promises.proofs.Writers.{at_front, came, Kept, Rest, refused-rest, written-rest, command-writes}
+use Rattle.wing_node.specs.declared.refusal.Refusal.TheVariants.{IdNotAbove, OutputShort, StringLong, TableUnsound}
+use Rattle.std.specs.Prelude.{Ok, Err}
 
 -- ---- print
 
 -- what a call says that it wrote
 abbrev Told : Table → WriteEffect → Type 0
-Told t x = (n : ℕ) → x.answer ≡ Bytes n → (usable full t ≡ true) × (n ≡ length (printed t)) × (take n x.out ≡ printed t)
+Told t x = (n : ℕ) → x.answer ≡ Ok n → (usable full t ≡ true) × (n ≡ length (printed t)) × (take n x.out ≡ printed t)
 
-refused-told : (t : Table) (k : Refusal) (out : List ℕ) → Told t (write_effect (NotWritten k) out)
+refused-told : (t : Table) (k : Refusal) (out : List ℕ) → Told t (write_effect (Err k) out)
 refused-told t k out n e = absurd (let z : ◌≡◌ {A = ℕ} 0 1 = cc in omega arith)
 
 written-told : (t : Table) (out : List ℕ) → usable full t ≡ true → Told t (write_of (printed t) out)
 unfolding write_of
 written-told t out u =
-    branch (Told t) (ltb (length out) (length (printed t))) _ _ (λ _. refused-told t (alone 9) out)
+    branch (Told t) (ltb (length out) (length (printed t))) _ _ (λ _. refused-told t OutputShort out)
     (λ _ n q.
     let z : length (printed t) ≡ n = cc in
     (u, sym z, ap (λ (m : ℕ). take m (printed t ++ drop (length (printed t)) out)) (sym z) ∙ at_front (printed t) out))
 
 print-told : (t : Table) (out : List ℕ) → Told t (print_of t out)
 unfolding print_of
-print-told t out = branch (Told t) (usable full t) _ _ (λ u. written-told t out u) (λ _. refused-told t (alone 7) out)
+print-told t out = branch (Told t) (usable full t) _ _ (λ u. written-told t out u) (λ _. refused-told t TableUnsound out)
 
 pub print-call : (t : Table) (out : List ℕ) → AreBytes t.buffer → PrintCall t out (print_of t out).answer (print_of t out).out
 unfolding print_of written_result
 print-call t out b = record {
   writes = record {
-    answered = unless came (Kept out) (printed t) (usable full t) (alone 7) _ _ _ refl (refl, tt) (command-writes (printed t) out).answered;
+    answered = unless came (Kept out) (printed t) (usable full t) TableUnsound _ _ _ refl (refl, tt) (command-writes (printed t) out).answered;
     rest = λ n e. (went n e).1;
     told = λ n e. (went n e).0;
   };
@@ -86,7 +85,7 @@ print-call t out b = record {
 }
   where
     went : Rest (printed t) out (print_of t out)
-    went = branch (Rest (printed t) out) (usable full t) _ _ (λ _. written-rest (printed t) out) (λ _. refused-rest (alone 7) (printed t) out out)
+    went = branch (Rest (printed t) out) (usable full t) _ _ (λ _. written-rest (printed t) out) (λ _. refused-rest TableUnsound (printed t) out out)
 
 -- ---- load
 
@@ -231,7 +230,7 @@ module _ (memory : List ℕ) where
       read-fresh (bad why line) = unfold load_read in refl
 
   load-prints : (text : List ℕ) (n : ℕ) → (load_of text memory).reply.answer ≡ Records n → (out : List ℕ) → length text ≤ length out →
-      print_of (table (load_of text memory).memory n) out ≡ write_effect (Bytes (length text)) (text ++ drop (length text) out)
+      print_of (table (load_of text memory).memory n) out ≡ write_effect (Ok (length text)) (text ++ drop (length text) out)
   unfolding print_of write_of
   load-prints text n e out h =
       let p = both_ways.again text memory n e in
@@ -245,14 +244,14 @@ out-of-form text why line (inr f) = f.number
 -- the fault that lines come to
 abbrev fault_by : List Line → Fault
 fault_by [] = no_fault
-fault_by (None ∷ ls) = fault_by ls
-fault_by (Because why ∷ ls) = because why
+fault_by ((Ok u) ∷ ls) = fault_by ls
+fault_by (Err why ∷ ls) = because why
 
 fault-sends : (ls : List Line) (why : Refusal) → (fault_by ls ≡ because why) ↔ (sends ls ≡ refused why)
 unfolding by
 fault-sends [] why = ((λ e. absurd (let z : ◌≡◌ {A = ℕ} 0 1 = cc in omega arith)), (λ e. absurd (given tt why e)))
-fault-sends (None ∷ ls) why = fault-sends ls why
-fault-sends (Because k ∷ ls) why = ((λ e. cc), (λ e. cc))
+fault-sends ((Ok u) ∷ ls) why = fault-sends ls why
+fault-sends (Err k ∷ ls) why = ((λ e. cc), (λ e. cc))
 
 -- what is wrong with a value, by its lines
 value-lines : (v : NodeValue) → value_fault v ≡ fault_by (text_lines v)
@@ -262,7 +261,7 @@ value-lines (float bits) = refl
 value-lines (string s) = by_tests (leb (length s) 256) (utf8 s)
   where
     by_tests : (short text : Bool) →
-        if (not short) (by_number 10) (if (not text) (because (string_not_utf8 s)) no_fault) ≡ fault_by ((not short gives string_long) ∷ (not text gives string_wrong (good_of s)) ∷ [])
+        if (not short) (because StringLong) (if (not text) (because (string_not_utf8 s)) no_fault) ≡ fault_by ((not short gives string_long) ∷ (not text gives string_wrong (good_of s)) ∷ [])
     by_tests true true = refl
     by_tests true false = refl
     by_tests false text = refl
@@ -271,7 +270,7 @@ entry-within : (before : Found ℤ) (e : Entry) (why : Refusal) → (entry_fault
 unfolding entry_fault
 entry-within before e why = rw (entry-fault (above before e.id)) (fault-sends (entry_lines before e) why)
   where
-    entry-fault : (rises : Bool) → if rises (value_fault e.value) (by_number 18) ≡ fault_by ((not rises gives id_not_above) ∷ text_lines e.value)
+    entry-fault : (rises : Bool) → if rises (value_fault e.value) (because IdNotAbove) ≡ fault_by ((not rises gives id_not_above) ∷ text_lines e.value)
     entry-fault true = value-lines e.value
     entry-fault false = refl
 

@@ -17,7 +17,6 @@ use Rattle.wing_wire.specs.Stream.{is_more, advance_of}
 use Rattle.wing_wire.specs.Reader.{string_beside, body_beside, next_of, next_from, refused_next}
 use Rattle.wing_wire.specs.Repeated.{Accepted}
 use Rattle.wing_wire.specs.declared.state.State.{State}
-use Rattle.wing_wire.specs.declared.state.Pending.TheVariants.{None}
 use Rattle.wing_wire.specs.declared.reader.Reply.{Reply}
 use Rattle.wing_wire.specs.declared.unit.Answer.{Answer}
 use Rattle.wing_wire.specs.declared.unit.Answer.TheVariants.{More, Integer, Float, String, Body, End, Refused}
@@ -29,12 +28,14 @@ use Rattle.promises.specs.Lines.{◌gives◌, by, sends}
 use Rattle.promises.specs.Wire.{next_lines, with_event, Beside, NextCall}
 use Rattle.wing_wire.proofs.Reading.Refusing.{advance-says}
 use Rattle.promises.proofs.Reading.{is-more, advance-stops}
+use Rattle.wing_node.specs.declared.refusal.Refusal.TheVariants.{NumberOver, StateUnsound}
+use Rattle.std.specs.Prelude.{None}
 
 sent_back : (s : State) (bytes : List ℕ) (n : ℕ) → sends (next_lines s bytes) ≡ refused (alone n) → next_of s bytes ≡ refused_next n s
 unfolding next_of by
 sent_back s bytes n = go (sound_state s) (leb (length bytes) 65536)
   where
-    go : (a b : Bool) → sends ((not a gives alone 8) ∷ (not b gives alone 14) ∷ []) ≡ refused (alone n) →
+    go : (a b : Bool) → sends ((not a gives StateUnsound) ∷ (not b gives NumberOver) ∷ []) ≡ refused (alone n) →
         if a (if b (next_from (advance_of s.control s.store bytes)) (refused_next 14 s)) (refused_next 8 s) ≡ refused_next n s
     go true true e = absurd (let z : ◌≡◌ {A = ℕ} 0 1 = cc in omega arith)
     go true false e = let z : 14 ≡ n = ap refusal_number (ap (reason (alone n)) e) in ap (λ k. refused_next k s) z
@@ -51,7 +52,7 @@ passed : (s : State) (bytes : List ℕ) → length s.store ≡ body_limit → se
 unfolding by
 passed s bytes full = go (sound_state s) refl (leb (length bytes) 65536) refl
   where
-    go : (a : Bool) → sound_state s ≡ a → (b : Bool) → leb (length bytes) 65536 ≡ b → sends ((not a gives alone 8) ∷ (not b gives alone 14) ∷ []) ≡ ok tt → Accepted s bytes
+    go : (a : Bool) → sound_state s ≡ a → (b : Bool) → leb (length bytes) 65536 ≡ b → sends ((not a gives StateUnsound) ∷ (not b gives NumberOver) ∷ []) ≡ ok tt → Accepted s bytes
     go true p true q e = record { sound = p; store = full; most = leb-true (length bytes) 65536 q }
     go true p false q e = absurd (let z : ◌≡◌ {A = ℕ} 0 1 = cc in omega arith)
     go false p b q e = absurd (let z : ◌≡◌ {A = ℕ} 0 1 = cc in omega arith)

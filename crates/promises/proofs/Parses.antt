@@ -16,7 +16,7 @@ use Rattle.wing_node.specs.declared.refusal.Refusal.{Refusal}
 use Rattle.wing_node.specs.Result.{Result, ok, refused}
 use Rattle.wing_node.specs.Definition.{definition_of}
 use Rattle.wing_node.specs.Items.{begin_of, step_at, item_numbered}
-use Rattle.wing_node.specs.Answers.{DefinitionValues, begun_result}
+use Rattle.wing_node.specs.Answers.{DefinitionValues}
 use Rattle.wing_node.specs.InBody.{count_in, definition_in, walk_in}
 use Rattle.wing_node.specs.Parsing.{parser_says, Takes, begin_says, number_says, Parsing, Beginning, ByNumber, FourOrFive}
 use Rattle.wing_node.specs.declared.items.Walk.{Walk}
@@ -48,7 +48,7 @@ module _ (body : List ℕ) where
   b : Beginning body
   b = definitions.beginning body
 
-  pub begin_call : BeginCall body (begun_result (begin_of body))
+  pub begin_call : BeginCall body (begin_of body)
   begin_call = record {
     refusals = record {
       past_end = (λ e. p.past_end.0 ((b.refusals definition_short).0 e), λ s. (b.refusals definition_short).1 (p.past_end.1 s));

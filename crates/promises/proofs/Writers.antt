@@ -7,7 +7,7 @@ use lib.Dec.{ltb, leb, eqb}
 use lib.IntN.{ℤ, pos}
 use lib.ListN.{length, take, drop, get_or, length-drop, get_or-append}
 use lib.Seq.{take-append_seam, drop-append_seam}
-use Rattle.wing_node.specs.Refusal.{alone, string_not_utf8}
+use Rattle.wing_node.specs.Refusal.{string_not_utf8}
 use Rattle.wing_node.specs.declared.refusal.Refusal.{Refusal}
 use Rattle.wing_node.specs.Field.{big, field_at}
 use Rattle.wing_node.specs.Result.{Result, ok}
@@ -19,15 +19,14 @@ use Rattle.wing_wire.specs.Write.{WriteEffect, write_effect, write_of}
 use Rattle.wing_wire.specs.Command.{set_bytes, set_string}
 use Rattle.wing_wire.specs.Meter.{RequestEffect, request_effect, write_request_of, meter_request, request_meter, PacketEffect, packet_effect, readings, packet_of}
 use Rattle.wing_wire.specs.Answers.{written_result, MeterRequest, requested_result, MeterPacket, meters_result}
-use Rattle.wing_wire.specs.declared.write.Written.TheVariants.{Bytes, Refused}
 use Rattle.wing_wire.specs.declared.meter.Meter.{Meter}
-use Rattle.wing_wire.specs.declared.meter.Requested.TheVariants.{Bytes as RequestWritten, Refused as RequestRefused}
-use Rattle.wing_wire.specs.declared.meter.MetersRead.TheVariants.{Readings, Refused as ReadRefused}
 use Rattle.wing_wire.specs.RoundTrip.{Settable}
 use Rattle.wing_wire.proofs.BothWays.Orders.{reads-as-set, reads-as-string}
 use Rattle.wing_wire.proofs.Writing.Packets.{readings-length, reading-at}
 use Rattle.promises.specs.Wire.{Writes, CommandCall, command_lines, string_lines, SetOrder, MeterCall, PacketCall}
 use Rattle.promises.proofs.Lines.{taken, line, unless}
+use Rattle.wing_node.specs.declared.refusal.Refusal.TheVariants.{MeterIdLast, MetersOver, OutputShort, PacketSize, StringLong}
+use Rattle.std.specs.Prelude.{Ok, Err}
 
 -- the bytes at the front, and those after them
 pub at_front : {A : Type 0} (bytes out : List A) → take (length bytes) (bytes ++ drop (length bytes) out) ≡ bytes
@@ -48,25 +47,25 @@ Kept out x = (x.out ≡ out) × Unit {0}
 
 -- the number told is that of the bytes written, and the bytes past them are as they were
 abbrev pub Rest : List ℕ → List ℕ → WriteEffect → Type 0
-Rest bytes out x = (n : ℕ) → x.answer ≡ Bytes n → (n ≡ length bytes) × (drop n x.out ≡ drop n out)
+Rest bytes out x = (n : ℕ) → x.answer ≡ Ok n → (n ≡ length bytes) × (drop n x.out ≡ drop n out)
 
 -- a refusal wrote nothing
-pub refused-rest : (k : Refusal) (bytes out after : List ℕ) → Rest bytes out (write_effect (Refused k) after)
+pub refused-rest : (k : Refusal) (bytes out after : List ℕ) → Rest bytes out (write_effect (Err k) after)
 refused-rest k bytes out after n e = absurd (let z : ◌≡◌ {A = ℕ} 0 1 = cc in omega arith)
 
-pub whole-rest : (bytes out : List ℕ) → Rest bytes out (write_effect (Bytes (length bytes)) (bytes ++ drop (length bytes) out))
+pub whole-rest : (bytes out : List ℕ) → Rest bytes out (write_effect (Ok (length bytes)) (bytes ++ drop (length bytes) out))
 whole-rest bytes out n e = let z : length bytes ≡ n = cc in (sym z, past-front bytes out n z)
 
 pub written-rest : (bytes out : List ℕ) → Rest bytes out (write_of bytes out)
 unfolding write_of
 written-rest bytes out =
-    branch (Rest bytes out) (ltb (length out) (length bytes)) _ _ (λ _. refused-rest (alone 9) bytes out out) (λ _. whole-rest bytes out)
+    branch (Rest bytes out) (ltb (length out) (length bytes)) _ _ (λ _. refused-rest OutputShort bytes out out) (λ _. whole-rest bytes out)
 
 -- every command of given bytes
 pub command-writes : (bytes out : List ℕ) → CommandCall bytes out (write_of bytes out).answer (write_of bytes out).out
 unfolding write_of written_result
 command-writes bytes out = record {
-  answered = line came (Kept out) bytes (ltb (length out) (length bytes)) (alone 9) _ _ _ refl (refl, tt) (taken came (Kept out) bytes (write_effect (Bytes (length bytes)) (bytes ++ drop (length bytes) out)) (ap ok (at_front bytes out)));
+  answered = line came (Kept out) bytes (ltb (length out) (length bytes)) OutputShort _ _ _ refl (refl, tt) (taken came (Kept out) bytes (write_effect (Ok (length bytes)) (bytes ++ drop (length bytes) out)) (ap ok (at_front bytes out)));
   rest = λ n e. (went n e).1;
   told = λ n e. (went n e).0;
 }
@@ -78,7 +77,7 @@ command-writes bytes out = record {
 pub string-writes : (id : ℤ) (s out : List ℕ) → Writes (string_lines id s out) (set_bytes id (string s)) out (set_string id s out).answer (set_string id s out).out (Unit {0})
 unfolding set_string written_result
 string-writes id s out = record {
-  answered = unless came (Kept out) bytes (leb (length s) 256) (alone 10) _ _ _ refl (refl, tt) (unless came (Kept out) bytes (utf8 s) (string_not_utf8 s) _ _ _ refl (refl, tt) (command-writes bytes out).answered);
+  answered = unless came (Kept out) bytes (leb (length s) 256) StringLong _ _ _ refl (refl, tt) (unless came (Kept out) bytes (utf8 s) (string_not_utf8 s) _ _ _ refl (refl, tt) (command-writes bytes out).answered);
   rest = λ n e. (went n e).1;
   told = λ n e. (went n e).0;
 }
@@ -87,7 +86,7 @@ string-writes id s out = record {
     bytes = set_bytes id (string s)
 
     went : Rest bytes out (set_string id s out)
-    went = branch (Rest bytes out) (leb (length s) 256) _ _ (λ _. branch (Rest bytes out) (utf8 s) _ _ (λ _. written-rest bytes out) (λ _. refused-rest (string_not_utf8 s) bytes out out)) (λ _. refused-rest (alone 10) bytes out out)
+    went = branch (Rest bytes out) (leb (length s) 256) _ _ (λ _. branch (Rest bytes out) (utf8 s) _ _ (λ _. written-rest bytes out) (λ _. refused-rest (string_not_utf8 s) bytes out out)) (λ _. refused-rest StringLong bytes out out)
 
 -- ---- set orders: what was written is read back
 
@@ -103,8 +102,8 @@ string-call id s out i = record { writes = string-writes id s out; reads = reads
 pub meters-write : (port last : ℕ) (ms : List Meter) (count : ℕ) (out : List ℕ) → MeterCall port last ms count out (request_meter port last ms count out).answer (request_meter port last ms count out).out
 unfolding request_meter write_request_of requested_result
 meters-write port last ms count out = record {
-  answered = unless result-of W request (leb count 64) (alone 11) _ _ _ refl refl (line result-of W request (eqb last 65535) (alone 12) _ _ _ refl refl
-      (line result-of W request (ltb (length out) (length bytes)) (alone 9) _ _ _ refl refl (taken result-of W request (request_effect (RequestWritten (length bytes) (last + 1)) (bytes ++ drop (length bytes) out)) (ap (λ (b : List ℕ). ok (record { bytes = b; id = last + 1 })) (at_front bytes out)))));
+  answered = unless result-of W request (leb count 64) MetersOver _ _ _ refl refl (line result-of W request (eqb last 65535) MeterIdLast _ _ _ refl refl
+      (line result-of W request (ltb (length out) (length bytes)) OutputShort _ _ _ refl refl (taken result-of W request (request_effect (Ok (record { len = length bytes; id = (last + 1) })) (bytes ++ drop (length bytes) out)) (ap (λ (b : List ℕ). ok (record { bytes = b; id = last + 1 })) (at_front bytes out)))));
   rest = λ n id e. (went n id e).1;
   told = λ n id e. (went n id e).0;
 }
@@ -122,9 +121,9 @@ meters-write port last ms count out = record {
     W x = x.out ≡ out
 
     R : RequestEffect → Type 0
-    R x = (n id : ℕ) → x.answer ≡ RequestWritten n id → (n ≡ length bytes) × (drop n x.out ≡ drop n out)
+    R x = (n id : ℕ) → x.answer ≡ Ok (record { len = n; id = id }) → (n ≡ length bytes) × (drop n x.out ≡ drop n out)
 
-    of-refused : (k : ℕ) → R (request_effect (RequestRefused k) out)
+    of-refused : (k : ℕ) → R (request_effect (Err k) out)
     of-refused k n id e = absurd (let z : ◌≡◌ {A = ℕ} 0 1 = cc in omega arith)
 
     went : R (request_meter port last ms count out)
@@ -136,8 +135,8 @@ meters-write port last ms count out = record {
 pub packet-reads : (p : List ℕ) (out : List ℤ) → PacketCall p out (packet_of p out).answer (packet_of p out).out
 unfolding packet_of meters_result
 packet-reads p out = record {
-  answered = line result-of W packet (ltb (length p) 4) (alone 13) _ _ _ refl refl (line result-of W packet (ltb 8192 (length p)) (alone 13) _ _ _ refl refl
-      (line result-of W packet (ltb (length out) (length rs)) (alone 9) _ _ _ refl refl (taken result-of W packet (packet_effect (Readings (big (take 2 p)) (length rs)) (rs ++ drop (length rs) out)) (ap (λ (r : List ℤ). ok (record { id = big (take 2 p); readings = r })) (at_front rs out)))));
+  answered = line result-of W packet (ltb (length p) 4) PacketSize _ _ _ refl refl (line result-of W packet (ltb 8192 (length p)) PacketSize _ _ _ refl refl
+      (line result-of W packet (ltb (length out) (length rs)) OutputShort _ _ _ refl refl (taken result-of W packet (packet_effect (Ok (record { id = big (take 2 p); count = length rs })) (rs ++ drop (length rs) out)) (ap (λ (r : List ℤ). ok (record { id = big (take 2 p); readings = r })) (at_front rs out)))));
   rest = λ id n e. (went id n e).1;
   told = λ id n e. (went id n e).0;
   each = branch E (ltb (length p) 4) _ _ (λ _. none 13) (λ _. branch E (ltb 8192 (length p)) _ _ (λ _. none 13) (λ _. branch E (ltb (length out) (length rs)) _ _ (λ _. none 9) (λ _ id n e k l.
@@ -158,15 +157,15 @@ packet-reads p out = record {
     W x = x.out ≡ out
 
     R : PacketEffect → Type 0
-    R x = (id n : ℕ) → x.answer ≡ Readings id n → (n ≡ (length p - 4) / 2) × (drop n x.out ≡ drop n out)
+    R x = (id n : ℕ) → x.answer ≡ Ok (record { id = id; count = n }) → (n ≡ (length p - 4) / 2) × (drop n x.out ≡ drop n out)
 
-    of-refused : (k : ℕ) → R (packet_effect (ReadRefused k) out)
+    of-refused : (k : ℕ) → R (packet_effect (Err k) out)
     of-refused k id n e = absurd (let z : ◌≡◌ {A = ℕ} 0 1 = cc in omega arith)
 
     E : PacketEffect → Type 0
-    E x = (id n : ℕ) → x.answer ≡ Readings id n → (k : ℕ) → k < n → get_or x.out k (pos 0) ≡ signed 15 (field_at 2 p (4 + 2 * k))
+    E x = (id n : ℕ) → x.answer ≡ Ok (record { id = id; count = n }) → (k : ℕ) → k < n → get_or x.out k (pos 0) ≡ signed 15 (field_at 2 p (4 + 2 * k))
 
-    none : (k : ℕ) → E (packet_effect (ReadRefused k) out)
+    none : (k : ℕ) → E (packet_effect (Err k) out)
     none k id n e i l = absurd (let z : ◌≡◌ {A = ℕ} 0 1 = cc in omega arith)
 
     number : length rs ≡ (length p - 4) / 2

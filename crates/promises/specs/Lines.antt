@@ -1,11 +1,9 @@
 -- 01's table 'What is sent back', read as lines: a call is sent back for the first line that applies to it.
-use Rattle.std.specs.Prelude.{Bool, ◌≡◌, List, [], ◌∷◌}
+use Rattle.std.specs.Prelude.{Bool, ◌≡◌, List, [], ◌∷◌, Ok, Err}
 use Rattle.wing_node.specs.Bool.{if}
-use Rattle.wing_node.specs.Refusal.{no_fault, because}
+use Rattle.wing_node.specs.Refusal.{no_fault, because, Fault}
 use Rattle.wing_node.specs.Result.{Result, ok, refused}
 use Rattle.wing_node.specs.declared.refusal.Refusal.{Refusal}
-use Rattle.wing_node.specs.declared.refusal.Fault.{Fault}
-use Rattle.wing_node.specs.declared.refusal.Fault.TheVariants.{None, Refused}
 
 -- a line of the table: the refusal that it gives, if it applies
 abbrev pub Line : Type 0
@@ -19,8 +17,8 @@ test gives why = if test (because why) no_fault
 -- what a call comes to by its lines: sent back by the first that applies; where none does, it is taken and gives this
 unfoldable pub by : {A : Type 0} → List Line → A → Result A
 by [] a = ok a
-by (None ∷ ls) a = by ls a
-by (Refused why ∷ ls) a = refused why
+by ((Ok u) ∷ ls) a = by ls a
+by (Err why ∷ ls) a = refused why
 
 -- whether the lines send a call back, and why
 abbrev pub sends : List Line → Result (Unit {0})

@@ -1,14 +1,12 @@
 -- What is promised of a listing (02), printed and loaded, by each call's arguments, its answer and the lent buffer after it.
-use Rattle.std.specs.Prelude.{ℕ, ◌*◌, ◌/◌, ◌≤◌, true, not, ◌≡◌, ◌⊎◌, ◌↔◌, List, [], ◌∷◌, ◌++◌, map, leb, ℤ, length, take, drop}
+use Rattle.std.specs.Prelude.{ℕ, ◌*◌, ◌/◌, ◌≤◌, true, not, ◌≡◌, ◌⊎◌, ◌↔◌, List, [], ◌∷◌, ◌++◌, map, leb, ℤ, length, take, drop, Ok}
 use Rattle.wing_node.specs.Refusal.{good_beside, no_fault, because}
 use Rattle.wing_node.specs.Utf8.{utf8, good as good_of}
 use Rattle.wing_node.specs.Value.{NodeValue, integer, float, string}
 use Rattle.wing_node.specs.declared.refusal.Refusal.{Refusal}
-use Rattle.wing_node.specs.Result.{refused}
+use Rattle.wing_node.specs.Result.{refused, Result}
 use Rattle.wing_wire.specs.State.{fresh_state}
 use Rattle.wing_wire.specs.Write.{write_effect}
-use Rattle.wing_wire.specs.declared.write.Written.{Written}
-use Rattle.wing_wire.specs.declared.write.Written.TheVariants.{Bytes}
 use Rattle.wing_mirror.specs.Rows.{Table, Found, All, In}
 use Rattle.wing_mirror.specs.Entry.{Entry}
 use Rattle.wing_mirror.specs.Record.{width, entry_in, full}
@@ -54,16 +52,16 @@ abbrev pub entry_lines : Found ℤ → Entry → List Line
 entry_lines before e = (not (above before e.id) gives id_not_above) ∷ text_lines e.value
 
 -- print
-pub record PrintCall (t : Table) (out : List ℕ) (answer : Written) (after : List ℕ) : Type 0 where
+pub record PrintCall (t : Table) (out : List ℕ) (answer : Result ℕ) (after : List ℕ) : Type 0 where
   -- demand 1: 7, 9; else the listing, n bytes, and the output past it as it was
   pub writes : Writes (print_lines t out) (printed t) out answer after (Unit {0})
-  pub counted : (n : ℕ) → answer ≡ Bytes n → n ≡ length (printed t)
+  pub counted : (n : ℕ) → answer ≡ Ok n → n ≡ length (printed t)
   -- 02: loading what was printed in at most 65,536 bytes, into 1 to 1,024 places and at least as many as it has records, gives an equal mirror, the
   -- origin set aside, with a fresh decoder, whatever the memory held
-  pub loads : (n : ℕ) → answer ≡ Bytes n → n ≤ 65536 → (memory : List ℕ) → places_allowed (length memory / width) ≡ true → t.count ≤ length memory / width →
+  pub loads : (n : ℕ) → answer ≡ Ok n → n ≤ 65536 → (memory : List ℕ) → places_allowed (length memory / width) ≡ true → t.count ≤ length memory / width →
       EqualMirror t memory (load_of (take n after) memory)
   -- the same in figures: 1 to 1,024 places of 264 bytes each
-  pub loads_in_places : (n : ℕ) → answer ≡ Bytes n → n ≤ 65536 → (memory : List ℕ) → 1 ≤ length memory / 264 → length memory / 264 ≤ 1024 → t.count ≤ length memory / 264 →
+  pub loads_in_places : (n : ℕ) → answer ≡ Ok n → n ≤ 65536 → (memory : List ℕ) → 1 ≤ length memory / 264 → length memory / 264 ≤ 1024 → t.count ≤ length memory / 264 →
       EqualMirror t memory (load_of (take n after) memory)
   -- it is the call that BothWays of wing_listing's specs/ speaks of
   pub same : write_effect answer after ≡ print_of t out
@@ -95,6 +93,6 @@ pub record LoadCall (text memory : List ℕ) (reply : LoadReply) (after : List �
   pub origins : (n : ℕ) → reply.answer ≡ Records n → All (λ (e : Entry). e.origin ≡ Console) (map entry_in (rows full (table after n)))
   -- 02: printing a loaded text gives its bytes again
   pub prints : (n : ℕ) → reply.answer ≡ Records n → (out : List ℕ) → length text ≤ length out →
-      print_of (table after n) out ≡ write_effect (Bytes (length text)) (text ++ drop (length text) out)
+      print_of (table after n) out ≡ write_effect (Ok (length text)) (text ++ drop (length text) out)
   -- it is the call that BothWays of wing_listing's specs/ speaks of
   pub same : load_effect reply after ≡ load_of text memory

@@ -1,5 +1,5 @@
 -- What is promised of each call of the mirror, by its arguments, its answer and the lent buffers after it.
-use Rattle.std.specs.Prelude.{ℕ, ◌+◌, ◌≤◌, ◌-◌, ◌<◌, not, true, false, ◌≡◌, ◌↔◌, List, [], ◌∷◌, ◌++◌, map, ltb, leb, eqb, ℤ, length, get_or, replicate}
+use Rattle.std.specs.Prelude.{ℕ, ◌+◌, ◌≤◌, ◌-◌, ◌<◌, not, true, false, ◌≡◌, ◌↔◌, List, [], ◌∷◌, ◌++◌, map, ltb, leb, eqb, ℤ, length, get_or, replicate, Ok, Err}
 use Rattle.std.specs.Int.Signed.{lt_z}
 use Rattle.wing_node.specs.Bool.{if}
 use Rattle.wing_node.specs.Signed.{InBits}
@@ -9,7 +9,7 @@ use Rattle.wing_node.specs.Refusal.{alone}
 use Rattle.wing_node.specs.declared.refusal.Refusal.{Refusal}
 use Rattle.wing_node.specs.Definition.{definition_of}
 use Rattle.wing_node.specs.Answers.{DefinitionValues, parsed_result}
-use Rattle.wing_node.specs.Result.{ok, refused}
+use Rattle.wing_node.specs.Result.{ok, refused, Result}
 use Rattle.wing_node.specs.Value.{NodeValue, integer, float, string}
 use Rattle.wing_node.specs.declared.value.Value.{Value}
 use Rattle.wing_node.specs.declared.value.Value.TheVariants.{Integer, Float, String}
@@ -21,8 +21,6 @@ use Rattle.wing_wire.specs.Repeated.{Accepted, fed_state, NextCalls}
 use Rattle.wing_wire.specs.SetOrders.{ReadsAsSet}
 use Rattle.wing_wire.specs.Answers.{written_result}
 use Rattle.wing_wire.specs.declared.state.State.{State}
-use Rattle.wing_wire.specs.declared.write.Written.{Written}
-use Rattle.wing_wire.specs.declared.write.Written.TheVariants.{Bytes, Refused}
 use Rattle.wing_mirror.specs.Rows.{Table, places, found, nothing, All}
 use Rattle.wing_mirror.specs.Entry.{entry, rank_of, ids, Entry}
 use Rattle.wing_mirror.specs.Record.{width, entry_in, full}
@@ -117,7 +115,7 @@ pub record LentFeedCall (m : Mirror) (bytes : List ℕ) (answer : FeedAnswer) (c
   pub other : (length m.decoder.store ≡ body_limit → ⊥) → (feed_result answer counts ≡ refused state_unsound) × (after ≡ m) × (counts ≡ zero_counts)
 
 -- a set through the mirror
-pub record SetCall (id : ℤ) (v : NodeValue) (t : Table) (out : List ℕ) (answer : Written) (after : Table) (written : List ℕ) : Type 0 where
+pub record SetCall (id : ℤ) (v : NodeValue) (t : Table) (out : List ℕ) (answer : Result ℕ) (after : Table) (written : List ℕ) : Type 0 where
   -- demand 1: 7, 10, 1, 6, 9, and then table and output are as they were; else the set order's bytes are written, and the rest of the output stays
   pub writes : Writes (set_lines id v t out) (set_bytes id v) out answer written (after ≡ t)
   -- demand 2: what was written is read as that value at that node
@@ -125,14 +123,14 @@ pub record SetCall (id : ℤ) (v : NodeValue) (t : Table) (out : List ℕ) (answ
   -- demand 3: one step of the mirror's history is this call, whatever the decoder, which it neither reads nor alters
   pub step : (s : State) → mirror_step full (mirror s t) (set id v out) ≡ record { state = mirror s after; outcome = set_outcome answer written }
   -- 02: who gave what the records say after it; the table's bytes are below 256, as their type says
-  pub origins : AreBytes t.buffer → (n : ℕ) → answer ≡ Bytes n → GivenBySet full (entries_of full t) (entries_of full after) id v
+  pub origins : AreBytes t.buffer → (n : ℕ) → answer ≡ Ok n → GivenBySet full (entries_of full t) (entries_of full after) id v
   -- demand 1 by the value's own lines: 7; 10 and 1 for a string alone; 6, 9
   pub by_value : Answers (set_value_lines id v t out) (set_bytes id v) (written_result answer written) ((written ≡ out) × (after ≡ t))
   -- 01: 6, where neither 7 nor 10 nor 1 applies, exactly if no record has the node's id and no place is left
-  pub unplaced : AreBytes t.buffer → usable full t ≡ true → sends (value_lines v) ≡ ok tt → (answer ≡ Refused no_place ↔ NoPlaceLeft id t)
+  pub unplaced : AreBytes t.buffer → usable full t ≡ true → sends (value_lines v) ≡ ok tt → (answer ≡ Err no_place ↔ NoPlaceLeft id t)
 
 -- recall
-pub record RecallCall (t : Table) (out : List ℕ) (answer : Written) (written : List ℕ) : Type 0 where
+pub record RecallCall (t : Table) (out : List ℕ) (answer : Result ℕ) (written : List ℕ) : Type 0 where
   -- demand 1: 7, 9; else df d1 and the set bytes of each record
   pub writes : Writes (recall_lines t out) (recall_bytes full t) out answer written (Unit {0})
   -- demand 3: what was written, in any split, rebuilds an equal mirror; 02: the origin set aside

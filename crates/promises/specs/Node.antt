@@ -12,12 +12,12 @@ use Rattle.wing_node.specs.Standing.{PastEnd, NotUtf8, Stand, StopsAt, extent}
 use Rattle.wing_node.specs.Answers.{none, parsed_result, item_result}
 use Rattle.wing_node.specs.InBody.{count_in, all_fields, definition_in, walk_in, item_in, item_in_body}
 use Rattle.wing_node.specs.Parsing.{Left, IsItem, Walking}
-use Rattle.wing_node.specs.declared.definition.Parsed.{Parsed}
 use Rattle.wing_node.specs.declared.definition.Item.{Item}
 use Rattle.wing_node.specs.declared.items.Walk.{Walk}
 use Rattle.wing_node.specs.declared.items.Step.{Step}
 use Rattle.wing_mirror.specs.Rows.{In}
 use Rattle.promises.specs.Refusals.{string_wrong, definition_short, definition_wrong, number_over}
+use Rattle.wing_node.specs.declared.definition.Definition.{Definition}
 
 -- 01: definition field past the end, 4: some number of fields stand whole and good at the front, and the next one is not whole
 abbrev pub Short : List ℕ → Type 0
@@ -38,7 +38,7 @@ pub record AsParsed {A : Type 0} (body : List ℕ) (others : List Refusal) (came
   pub no_other : (why : Refusal) → came ≡ refused why → In why (definition_short ∷ definition_wrong (good_beside why) ∷ others)
 
 -- from_bytes: 4 or 5, or the definition that the fields say, exactly where all stand
-pub record ParserCall (body : List ℕ) (answer : Parsed) : Type 0 where
+pub record ParserCall (body : List ℕ) (answer : Result Definition) : Type 0 where
   pub refusals : AsParsed body [] (parsed_result body answer)
   pub taken : (parsed_result body answer ≡ ok (definition_in body)) ↔ AllStand body
   -- it is the parser that BothWays of wing_node's specs/ speaks of

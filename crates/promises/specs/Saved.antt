@@ -1,13 +1,11 @@
 -- What is promised of a decoder state as bytes, by each call's arguments, its answer and the lent buffer after it.
-use Rattle.std.specs.Prelude.{ℕ, not, ◌≡◌, List, ◌∷◌, take}
+use Rattle.std.specs.Prelude.{ℕ, not, ◌≡◌, List, ◌∷◌, take, Ok}
 use Rattle.wing_node.specs.declared.refusal.Refusal.{Refusal}
-use Rattle.wing_node.specs.Result.{ok, refused}
+use Rattle.wing_node.specs.Result.{ok, refused, Result}
 use Rattle.wing_wire.specs.State.{sound_state, fresh_state}
 use Rattle.wing_wire.specs.Earlier.{carried, carry_of}
 use Rattle.wing_wire.specs.declared.state.State.{State}
 use Rattle.wing_wire.specs.declared.earlier.State.{State as EarlierState}
-use Rattle.wing_wire.specs.declared.write.Written.{Written}
-use Rattle.wing_wire.specs.declared.write.Written.TheVariants.{Bytes}
 use Rattle.wing_saved.specs.Saved.{state_bytes, Saves, loaded_result}
 use Rattle.wing_saved.specs.Earlier.{EarlierSaves, CarriedSaves}
 use Rattle.wing_saved.specs.declared.LoadAnswer.{LoadAnswer}
@@ -20,9 +18,9 @@ abbrev pub save_lines : State → List ℕ → List Line
 save_lines s out = (not (sound_state s) gives state_unsound) ∷ command_lines (state_bytes s) out
 
 -- a state as bytes: 8, 9; else its bytes, and they are kept as that state's
-pub record SaveCall (s : State) (out : List ℕ) (answer : Written) (after : List ℕ) : Type 0 where
+pub record SaveCall (s : State) (out : List ℕ) (answer : Result ℕ) (after : List ℕ) : Type 0 where
   pub writes : Writes (save_lines s out) (state_bytes s) out answer after (Unit {0})
-  pub saves : (n : ℕ) → answer ≡ Bytes n → Saves (take n after) s
+  pub saves : (n : ℕ) → answer ≡ Ok n → Saves (take n after) s
 
 -- bytes as a state, by the answer and the state beside it
 pub record LoadCall (bytes : List ℕ) (answer : LoadAnswer) (state : State) : Type 0 where

@@ -1,9 +1,9 @@
 -- What is promised of each call of the wire, by its arguments, its answer and the lent buffers after it.
-use Rattle.std.specs.Prelude.{ℕ, ◌+◌, ◌-◌, ◌*◌, ◌/◌, ◌<◌, ◌≤◌, true, not, ◌≡◌, List, [], ◌∷◌, ◌++◌, ltb, leb, eqb, ℤ, pos, length, take, drop, get_or, replicate}
+use Rattle.std.specs.Prelude.{ℕ, ◌+◌, ◌-◌, ◌*◌, ◌/◌, ◌<◌, ◌≤◌, true, not, ◌≡◌, List, [], ◌∷◌, ◌++◌, ltb, leb, eqb, ℤ, pos, length, take, drop, get_or, replicate, Ok, None, Some}
 use Rattle.wing_node.specs.Refusal.{good_beside, alone}
 use Rattle.wing_node.specs.declared.refusal.Refusal.{Refusal}
 use Rattle.wing_node.specs.Field.{big, field_at}
-use Rattle.wing_node.specs.Result.{ok, refused}
+use Rattle.wing_node.specs.Result.{ok, refused, Result}
 use Rattle.wing_node.specs.Signed.{signed}
 use Rattle.wing_node.specs.Utf8.{good, utf8}
 use Rattle.wing_node.specs.Value.{NodeValue, string}
@@ -24,7 +24,6 @@ use Rattle.wing_wire.specs.declared.earlier.CarryAnswer.{CarryAnswer}
 use Rattle.wing_wire.specs.declared.earlier.Token.TheVariants.{Number}
 use Rattle.wing_wire.specs.declared.token.Class.TheVariants.{LongCount}
 use Rattle.wing_wire.specs.declared.state.Escape.{Escape}
-use Rattle.wing_wire.specs.declared.state.Pending.TheVariants.{None, Byte}
 use Rattle.wing_wire.specs.declared.escape.Unit.TheVariants.{Nothing, Appended}
 use Rattle.wing_wire.specs.declared.escape.NextUnit.{NextUnit}
 use Rattle.wing_wire.specs.declared.stream.Advanced.{Advanced}
@@ -32,13 +31,9 @@ use Rattle.wing_wire.specs.declared.state.Token.TheVariants.{Between}
 use Rattle.wing_wire.specs.declared.unit.Answer.{Answer}
 use Rattle.wing_wire.specs.declared.unit.Answer.TheVariants.{More, String as AString, Body as ABody, Refused as AnswerRefused}
 use Rattle.wing_wire.specs.declared.reader.Reply.{Reply}
-use Rattle.wing_wire.specs.declared.write.Written.{Written}
-use Rattle.wing_wire.specs.declared.write.Written.TheVariants.{Bytes}
 use Rattle.wing_wire.specs.declared.meter.Meter.{Meter}
 use Rattle.wing_wire.specs.declared.meter.Requested.{Requested}
-use Rattle.wing_wire.specs.declared.meter.Requested.TheVariants.{Bytes as RequestWritten}
 use Rattle.wing_wire.specs.declared.meter.MetersRead.{MetersRead}
-use Rattle.wing_wire.specs.declared.meter.MetersRead.TheVariants.{Readings}
 use Rattle.wing_mirror.specs.Rows.{In}
 use Rattle.wing_mirror.specs.Machine.{StreamEvent, stream_event}
 use Rattle.promises.specs.Refusals.{string_wrong, body_long, body_empty, state_unsound, output_short, string_long, meters_over, meter_id_last, packet_size, number_over}
@@ -130,7 +125,7 @@ AdvanceCall s bytes answer store = Accepted s bytes → CoreGives (run answer st
 -- decode_next
 pub record DecodeCall (e : Escape) (bytes : List ℕ) (at : ℕ) (answer : NextUnit) : Type 0 where
   -- 01: a pending byte is the next unit, before any byte is read, and is appended to the body
-  pub pending : (u : ℕ) → e.pending ≡ Byte u → answer ≡ next_unit (settled e) (Appended u) at
+  pub pending : (u : ℕ) → e.pending ≡ Some u → answer ≡ next_unit (settled e) (Appended u) at
   -- else the byte at the place gives its unit or none; past the end there is none
   pub byte : e.pending ≡ None → at < length bytes → answer ≡ next_unit (decode_of e (get_or bytes at 0)).escape (decode_of e (get_or bytes at 0)).unit (at + 1)
   pub end : e.pending ≡ None → length bytes ≤ at → answer ≡ next_unit e Nothing at
@@ -155,33 +150,33 @@ pub record CarryCall (s : EarlierState) (answer : CarryAnswer) (state : State) :
 
 -- a command: sent back as its lines have it, with the output as it was and what else must stay; else these bytes at the front of the output,
 -- whose bytes past them are not altered
-pub record Writes (lines : List Line) (bytes out : List ℕ) (answer : Written) (after : List ℕ) (Stays : Type 0) : Type 0 where
+pub record Writes (lines : List Line) (bytes out : List ℕ) (answer : Result ℕ) (after : List ℕ) (Stays : Type 0) : Type 0 where
   pub answered : Answers lines bytes (written_result answer after) ((after ≡ out) × Stays)
-  pub rest : (n : ℕ) → answer ≡ Bytes n → drop n after ≡ drop n out
+  pub rest : (n : ℕ) → answer ≡ Ok n → drop n after ≡ drop n out
   -- the number told is that of these bytes
-  pub told : (n : ℕ) → answer ≡ Bytes n → n ≡ length bytes
+  pub told : (n : ℕ) → answer ≡ Ok n → n ≡ length bytes
 
 -- a command of given bytes: 9
-abbrev pub CommandCall : List ℕ → List ℕ → Written → List ℕ → Type 0
+abbrev pub CommandCall : List ℕ → List ℕ → Result ℕ → List ℕ → Type 0
 CommandCall bytes out answer after = Writes (command_lines bytes out) bytes out answer after (Unit {0})
 
 -- a set order: its lines; and demand 2: what was written is read as that value at that node
-pub record SetOrder (lines : List Line) (id : ℤ) (v : NodeValue) (out : List ℕ) (answer : Written) (after : List ℕ) : Type 0 where
+pub record SetOrder (lines : List Line) (id : ℤ) (v : NodeValue) (out : List ℕ) (answer : Result ℕ) (after : List ℕ) : Type 0 where
   pub writes : Writes lines (set_bytes id v) out answer after (Unit {0})
   pub reads : ReadsAsSet id v answer after
 
 -- a meter request: 11, 12, 9; else its bytes and the id after the last one
-pub record MeterCall (port last : ℕ) (ms : List Meter) (count : ℕ) (out : List ℕ) (answer : Requested) (after : List ℕ) : Type 0 where
+pub record MeterCall (port last : ℕ) (ms : List Meter) (count : ℕ) (out : List ℕ) (answer : Result Requested) (after : List ℕ) : Type 0 where
   pub answered : Answers (meter_lines port last ms count out) (record { bytes = meter_request port (last + 1) (take count ms); id = last + 1 }) (requested_result answer after) (after ≡ out)
-  pub rest : (n id : ℕ) → answer ≡ RequestWritten n id → drop n after ≡ drop n out
+  pub rest : (n id : ℕ) → answer ≡ Ok (record { len = n; id = id }) → drop n after ≡ drop n out
   -- the number told is that of its bytes
-  pub told : (n id : ℕ) → answer ≡ RequestWritten n id → n ≡ length (meter_request port (last + 1) (take count ms))
+  pub told : (n id : ℕ) → answer ≡ Ok (record { len = n; id = id }) → n ≡ length (meter_request port (last + 1) (take count ms))
 
 -- a meter packet: 13, 9; else its id and readings, and the readings' buffer past them as it was
-pub record PacketCall (p : List ℕ) (out : List ℤ) (answer : MetersRead) (after : List ℤ) : Type 0 where
+pub record PacketCall (p : List ℕ) (out : List ℤ) (answer : Result MetersRead) (after : List ℤ) : Type 0 where
   pub answered : Answers (packet_lines p out) (record { id = big (take 2 p); readings = readings (drop 4 p) }) (meters_result answer after) (after ≡ out)
-  pub rest : (id n : ℕ) → answer ≡ Readings id n → drop n after ≡ drop n out
+  pub rest : (id n : ℕ) → answer ≡ Ok (record { id = id; count = n }) → drop n after ≡ drop n out
   -- 01: two bytes for each after the first four; an odd last byte is dropped
-  pub told : (id n : ℕ) → answer ≡ Readings id n → n ≡ (length p - 4) / 2
+  pub told : (id n : ℕ) → answer ≡ Ok (record { id = id; count = n }) → n ≡ (length p - 4) / 2
   -- 01: each reading is the signed 16-bit field at its place
-  pub each : (id n : ℕ) → answer ≡ Readings id n → (k : ℕ) → k < n → get_or after k (pos 0) ≡ signed 15 (field_at 2 p (4 + 2 * k))
+  pub each : (id n : ℕ) → answer ≡ Ok (record { id = id; count = n }) → (k : ℕ) → k < n → get_or after k (pos 0) ≡ signed 15 (field_at 2 p (4 + 2 * k))

@@ -3,9 +3,9 @@ ghost use Rattle.wing_mirror.specs.Table.{table as table_of};
 ghost use Rattle.promises.specs.Listing.{PrintCall, LoadCall};
 
 use wing_listing::answer::LoadReply;
-use wing_wire::write::Written;
+use wing_node::refusal::Refusal;
 
-pub fn print(table: &[u8], count: usize, out: &mut [u8]) -> Written
+pub fn print(table: &[u8], count: usize, out: &mut [u8]) -> Result<usize, Refusal>
     ensures { PrintCall (table_of table.now count) out.old result out.new }
 {
     wing_listing::print::print(table, count, out)

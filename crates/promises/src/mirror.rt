@@ -8,10 +8,10 @@ ghost use Rattle.wing_mirror.specs.Table.{table as table_of};
 ghost use Rattle.promises.specs.TableBytes.{SoundBytes, UsableBytes};
 ghost use Rattle.promises.specs.Mirror.{mirror as mirror_of, FeedCall, LentFeedCall, SetCall, RecallCall, LookupCall, RecordCall, SameCall};
 
-use wing_mirror::answer::{FeedReply, LentFeedReply, Lookup, RecordRead, Same, SetReply};
+use wing_mirror::answer::{FeedReply, LentFeedReply, RecordRead, SetReply};
 use wing_mirror::origin::Origin;
 use wing_wire::state::{Control, State};
-use wing_wire::write::Written;
+use wing_node::refusal::Refusal;
 
 pub fn feed(state: State, table: &mut [u8], count: usize, bytes: &[u8]) -> FeedReply
     ensures { FeedCall (mirror_of state (table_of table.old count)) bytes.now result.answer result.counts (mirror_of result.state (table_of table.new result.count)) }
@@ -49,13 +49,13 @@ pub fn set_string(table: &mut [u8], count: usize, out: &mut [u8], id: i32, value
     wing_mirror::set::set_string(table, count, out, id, value)
 }
 
-pub fn recall(table: &[u8], count: usize, out: &mut [u8]) -> Written
+pub fn recall(table: &[u8], count: usize, out: &mut [u8]) -> Result<usize, Refusal>
     ensures { RecallCall (table_of table.now count) out.old result out.new }
 {
     wing_mirror::recall::recall(table, count, out)
 }
 
-pub fn lookup(table: &[u8], count: usize, id: i32) -> Lookup
+pub fn lookup(table: &[u8], count: usize, id: i32) -> Result<Option<usize>, Refusal>
     ensures { LookupCall (table_of table.now count) id result }
 {
     wing_mirror::query::lookup(table, count, id)
@@ -67,7 +67,7 @@ pub fn record(table: &[u8], count: usize, number: usize) -> RecordRead
     wing_mirror::query::record(table, count, number)
 }
 
-pub fn same(a: &[u8], count_a: usize, b: &[u8], count_b: usize) -> Same
+pub fn same(a: &[u8], count_a: usize, b: &[u8], count_b: usize) -> Result<bool, Refusal>
     ensures { SameCall (table_of a.now count_a) (table_of b.now count_b) result }
 {
     wing_mirror::query::same(a, count_a, b, count_b)

@@ -5,20 +5,20 @@ ghost use Rattle.wing_node.specs.Items.{walk};
 ghost use Rattle.wing_node.specs.Refusal.{refusal_number};
 ghost use Rattle.wing_node.specs.Utf8.{Octets, Longest, Decides, good, utf8};
 ghost use Rattle.wing_node.specs.Value.{node_value, int_in, string_in};
-ghost use Rattle.wing_node.specs.Answers.{begun_result, start_result, string_result};
+ghost use Rattle.wing_node.specs.Answers.{string_result};
 ghost use Rattle.wing_node.specs.Writer.{lent};
 ghost use Rattle.promises.specs.Refusals.{string_wrong};
 ghost use Rattle.promises.specs.Lines.{◌gives◌};
 ghost use Rattle.promises.specs.Node.{ParserCall, BeginCall, StepCall, ItemCall};
 ghost use Rattle.promises.specs.Writer.{WriterCall, AnewCall};
 
-use wing_node::definition::{Item, Parsed};
-use wing_node::items::{Begun, Step, Walk};
+use wing_node::definition::Item;
+use wing_node::items::{Step, Walk};
 use wing_node::node_type::NodeType;
-use wing_node::refusal::{Fault, Refusal};
+use wing_node::refusal::Refusal;
 use wing_node::value::{StringRead, Value};
 use wing_node::walker::Start;
-use wing_node::writer::{BodyWritten, Fields};
+use wing_node::writer::Fields;
 
 // How many leading bytes form whole characters (02): the largest such number by RFC 3629's grammar.
 pub fn good_len(s: &[u8]) -> usize
@@ -38,24 +38,24 @@ pub fn is_utf8(s: &[u8]) -> bool
 pub fn number(why: Refusal) -> u8
     ensures { result ≡ refusal_number why }
 {
-    wing_node::refusal::number(why)
+    wing_node::refusal::why.number()
 }
 
 // A string of the wire or to be set, the first n bytes of s or all where it has fewer: 1 with its good (02) if it isn't UTF-8, else no fault.
-pub fn string_fault(s: &[u8], n: u16) -> Fault
+pub fn string_fault(s: &[u8], n: u16) -> Result<(), Refusal>
     ensures { result ≡ (not (utf8 (take n s.now)) gives string_wrong (good (take n s.now))) }
 {
     wing_node::refusal::string_fault(s, n)
 }
 
-pub fn from_bytes(body: &[u8]) -> Parsed
+pub fn from_bytes(body: &[u8]) -> Result<Definition, Refusal>
     ensures { ParserCall body.now result }
 {
     wing_node::definition::from_bytes(body)
 }
 
-pub fn items_begin(body: &[u8]) -> Begun
-    ensures { BeginCall body.now (begun_result result) }
+pub fn items_begin(body: &[u8]) -> Result<Walk, Refusal>
+    ensures { BeginCall body.now result }
 {
     wing_node::items::items_begin(body)
 }
@@ -79,7 +79,7 @@ pub fn to_bytes(
     long_name: &[u8],
     items: &[u8],
     out: &mut [u8],
-) -> BodyWritten
+) -> Result<usize, Refusal>
     ensures { WriterCall d (lent name.now long_name.now items.now) out.old result out.new }
 {
     // Where a field is read, the proof is told that all are within their types.
@@ -89,7 +89,7 @@ pub fn to_bytes(
 
 // A body read and written anew: the same bytes exactly when the type and unit bits of its flags are below 8 each, its unused flag bits are 0 and no bytes
 // follow its last field.
-pub fn write_anew(body: &[u8], out: &mut [u8]) -> BodyWritten
+pub fn write_anew(body: &[u8], out: &mut [u8]) -> Result<usize, Refusal>
     ensures { AnewCall body.now out.old result out.new }
 {
     wing_node::anew::write_anew(body, out)
@@ -97,7 +97,7 @@ pub fn write_anew(body: &[u8], out: &mut [u8]) -> BodyWritten
 
 // The walker's begin and step, for callers that keep plain numbers.
 pub fn begin_over(body: &[u8]) -> Start
-    ensures { BeginCall body.now (start_result result) }
+    ensures { BeginCall body.now result }
 {
     wing_node::walker::begin_over(body)
 }

@@ -4,9 +4,9 @@ ghost use Rattle.promises.specs.Saved.{SaveCall, LoadCall, LoadEarlierCall};
 
 use wing_saved::Loaded;
 use wing_wire::state::State;
-use wing_wire::write::Written;
+use wing_node::refusal::Refusal;
 
-pub fn save(out: &mut [u8], s: State) -> Written
+pub fn save(out: &mut [u8], s: State) -> Result<usize, Refusal>
     ensures { SaveCall s out.old result out.new }
 {
     wing_saved::save(out, s)

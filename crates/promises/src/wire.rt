@@ -7,15 +7,13 @@ ghost use Rattle.wing_wire.specs.Meter.{keep_alives};
 ghost use Rattle.promises.specs.Wire.{NextCall, CarryCall, AdvanceCall, DecodeCall, command_lines, string_lines, CommandCall, SetOrder, MeterCall, PacketCall};
 
 use wing_wire::earlier;
-use wing_wire::earlier::Carried;
 use wing_wire::escape::NextUnit;
 use wing_wire::lent::Parted;
 use wing_wire::meter::{Meter, MetersRead, Requested};
 use wing_wire::reader::Reply;
-use wing_wire::set::Suffix;
 use wing_wire::state::{Control, Escape, State};
 use wing_wire::stream::Advanced;
-use wing_wire::write::Written;
+use wing_node::refusal::Refusal;
 
 pub fn next(s: State, bytes: &[u8]) -> Reply
     ensures { NextCall s bytes.now result }
@@ -49,37 +47,37 @@ pub fn decode_next(e: Escape, bytes: &[u8], at: usize) -> NextUnit
     wing_wire::escape::decode_next(e, bytes, at)
 }
 
-pub fn set_int(out: &mut [u8], id: i32, value: i32) -> Written
+pub fn set_int(out: &mut [u8], id: i32, value: i32) -> Result<usize, Refusal>
     ensures { SetOrder (command_lines (set_bytes id (integer_of value)) out.old) id (integer_of value) out.old result out.new }
 {
     wing_wire::set::set_int(out, id, value)
 }
 
-pub fn set_float(out: &mut [u8], id: i32, bits: u32) -> Written
+pub fn set_float(out: &mut [u8], id: i32, bits: u32) -> Result<usize, Refusal>
     ensures { SetOrder (command_lines (set_bytes id (float_of bits)) out.old) id (float_of bits) out.old result out.new }
 {
     wing_wire::set::set_float(out, id, bits)
 }
 
-pub fn set_string(out: &mut [u8], id: i32, value: &[u8]) -> Written
+pub fn set_string(out: &mut [u8], id: i32, value: &[u8]) -> Result<usize, Refusal>
     ensures { SetOrder (string_lines id value.now out.old) id (string_of value.now) out.old result out.new }
 {
     wing_wire::set::set_string(out, id, value)
 }
 
-pub fn format_id(out: &mut [u8], id: i32, prefix: u8, suffix: Suffix) -> Written
+pub fn format_id(out: &mut [u8], id: i32, prefix: u8, suffix: Option<u8>) -> Result<usize, Refusal>
     ensures { CommandCall (id_bytes prefix id (suffix_bytes suffix)) out.old result out.new }
 {
     wing_wire::set::format_id(out, id, prefix, suffix)
 }
 
-pub fn request_node_definition(out: &mut [u8], id: i32) -> Written
+pub fn request_node_definition(out: &mut [u8], id: i32) -> Result<usize, Refusal>
     ensures { CommandCall (request_bytes 0xdd id) out.old result out.new }
 {
     wing_wire::request::request_node_definition(out, id)
 }
 
-pub fn request_node_data(out: &mut [u8], id: i32) -> Written
+pub fn request_node_data(out: &mut [u8], id: i32) -> Result<usize, Refusal>
     ensures { CommandCall (request_bytes 0xdc id) out.old result out.new }
 {
     wing_wire::request::request_node_data(out, id)
@@ -97,7 +95,7 @@ pub fn request_meter(
     wing_wire::meter::request_meter(out, meters, count, port, last_id)
 }
 
-pub fn keep_alive_meters(out: &mut [u8], last_id: u16, port: u16) -> Written
+pub fn keep_alive_meters(out: &mut [u8], last_id: u16, port: u16) -> Result<usize, Refusal>
     ensures { CommandCall (keep_alives port last_id) out.old result out.new }
 {
     wing_wire::meter::keep_alive_meters(out, last_id, port)

@@ -37,7 +37,7 @@ fn good(to: &impl Print, why: Refusal) -> io::Result<()> {
 
 // A refusal that is about no line has the line 0.
 pub fn refused(to: &impl Print, why: Refusal, line: usize) -> io::Result<()> {
-    let n = refusal::number(why);
+    let n = refusal::why.number();
     complain(to, b"recall")?;
     if line > 0 {
         number(to, b": line ", line as u64)?;

@@ -11,7 +11,6 @@ use std::io::Read;
 use wing_listing::answer::Loaded;
 use wing_listing::load::load;
 use wing_mirror::recall::recall;
-use wing_wire::write::Written;
 
 // One byte more than 02 lets a listing have, so that load says of a longer one what it is.
 const TEXT: usize = 65537;
@@ -70,8 +69,8 @@ fn send(to: &impl Print, table: &[u8], count: usize) -> bool {
     let mut out = [0u8; RECALL];
     let w = recall(table, count, &mut out);
     match w {
-        Written::Bytes(n) => to.write_all(front(&out, n)).is_ok(),
-        Written::Refused(_) => false,
+        Ok(n) => to.write_all(front(&out, n)).is_ok(),
+        Err(_) => false,
     }
 }
 

@@ -3,11 +3,10 @@
 use crate::forms::{Asked, Numbers};
 use crate::show::{Log, Said};
 use crate::{read, show};
-use wing_node::writer::BodyWritten;
 use wing_node::{anew, field, writer};
 use wing_wire::meter::Meter;
-use wing_wire::write::Written;
 use wing_wire::{meter, request, set};
+use wing_node::refusal::Refusal;
 
 const READING_MARK: i16 = 0x6eee;
 
@@ -30,9 +29,9 @@ pub fn half(n: usize) -> u16 {
 
 fn suffix(bytes: &[u8]) -> set::Suffix {
     if bytes.len() == 0 {
-        return set::Suffix::None;
+        return set::None;
     }
-    set::Suffix::Byte(bytes[0])
+    set::Some(bytes[0])
 }
 
 // 01's order. A kind past the last is rta.
@@ -87,7 +86,7 @@ fn ask_meters(a: Asked, items: &[u8], out: &mut [u8]) -> meter::Requested {
 }
 
 // One call of the writer that the letter names, with the two numbers after the room.
-fn written(letter: u8, a: Asked, bytes: &[u8], out: &mut [u8]) -> Written {
+fn written(letter: u8, a: Asked, bytes: &[u8], out: &mut [u8]) -> Result<usize, Refusal> {
     let id = int(a.second);
     match letter {
         b'i' => set::set_int(out, id, int(a.third)),
@@ -119,7 +118,7 @@ fn fields(n: Numbers) -> writer::Fields {
     }
 }
 
-fn define(a: Asked, bytes: &[u8], out: &mut [u8]) -> BodyWritten {
+fn define(a: Asked, bytes: &[u8], out: &mut [u8]) -> Result<usize, Refusal> {
     let n = a.numbers;
     let name = read::part(bytes, 0, n[11]);
     let long_name = read::part(bytes, n[11], n[12]);
@@ -129,31 +128,31 @@ fn define(a: Asked, bytes: &[u8], out: &mut [u8]) -> BodyWritten {
 
 // What a call wrote: the meter id, 0 where there is none, and how many bytes, twice: those told, and where the rest begins.
 // Or the refusal.
-pub fn of_written(w: Written, good: u8, bad: u8) -> Said {
+pub fn of_written(w: Result<usize, Refusal>, good: u8, bad: u8) -> Said {
     match w {
-        Written::Bytes(len) => show::three(good, 0, len, len),
-        Written::Refused(why) => show::refused(bad, why),
+        Ok(len) => show::three(good, 0, len, len),
+        Err(why) => show::refused(bad, why),
     }
 }
 
-fn of_body(w: BodyWritten, good: u8, bad: u8) -> Said {
+fn of_body(w: Result<usize, Refusal>, good: u8, bad: u8) -> Said {
     match w {
-        BodyWritten::Bytes(len) => show::three(good, 0, len, len),
-        BodyWritten::Refused(why) => show::refused(bad, why),
+        Ok(len) => show::three(good, 0, len, len),
+        Err(why) => show::refused(bad, why),
     }
 }
 
 fn of_requested(r: meter::Requested) -> Said {
     match r {
         meter::Requested::Bytes { len, id } => show::three(b'w', id as usize, len, len),
-        meter::Requested::Refused(why) => show::one(b'q', why as usize),
+        meter::Err(why) => show::one(b'q', why as usize),
     }
 }
 
 fn of_read(r: meter::MetersRead) -> Said {
     match r {
         meter::MetersRead::Readings { id, count } => show::three(b'm', id as usize, count, 0),
-        meter::MetersRead::Refused(why) => show::one(b'_', why as usize),
+        meter::Err(why) => show::one(b'_', why as usize),
     }
 }
 

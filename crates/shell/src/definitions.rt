@@ -13,14 +13,14 @@ fn string(s: definition::Span) -> usize {
 // An item; none and a refusal by letters of texts in words or short.
 fn item(i: definition::Item, none: u8, refused: u8) -> Said {
     match i {
-        definition::Item::None => show::one(none, 0),
+        definition::Ok(None) => show::one(none, 0),
         definition::Item::Strings { item, long_item } => {
             show::three(b',', string(item), string(long_item), 0)
         }
         definition::Item::Float { item, long_item } => {
             show::three(b'/', item as usize, string(long_item), 0)
         }
-        definition::Item::Refused(why) => show::refused(refused, why),
+        definition::Err(why) => show::refused(refused, why),
     }
 }
 
@@ -79,8 +79,8 @@ fn walk(log: &mut Log, at: usize, body: &[u8], first: items::Walk, lent: bool) -
 fn walked(log: &mut Log, at: usize, body: &[u8]) -> usize {
     let begun = items::items_begin(body);
     match begun {
-        items::Begun::Good(first) => walk(log, at, body, first, false),
-        items::Begun::Refused(why) => show::say(log, at, show::refused(b'_', why), body),
+        items::Ok(first) => walk(log, at, body, first, false),
+        items::Err(why) => show::say(log, at, show::refused(b'_', why), body),
     }
 }
 
@@ -166,8 +166,8 @@ fn fields(log: &mut Log, at: usize, body: &[u8], d: definition::Definition) -> u
 pub fn definition(log: &mut Log, at: usize, body: &[u8]) -> usize {
     let parsed = definition::from_bytes(body);
     match parsed {
-        definition::Parsed::Good(d) => fields(log, at, body, d),
-        definition::Parsed::Refused(why) => show::say(log, at, show::refused(b'_', why), body),
+        definition::Ok(d) => fields(log, at, body, d),
+        definition::Err(why) => show::say(log, at, show::refused(b'_', why), body),
     }
 }
 
@@ -175,8 +175,8 @@ pub fn definition(log: &mut Log, at: usize, body: &[u8]) -> usize {
 fn refusal(body: &[u8]) -> usize {
     let parsed = definition::from_bytes(body);
     match parsed {
-        definition::Parsed::Good(_) => 0,
-        definition::Parsed::Refused(why) => show::refusal(why),
+        definition::Ok(_) => 0,
+        definition::Err(why) => show::refusal(why),
     }
 }
 
@@ -229,7 +229,7 @@ fn walk_items(log: &mut Log, body: &[u8]) -> usize {
             let steps_at = show::tell(log, 0, b'a', start.at, start.left as usize, 0, body);
             walk(log, steps_at, body, first, true)
         }
-        walker::Opening::Refused(why) => show::say(log, 0, show::refused(b'?', why), body),
+        walker::Err(why) => show::say(log, 0, show::refused(b'?', why), body),
     }
 }
 

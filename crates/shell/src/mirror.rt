@@ -75,7 +75,7 @@ fn fed(a: answer::FeedAnswer, c: answer::Counts) -> Said {
             c.definitions_refused as usize,
             c.ends as usize,
         ),
-        answer::FeedAnswer::Refused(why) => show::one(b'?', why as usize),
+        answer::Err(why) => show::one(b'?', why as usize),
     }
 }
 
@@ -146,7 +146,7 @@ fn record(a: answer::RecordAnswer) -> Said {
             value: v,
             origin: o,
         } => value(show::bits(id), v, origin::number(o) as usize),
-        answer::RecordAnswer::Refused(why) => show::one(b'?', why as usize),
+        answer::Err(why) => show::one(b'?', why as usize),
     }
 }
 
@@ -196,9 +196,9 @@ fn dump(k: Kept, memory: &[u8], log: &mut Log) -> usize {
 
 fn found(a: answer::Lookup) -> Said {
     match a {
-        answer::Lookup::At(n) => show::one(b'A', n),
-        answer::Lookup::None => show::one(b'*', 0),
-        answer::Lookup::Refused(why) => show::one(b'?', why as usize),
+        answer::Ok(Some(n)) => show::one(b'A', n),
+        answer::Ok(None) => show::one(b'*', 0),
+        answer::Err(why) => show::one(b'?', why as usize),
     }
 }
 

@@ -6,7 +6,6 @@ use wing_node::refusal::Refusal;
 use wing_node::utf8;
 use wing_wire::state::State;
 use wing_wire::unit::Answer;
-use wing_wire::write::Written;
 use wing_wire::{reader, set};
 
 // The longest string.
@@ -28,8 +27,8 @@ fn set_good(s: &[u8]) -> usize {
     let mut out = [0u8; 512];
     let w = set::set_string(&mut out, 0, s);
     match w {
-        Written::Bytes(_) => s.len(),
-        Written::Refused(why) => refused_good(why),
+        Ok(_) => s.len(),
+        Err(why) => refused_good(why),
     }
 }
 

@@ -57,7 +57,7 @@ fn with_good(number: u8, good: u16) -> usize {
 
 // A refusal as one number of a text: 01's, and where it has a good 256 times one more than the good besides.
 pub fn refusal(why: Refusal) -> usize {
-    let number = wing_node::refusal::number(why);
+    let number = wing_node::refusal::why.number();
     match why {
         Refusal::Number(_) => number as usize,
         Refusal::StringNotUtf8 { good } => with_good(number, good),

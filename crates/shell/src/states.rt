@@ -1,7 +1,7 @@
 // Decoder states as text, and the states that a caller may hand over, sound and unsound, by number.
 use crate::show::{Log, Said};
 use crate::{read, show};
-use wing_wire::state::{Control, Escape, Pending, State, Token};
+use wing_wire::state::{Control, Escape, State, Token};
 use wing_wire::token::Class;
 
 // The numbers of the classes' words.
@@ -34,10 +34,10 @@ pub fn token(t: Token) -> Said {
     }
 }
 
-fn pending(p: Pending) -> Said {
+fn pending(p: Option<u8>) -> Said {
     match p {
-        Pending::None => show::one(b'n', 0),
-        Pending::Byte(b) => show::one(b'p', b as usize),
+        None => show::one(b'n', 0),
+        Some(b) => show::one(b'p', b as usize),
     }
 }
 
@@ -109,9 +109,9 @@ fn with(escaped: bool, channel: i8, byte: u8, token: Token, at: usize, stored: u
     if at < 4096 {
         store[at] = stored;
     }
-    let mut pending = Pending::None;
+    let mut pending = None;
     if byte > 0 {
-        pending = Pending::Byte(byte);
+        pending = Some(byte);
     }
     let escape = Escape {
         escaped,

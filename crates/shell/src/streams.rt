@@ -3,7 +3,7 @@ use crate::forms::Asked;
 use crate::show::{Log, Said};
 use crate::{definitions, forms, read, show, states};
 use wing_saved::earlier::load_earlier;
-use wing_saved::{LoadAnswer, Loaded};
+use wing_saved::Loaded;
 use wing_wire::lent::LentReply;
 use wing_wire::unit::Answer;
 use wing_wire::{escape, lent, reader, state};
@@ -253,7 +253,7 @@ fn from_earlier(log: &mut Log, end: usize, bytes: &[u8]) -> usize {
             let s = loaded.state;
             cut_from(log, text, stream, sized(stream.len(), true), s)
         }
-        LoadAnswer::Refused(why) => show::say(log, 0, show::refused(b'_', why), bytes),
+        Err(why) => show::say(log, 0, show::refused(b'_', why), bytes),
     }
 }
 

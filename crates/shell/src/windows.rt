@@ -4,9 +4,8 @@ use crate::forms::{Asked, Numbers};
 use crate::show::{Log, Said};
 use crate::{read, show};
 use wing_meters::figures::Told;
-use wing_meters::reading::RowsAnswer;
 use wing_meters::window;
-use wing_meters::window::{Control, MadeAnswer, Window};
+use wing_meters::window::{Control, Window};
 use wing_node::field;
 
 // What an output of figures is filled with before a call: over every sum, which is within 256 × 32,768.
@@ -48,7 +47,7 @@ fn make(w: Window, width: u32, log: &mut Log) -> Watched {
             let fresh = made.window;
             reply(fresh, show::tell(log, 0, b'M', width as usize, 0, 0, b""))
         }
-        MadeAnswer::Refused(why) => reply(w, show::tell(log, 0, b'?', why as usize, 0, 0, b"")),
+        Err(why) => reply(w, show::tell(log, 0, b'?', why as usize, 0, 0, b"")),
     }
 }
 
@@ -69,7 +68,7 @@ fn told(t: Told) -> Said {
             show::bits(wide(f.top)),
             0,
         ),
-        Told::Refused(why) => show::one(b'?', why as usize),
+        Err(why) => show::one(b'?', why as usize),
     }
 }
 
@@ -123,7 +122,7 @@ fn is_marked(out: &[i32], mut at: usize) -> bool {
 fn followed(a: RowsAnswer) -> Said {
     match a {
         RowsAnswer::Rows(n) => show::three(b'Z', n, n % 0x1_0000 * 5, 0),
-        RowsAnswer::Refused(why) => show::one(b'?', why as usize),
+        Err(why) => show::one(b'?', why as usize),
     }
 }
 

@@ -1,10 +1,10 @@
 // The libraries' calls as bench/ times them: slices and numbers alone, since no enum crosses the border to Rust.
 use wing_node::field::{of_i32, to_i32};
-use wing_node::writer::{BodyWritten, Fields};
+use wing_node::writer::Fields;
 use wing_node::{definition, refusal, utf8, writer};
 use wing_wire::unit::Answer;
-use wing_wire::write::Written;
 use wing_wire::{meter, reader, set, state, stream};
+use wing_node::refusal::Refusal;
 
 // The bytes from a place on; none past the end.
 fn rest(s: &[u8], at: usize) -> &[u8] {
@@ -32,7 +32,7 @@ fn value(a: Answer) -> u32 {
         Answer::String(n) => n as u32,
         Answer::Body(n) => n as u32,
         Answer::End => 1,
-        Answer::Refused(why) => refusal::number(why) as u32,
+        Answer::Refused(why) => refusal::why.number() as u32,
     }
 }
 
@@ -102,15 +102,15 @@ pub extern "C" fn port_next(bytes: &[u8]) -> u64 {
 pub extern "C" fn port_from_bytes(body: &[u8]) -> u32 {
     let parsed = definition::from_bytes(body);
     match parsed {
-        definition::Parsed::Good(d) => of_i32(d.id),
-        definition::Parsed::Refused(_) => 0,
+        definition::Ok(d) => of_i32(d.id),
+        definition::Err(_) => 0,
     }
 }
 
-fn body_length(w: BodyWritten) -> usize {
+fn body_length(w: Result<usize, Refusal>) -> usize {
     match w {
-        BodyWritten::Bytes(n) => n,
-        BodyWritten::Refused(_) => 0,
+        Ok(n) => n,
+        Err(_) => 0,
     }
 }
 
@@ -151,10 +151,10 @@ pub extern "C" fn port_to_bytes(
     body_length(writer::to_bytes(d, name, long_name, items, out))
 }
 
-fn length(w: Written) -> usize {
+fn length(w: Result<usize, Refusal>) -> usize {
     match w {
-        Written::Bytes(n) => n,
-        Written::Refused(_) => 0,
+        Ok(n) => n,
+        Err(_) => 0,
     }
 }
 
@@ -178,7 +178,7 @@ pub extern "C" fn port_read_meters(packet: &[u8], out: &mut [i16]) -> usize {
     let r = meter::read_meters(packet, out);
     match r {
         meter::MetersRead::Readings { id: _, count } => count,
-        meter::MetersRead::Refused(_) => 0,
+        meter::Err(_) => 0,
     }
 }
 

@@ -7,7 +7,7 @@ use native.Mathlib.Nat.{pow-le-pow_right}
 use lib.Dec.{eqb, leb, ltb}
 use lib.ListN.{take, drop, length, length-take}
 use Rattle.wing_node.specs.Utf8.{utf8}
-use Rattle.wing_node.specs.Refusal.{no_fault, is_refused, first_fault, text_fault}
+use Rattle.wing_node.specs.Refusal.{no_fault, is_refused, first_fault, text_fault, Fault}
 use Rattle.wing_node.specs.Field.{big}
 use Rattle.wing_node.specs.Cursor.{Field, number, size, from, right, held_fault, fault, value_of, read_at, reads, start, cursor, after}
 use Rattle.wing_node.specs.Types.{has_items}
@@ -18,24 +18,21 @@ use Rattle.wing_node.specs.Anew.{anew_from, anew_of}
 use Rattle.wing_node.proofs.Branches.{branch}
 use Rattle.wing_node.proofs.Numerals.Numbers.{Digits, digits-take, digits-drop, number-below}
 use Rattle.wing_node.proofs.Numerals.Signs.{signed-in}
-use Rattle.wing_node.specs.declared.refusal.Fault.{Fault}
-use Rattle.wing_node.specs.declared.refusal.Fault.TheVariants.{None, Refused as Because}
 use Rattle.wing_node.specs.declared.cursor.Cursor.{Cursor}
 use Rattle.wing_node.specs.declared.cursor.FieldRead.{FieldRead}
 use Rattle.wing_node.specs.declared.node_type.NodeType.{NodeType}
 use Rattle.wing_node.specs.declared.node_type.NodeType.TheVariants.{Node, LinearFloat, LogarithmicFloat, FaderLevel, Integer, StringEnum, FloatEnum, String}
 use Rattle.wing_node.specs.declared.definition.Definition.{Definition}
 use Rattle.wing_node.specs.declared.definition.ItemRead.{ItemRead}
-use Rattle.wing_node.specs.declared.definition.Parsed.{Parsed}
-use Rattle.wing_node.specs.declared.definition.Parsed.TheVariants.{Good, Refused}
-use Rattle.wing_node.specs.declared.items.Begun.{Begun}
-use Rattle.wing_node.specs.declared.items.Begun.TheVariants.{Good as WalkBegun, Refused as WalkRefused}
 use Rattle.wing_node.specs.declared.items.Step.{Step}
 use Rattle.wing_node.specs.declared.writer.Fields.{Fields}
 use Rattle.wing_wire.specs.Range.{AreBytes, no_bytes, byte_then}
 use Rattle.wing_c.specs.Meanings.{OfRefusal, OfBody}
 use Rattle.wing_c.specs.DefinitionMeanings.{OfType, OfParsed, OfBegun, OfItem}
 use Rattle.wing_c.specs.DefinitionMeanings.OfType.{node, linear, logarithmic, fader, integers, strings, floats, text}
+use Rattle.std.specs.Prelude.{Ok, Err}
+use Rattle.wing_node.specs.Result.{Result}
+use Rattle.wing_node.specs.declared.items.Walk.{Walk}
 
 bytes-at : (s : List ℕ) → AreBytes s → Digits 256 s
 bytes-at [] no_bytes i = omega arith
@@ -73,12 +70,12 @@ of-type String body c first b = text
 
 -- of a fault
 abbrev pub OfFault : Fault → Type 0
-OfFault None = Unit {0}
-OfFault (Because why) = OfRefusal why
+OfFault (Ok u) = Unit {0}
+OfFault (Err why) = OfRefusal why
 
 pub first_fits : (a b : Fault) → OfFault a → OfFault b → OfFault (first_fault a b)
-first_fits None b g h = h
-first_fits (Because why) b g h = g
+first_fits (Ok u) b g h = h
+first_fits (Err why) b g h = g
 
 held_fits : (f : Field) (s : List ℕ) → OfFault (held_fault f s)
 unfolding held_fault
@@ -104,8 +101,8 @@ after-fits (f ∷ fs) body c h = after-fits fs body (read_at f body c).next (rea
 -- ---- the parser and the item calls
 
 parsed-of : (x : Fault) (d : Definition) → OfFault x → OfType d.node_type d.details → OfParsed (parsed_from x d)
-parsed-of None d h t = t
-parsed-of (Because why) d h t = h
+parsed-of (Ok u) d h t = t
+parsed-of (Err why) d h t = h
 
 pub parsed-answer : (body : List ℕ) → AreBytes body → OfParsed (definition_of body)
 unfolding definition_of details_at
@@ -117,9 +114,9 @@ parsed-answer body b =
     (after-fits (items_of t (named (added t) body c Count).value) body (past (added t) body c) (after-fits _ body c (after-fits _ body start tt)))
     (of-type t body c _ (bytes-at body b))
 
-begun-of : (p : Parsed) → OfParsed p → OfBegun (begin_from p)
-begun-of (Good d) h = tt
-begun-of (Refused why) h = h
+begun-of : (p : Result Definition) → OfParsed p → OfBegun (begin_from p)
+begun-of (Ok d) h = tt
+begun-of (Err why) h = h
 
 pub begun-answer : (body : List ℕ) → AreBytes body → OfBegun (begin_of body)
 unfolding begin_of
@@ -136,8 +133,8 @@ item-of FloatEnum rs = tt
 item-of String rs = tt
 
 step_of : (x : Fault) (r : ItemRead) (at left : ℕ) (t : NodeType) → OfFault x → OfItem r.item → OfItem (step_by x r at left t).item
-step_of None r at left t h g = g
-step_of (Because why) r at left t h g = h
+step_of (Ok u) r at left t h g = g
+step_of (Err why) r at left t h g = h
 
 pub step-answer : (body : List ℕ) (at left : ℕ) (t : NodeType) → OfItem (step_at body at left t).item
 unfolding step_at item_at
@@ -149,12 +146,12 @@ step-answer body at left t =
     let r = item_at t body (cursor at no_fault) in
     step_of r.next.fault r at left t (after-fits (item_of t) body (cursor at no_fault) tt) (item-of t _)) (λ _. tt))
 
-numbered_of : (body : List ℕ) (n : ℕ) (b : Begun) → OfBegun b → OfItem (numbered_in body n b)
+numbered_of : (body : List ℕ) (n : ℕ) (b : Result Walk) → OfBegun b → OfItem (numbered_in body n b)
 unfolding numbered_from
-numbered_of body n (WalkBegun w) h =
+numbered_of body n (Ok w) h =
     branch OfItem (leb w.left n) _ _ (λ _. (omega arith, λ e. omega arith))
     (λ _. step-answer body (after (items_of w.kind n) body (cursor w.at no_fault)).at (w.left - n) w.kind)
-numbered_of body n (WalkRefused why) h = h
+numbered_of body n (Err why) h = h
 
 pub numbered-answer : (body : List ℕ) (n : ℕ) → AreBytes body → OfItem (item_numbered body n)
 unfolding item_numbered
@@ -189,8 +186,8 @@ room_fits body out =
     (λ _. branch OfFault (ltb (length out) (length body)) _ _ (λ _. (omega arith, λ e. omega arith)) (λ _. tt))
 
 put_of : (x : Fault) (body out : List ℕ) → OfFault x → OfBody (body_put x body out).answer
-put_of None body out h = tt
-put_of (Because why) body out h = h
+put_of (Ok u) body out h = tt
+put_of (Err why) body out h = h
 
 pub write-answer : (d : Fields) (l : Lent) (out : List ℕ) → OfBody (body_of_fields d l out).answer
 unfolding body_of_fields
@@ -198,9 +195,9 @@ write-answer d l out =
     put_of (fault_of d l out) (body_given d l) out
     (first_fits (lent_fault d l) (room_fault (body_given d l) out) (lent_fits d l) (room_fits (body_given d l) out))
 
-anew-of : (body out : List ℕ) (p : Parsed) → OfParsed p → OfBody (anew_from body p out).answer
-anew-of body out (Good d) h = write-answer _ _ out
-anew-of body out (Refused why) h = h
+anew-of : (body out : List ℕ) (p : Result Definition) → OfParsed p → OfBody (anew_from body p out).answer
+anew-of body out (Ok d) h = write-answer _ _ out
+anew-of body out (Err why) h = h
 
 pub anew-answer : (body out : List ℕ) → AreBytes body → OfBody (anew_of body out).answer
 unfolding anew_of

@@ -4,11 +4,9 @@ use mathlib.Core.Path.{◌≡◌, ◌∙◌, ap}
 use mathlib.Core.List.{List}
 use lib.IntN.{ℤ}
 use Rattle.wing_node.specs.Writer.{BodyEffect, body_effect}
-use Rattle.wing_node.specs.declared.writer.BodyWritten.{BodyWritten}
 use Rattle.wing_wire.specs.State.{state_of}
 use Rattle.wing_wire.specs.Write.{WriteEffect, write_effect}
 use Rattle.wing_wire.specs.Meter.{RequestEffect, request_effect, PacketEffect, packet_effect}
-use Rattle.wing_wire.specs.declared.write.Written.{Written}
 use Rattle.wing_wire.specs.declared.meter.Requested.{Requested}
 use Rattle.wing_wire.specs.declared.meter.MetersRead.{MetersRead}
 use Rattle.wing_meters.specs.Calls.{RowsEffect, rows_effect}
@@ -29,13 +27,15 @@ use Rattle.wing_c.specs.declared.answers.WingRequested.{WingRequested}
 use Rattle.wing_c.specs.declared.answers.WingMeters.{WingMeters}
 use Rattle.wing_c.specs.declared.answers.WingLoaded.{WingLoaded}
 use Rattle.wing_c.specs.declared.windows.WingFollowed.{WingFollowed}
+use Rattle.wing_node.specs.Result.{Result}
+use Rattle.std.specs.Prelude.{ℕ}
 
 -- a command
-pub command-as : {r : WingWritten} (w : Written) {out : List ℕ} {e : WriteEffect} → r ≡ written_numbers w → write_effect w out ≡ e → command r out ≡ command_of e
+pub command-as : {r : WingWritten} (w : Result ℕ) {out : List ℕ} {e : WriteEffect} → r ≡ written_numbers w → write_effect w out ≡ e → command r out ≡ command_of e
 command-as w {out} p q = ap (λ (x : WingWritten). command x out) p ∙ ap command_of q
 
 -- a definition written
-pub body-as : {r : WingWritten} (w : BodyWritten) {out : List ℕ} {e : BodyEffect} → r ≡ body_numbers w → body_effect w out ≡ e → command r out ≡ body_from e
+pub body-as : {r : WingWritten} (w : Result ℕ) {out : List ℕ} {e : BodyEffect} → r ≡ body_numbers w → body_effect w out ≡ e → command r out ≡ body_from e
 body-as w {out} p q = ap (λ (x : WingWritten). command x out) p ∙ ap body_from q
 
 -- a set through the mirror
@@ -44,12 +44,12 @@ pub set-as : {r : WingSet} (s : SetReply) {out buffer : List ℕ} {e : SetEffect
 set-as s {out} {buffer} p q = ap (λ (x : WingSet). mirror_command x out buffer) p ∙ ap mirror_command_of q
 
 -- a meter request
-pub request-as : {r : WingRequested} (w : Requested) {out : List ℕ} {e : RequestEffect} → r ≡ requested_numbers w → request_effect w out ≡ e →
+pub request-as : {r : WingRequested} (w : Result Requested) {out : List ℕ} {e : RequestEffect} → r ≡ requested_numbers w → request_effect w out ≡ e →
     request r out ≡ request_of e
 request-as w {out} p q = ap (λ (x : WingRequested). request x out) p ∙ ap request_of q
 
 -- a meter packet
-pub packet-as : {r : WingMeters} (w : MetersRead) {out : List ℤ} {e : PacketEffect} → r ≡ meters_numbers w → packet_effect w out ≡ e → packet r out ≡ packet_from e
+pub packet-as : {r : WingMeters} (w : Result MetersRead) {out : List ℤ} {e : PacketEffect} → r ≡ meters_numbers w → packet_effect w out ≡ e → packet r out ≡ packet_from e
 packet-as w {out} p q = ap (λ (x : WingMeters). packet x out) p ∙ ap packet_from q
 
 -- a window's readings

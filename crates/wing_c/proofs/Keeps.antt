@@ -13,8 +13,7 @@ use borrow.Rule.Slice.PartMut.{put_mid}
 use lib.Dec.{leb}
 use lib.ListN.{length, take, drop, length-drop, take-append-drop, drop_of_length-le}
 use lib.Seq.{take_all, drop_at, length-take-le}
-use Rattle.wing_node.specs.Refusal.{alone}
-use Rattle.wing_node.specs.Result.{ok, refused}
+use Rattle.wing_node.specs.Result.{ok, refused, Result}
 use Rattle.wing_node.proofs.Branches.{branch}
 use Rattle.wing_wire.specs.State.{body_limit, state_of, sound_state, fresh_state}
 use Rattle.wing_wire.specs.Range.{AreBytes}
@@ -23,7 +22,6 @@ use Rattle.wing_wire.specs.Write.{WriteEffect, write_effect, write_of}
 use Rattle.wing_wire.specs.declared.state.Control.{Control}
 use Rattle.wing_wire.specs.declared.state.State.{State}
 use Rattle.wing_wire.specs.declared.stream.Advanced.{Advanced}
-use Rattle.wing_wire.specs.declared.write.Written.{Written}
 use Rattle.wing_wire.proofs.Laws.{decoder-laws}
 use Rattle.wing_wire.proofs.Reading.Ranges.{bytes_drop}
 use Rattle.wing_wire.proofs.Reading.Sound.{sound-next}
@@ -46,9 +44,11 @@ use Rattle.wing_c.specs.Kept.{state_in, kept_feed, state_after, read_after, feed
 use Rattle.wing_c.specs.declared.answers.WingFed.{WingFed}
 use Rattle.wing_c.specs.declared.answers.WingEvent.{WingEvent}
 use Rattle.wing_c.proofs.Effects.{feed-as}
+use Rattle.wing_node.specs.declared.refusal.Refusal.TheVariants.{StateUnsound}
+use Rattle.std.specs.Prelude.{ℕ}
 
 -- a sound state's bytes fill those of another
-saves : (s : State) (out : List ℕ) {w : Written} {kept : List ℕ} → Typed s → sound_state s ≡ true → length out ≡ saved_size →
+saves : (s : State) (out : List ℕ) {w : (Result ℕ)} {kept : List ℕ} → Typed s → sound_state s ≡ true → length out ≡ saved_size →
     write_effect w kept ≡ save_of s out → Saves kept s
 saves s out {w} {kept} t g l e =
     record { typed = t; sound = g; laid = sym (ap (λ (x : WriteEffect). x.out) (e ∙ saved-laws.kept s out g t.range.store.size l)) }
@@ -59,11 +59,11 @@ unfolding fresh_state
 fresh-typed = record { range = decoder-laws.sound.fresh_in; count = tt }
 
 -- and its bytes read as it
-pub fresh-reads : (out : List ℕ) {w : Written} {kept : List ℕ} → write_effect w kept ≡ save_of fresh_state out → length out ≡ saved_size → state_from kept ≡ ok fresh_state
+pub fresh-reads : (out : List ℕ) {w : (Result ℕ)} {kept : List ℕ} → write_effect w kept ≡ save_of fresh_state out → length out ≡ saved_size → state_from kept ≡ ok fresh_state
 fresh-reads out {w} {kept} e l = saved-laws.back kept fresh_state (saves fresh_state out fresh-typed decoder-laws.sound.fresh l e)
 
 -- what bytes of version 1 are carried over as, written, reads as it
-pub carried-reads : (earlier : List ℕ) (t : State) → AreBytes earlier → carried_from (earlier_from earlier) ≡ ok t → (out : List ℕ) {w : Written} {kept : List ℕ} →
+pub carried-reads : (earlier : List ℕ) (t : State) → AreBytes earlier → carried_from (earlier_from earlier) ≡ ok t → (out : List ℕ) {w : (Result ℕ)} {kept : List ℕ} →
     write_effect w kept ≡ save_of t out → length out ≡ saved_size → state_from kept ≡ ok t
 carried-reads earlier t are o out {w} {kept} e l =
     let k = earlier-laws.again earlier t are o in
@@ -92,7 +92,7 @@ pub kept-typed : (c : Control) (vs : List Val) → Is (row controls.the_type) c 
 kept-typed c vs r state are l = parts_typed c vs r (bytes_drop 27 state are) (length-drop 27 state ∙ omega arith)
 
 -- the fields of a control laid before the store
-pub head-laid : (c : Control) (state : List ℕ) {w : Written} {kept : List ℕ} → length state ≡ saved_size → write_effect w kept ≡ write_of (head_bytes c) state →
+pub head-laid : (c : Control) (state : List ℕ) {w : (Result ℕ)} {kept : List ℕ} → length state ≡ saved_size → write_effect w kept ≡ write_of (head_bytes c) state →
     state_bytes (state_in c state) ≡ kept
 unfolding write_of state_bytes
 head-laid c state l e =
@@ -109,7 +109,7 @@ pub head-sound : (state : List ℕ) (c : Control) → HeadOf state c → sound_s
 unfolding sound_only
 head-sound state c h e = h.state ∙ rw e refl
 
-pub head-unsound : (state : List ℕ) (c : Control) → HeadOf state c → sound_state (state_in c state) ≡ false → state_from state ≡ refused (alone 8)
+pub head-unsound : (state : List ℕ) (c : Control) → HeadOf state c → sound_state (state_in c state) ≡ false → state_from state ≡ refused StateUnsound
 unfolding sound_only
 head-unsound state c h e = h.state ∙ rw e refl
 

@@ -7,8 +7,6 @@ use lib.Dec.{eqb, leb}
 use lib.IntN.{ℤ}
 use lib.ListN.{length}
 use Rattle.wing_node.specs.Value.{NodeValue}
-use Rattle.wing_node.specs.declared.refusal.Fault.{Fault}
-use Rattle.wing_node.specs.declared.refusal.Fault.TheVariants.{None, Refused as Because}
 use Rattle.wing_node.proofs.Branches.{branch}
 use Rattle.wing_wire.specs.State.{fresh_state}
 use Rattle.wing_mirror.specs.Rows.{Found, found, nothing}
@@ -23,6 +21,8 @@ use Rattle.wing_listing.specs.Reading.{Reading, good, bad, is_line, above, after
 use Rattle.wing_listing.specs.Calls.{LoadEffect, load_entries, load_read, load_of}
 use Rattle.wing_c.specs.Meanings.{OfRefusal, OfLoaded}
 use Rattle.wing_c.proofs.Answered.{OfFault}
+use Rattle.wing_node.specs.Refusal.{Fault}
+use Rattle.std.specs.Prelude.{Ok, Err}
 
 -- ---- what is wrong with a line
 
@@ -52,8 +52,8 @@ after-reading e (good es) h = tt
 after-reading e (bad why line) h = h
 
 unless-reading : (x : Fault) (n : ℕ) (r : Reading) → OfFault x → OfReading r → OfReading (unless_bad x n r)
-unless-reading None n r g h = h
-unless-reading (Because why) n r g h = g
+unless-reading (Ok u) n r g h = h
+unless-reading (Err why) n r g h = g
 
 lines-reading : (n : ℕ) (before : Found ℤ) (ls : List (List ℕ)) → OfReading (lines_from n before ls)
 unfolding lines_from

@@ -12,14 +12,8 @@ use Rattle.wing_node.specs.declared.refusal.Refusal.TheVariants.{Number, StringN
 use Rattle.wing_node.proofs.Numerals.Signs.{signed-unsigned}
 use Rattle.wing_node.specs.declared.value.Value.{Value}
 use Rattle.wing_node.specs.declared.value.Value.TheVariants.{Integer, Float, String}
-use Rattle.wing_node.specs.declared.writer.BodyWritten.{BodyWritten}
-use Rattle.wing_node.specs.declared.writer.BodyWritten.TheVariants.{Bytes as BodyBytes, Refused as BodyRefused}
-use Rattle.wing_wire.specs.declared.write.Written.{Written}
-use Rattle.wing_wire.specs.declared.write.Written.TheVariants.{Bytes, Refused}
 use Rattle.wing_wire.specs.declared.meter.Requested.{Requested}
-use Rattle.wing_wire.specs.declared.meter.Requested.TheVariants.{Bytes as RequestWritten, Refused as RequestRefused}
 use Rattle.wing_wire.specs.declared.meter.MetersRead.{MetersRead}
-use Rattle.wing_wire.specs.declared.meter.MetersRead.TheVariants.{Readings, Refused as ReadRefused}
 use Rattle.wing_wire.specs.declared.unit.Answer.{Answer}
 use Rattle.wing_wire.specs.declared.unit.Answer.TheVariants.{More, Integer as IntegerAt, Float as FloatAt, String as StringAt, Body, End, Refused as NextRefused}
 use Rattle.wing_mirror.specs.declared.answer.Counts.{Counts}
@@ -47,6 +41,8 @@ use Rattle.wing_c.specs.Meanings.{OfRefusal, OfWritten, OfBody, OfFeed, OfLookup
 use Rattle.wing_c.proofs.Listed.{load_told}
 use Rattle.wing_c.proofs.Read.{next-told}
 use Rattle.wing_c.proofs.Sent.{order-told, set_told}
+use Rattle.wing_node.specs.Result.{Result}
+use Rattle.std.specs.Prelude.{ℕ, Ok, Err}
 
 -- a refusal's status is below 0, and its number without the sign is the refusal's
 pub below : (n : ℕ) → 1 ≤ n → minus n ≡ negsuc (n - 1)
@@ -64,24 +60,24 @@ both refused taken (Number n) (two, five) =
 both refused taken (StringNotUtf8 g) h = refl
 both refused taken (DefinitionNotUtf8 g) h = refl
 
-written : (w : Written) → OfWritten w → written_in (written_numbers w) ≡ w
+written : (w : Result ℕ) → OfWritten w → written_in (written_numbers w) ≡ w
 unfolding written_in
-written (Bytes n) h = refl
-written (Refused why) h = both Refused _ why h
+written (Ok n) h = refl
+written (Err why) h = both Err _ why h
 
-pub body : (w : BodyWritten) → OfBody w → body_in (body_numbers w) ≡ w
+pub body : (w : Result ℕ) → OfBody w → body_in (body_numbers w) ≡ w
 unfolding body_in
-body (BodyBytes n) h = refl
-body (BodyRefused why) h = both BodyRefused _ why h
+body (Ok n) h = refl
+body (Err why) h = both Err _ why h
 
-set : (w : Written) (count : ℕ) → OfWritten w → set_in (set_numbers w count) ≡ w
+set : (w : Result ℕ) (count : ℕ) → OfWritten w → set_in (set_numbers w count) ≡ w
 unfolding set_in
-set (Bytes n) count h = refl
-set (Refused why) count h = both Refused _ why h
+set (Ok n) count h = refl
+set (Err why) count h = both Err _ why h
 
-set_beside : (w : Written) (count : ℕ) → (set_numbers w count).count ≡ count
-set_beside (Bytes n) count = refl
-set_beside (Refused why) count = refl
+set_beside : (w : Result ℕ) (count : ℕ) → (set_numbers w count).count ≡ count
+set_beside (Ok n) count = refl
+set_beside (Err why) count = refl
 
 feed : (a : FeedAnswer) (c : Counts) (count : ℕ) → OfFeed a → feed_answer_in (fed_numbers (feed_status a) c count) ≡ a
 unfolding feed_answer_in
@@ -148,15 +144,15 @@ next_beside (Body n) node taken = record { node = refl; taken = refl }
 next_beside End node taken = record { node = refl; taken = refl }
 next_beside (NextRefused why) node taken = record { node = refl; taken = refl }
 
-requested : (r : Requested) → OfRequested r → requested_in (requested_numbers r) ≡ r
+requested : (r : Result Requested) → OfRequested r → requested_in (requested_numbers r) ≡ r
 unfolding requested_in
-requested (RequestWritten n id) h = refl
-requested (RequestRefused n) h = rw (below n h) (ap RequestRefused (again n h))
+requested (Ok (record { len = n; id = id })) h = refl
+requested (Err n) h = rw (below n h) (ap Err (again n h))
 
-meters : (m : MetersRead) → OfMeters m → meters_in (meters_numbers m) ≡ m
+meters : (m : Result MetersRead) → OfMeters m → meters_in (meters_numbers m) ≡ m
 unfolding meters_in
-meters (Readings id n) h = refl
-meters (ReadRefused n) h = rw (below n h) (ap ReadRefused (again n h))
+meters (Ok (record { id = id; count = n })) h = refl
+meters (Err n) h = rw (below n h) (ap Err (again n h))
 
 load : (a : Loaded) → OfLoaded a → loaded_in (loaded_numbers a) ≡ a
 unfolding loaded_in

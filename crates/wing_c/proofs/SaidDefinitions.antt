@@ -9,7 +9,7 @@ use lib.IntN.{pos}
 use lib.ListN.{length}
 use borrow.Author.Tests.{eqb-true}
 use Rattle.wing_node.specs.Bool.{or}
-use Rattle.wing_node.specs.Refusal.{no_fault}
+use Rattle.wing_node.specs.Refusal.{no_fault, Fault}
 use Rattle.wing_node.specs.Result.{Result, ok, refused}
 use Rattle.wing_node.specs.Answers.{DefinitionValues, parsed_result}
 use Rattle.wing_node.specs.Standing.{extent}
@@ -31,13 +31,7 @@ use Rattle.wing_node.specs.declared.definition.Details.{Details}
 use Rattle.wing_node.specs.declared.definition.Item.{Item}
 use Rattle.wing_node.specs.declared.definition.Item.TheVariants.{None as NoItem, Strings, Float, Refused as ItemRefused}
 use Rattle.wing_node.specs.declared.definition.Definition.{Definition}
-use Rattle.wing_node.specs.declared.definition.Parsed.{Parsed}
-use Rattle.wing_node.specs.declared.definition.Parsed.TheVariants.{Good, Refused}
-use Rattle.wing_node.specs.declared.refusal.Fault.{Fault}
-use Rattle.wing_node.specs.declared.refusal.Fault.TheVariants.{None as NoFault, Refused as Because}
 use Rattle.wing_node.specs.declared.items.Walk.{Walk}
-use Rattle.wing_node.specs.declared.items.Begun.{Begun}
-use Rattle.wing_node.specs.declared.items.Begun.TheVariants.{Good as WalkBegun, Refused as WalkRefused}
 use Rattle.wing_node.specs.declared.items.Step.{Step}
 use Rattle.wing_c.specs.declared.writer.WingFields.{WingFields}
 use Rattle.wing_c.specs.Definitions.{detail_numbers, taken_numbers, definition_numbers, walk_numbers, begun_numbers, item_numbers, step_numbers, fields_given}
@@ -45,6 +39,7 @@ use Rattle.wing_c.specs.DefinitionMeanings.{details_in, definition_in, fields_re
 use Rattle.wing_c.specs.DefinitionMeanings.OfType.{node, linear, logarithmic, fader, integers, strings, floats, text}
 use Rattle.wing_c.proofs.Said.{both, body as body-said}
 use Rattle.wing_c.proofs.Answered.{parsed-answer, begun-answer, step-answer, numbered-answer, write-answer, anew-answer}
+use Rattle.std.specs.Prelude.{Ok, Err}
 
 types : (t : NodeType) → type_of (type_number t) ≡ t
 unfolding type_of
@@ -80,19 +75,19 @@ details d t x e strings = rw e
 details d t x e floats = rw e
 details d t x e text = rw e
 
-parsed : (p : Parsed) → OfParsed p → parsed_in (definition_numbers p) ≡ p
+parsed : (p : Result Definition) → OfParsed p → parsed_in (definition_numbers p) ≡ p
 unfolding parsed_in definition_in
-parsed (Good d) h = rw (types d.node_type, units d.unit, details d d.node_type d.details refl h)
-parsed (Refused why) h = both Refused _ why h
+parsed (Ok d) h = rw (types d.node_type, units d.unit, details d d.node_type d.details refl h)
+parsed (Err why) h = both Err _ why h
 
 walk : (w : Walk) → walk_in (walk_numbers w) ≡ w
 unfolding walk_in
 walk w = rw (types w.kind)
 
-begun : (b : Begun) → OfBegun b → begun_in (begun_numbers b) ≡ b
+begun : (b : Result Walk) → OfBegun b → begun_in (begun_numbers b) ≡ b
 unfolding begun_in
-begun (WalkBegun w) h = ap WalkBegun (walk w)
-begun (WalkRefused why) h = both WalkRefused _ why h
+begun (Ok w) h = ap Ok (walk w)
+begun (Err why) h = both Err _ why h
 
 item : (i : Item) → OfItem i → item_in (item_numbers i) ≡ i
 unfolding item_in item_kind_in
@@ -118,7 +113,7 @@ given d t x l out k e strings = simp (k, e) refl
 given d t x l out k e floats = simp (k, e) refl
 given d t x l out k e text = simp (k, e) refl
 
-given-anew : (body out : List ℕ) (d : Definition) → definition_of body ≡ Good d → OfParsed (definition_of body) →
+given-anew : (body out : List ℕ) (d : Definition) → definition_of body ≡ Ok d → OfParsed (definition_of body) →
     body_of_fields (fields_given (fields_read (taken_numbers d))) (lent_from body d) out ≡ anew_of body out
 unfolding anew_of
 given-anew body out d e h = rw e (given d d.node_type d.details (lent_from body d) out refl refl (rw e at h))
@@ -156,13 +151,13 @@ values_in other (ok v) = v
 values_in other (refused why) = other
 
 -- a body that says these values has their numbers
-numbers-back : (body : List ℕ) (p : Parsed) (v : DefinitionValues) → parsed_result body p ≡ ok v → ((definition_numbers p).status ≡ pos 0) × (fields_read (definition_numbers p) ≡ numbers_of v)
-numbers-back body (Good d) v e = (refl, ap (λ (r : Result DefinitionValues). numbers_of (values_in v r)) e)
-numbers-back body (Refused why) v e = absurd (let z : ◌≡◌ {A = ℕ} 0 1 = cc in omega arith)
+numbers-back : (body : List ℕ) (p : Result Definition) (v : DefinitionValues) → parsed_result body p ≡ ok v → ((definition_numbers p).status ≡ pos 0) × (fields_read (definition_numbers p) ≡ numbers_of v)
+numbers-back body (Ok d) v e = (refl, ap (λ (r : Result DefinitionValues). numbers_of (values_in v r)) e)
+numbers-back body (Err why) v e = absurd (let z : ◌≡◌ {A = ℕ} 0 1 = cc in omega arith)
 
 no-fault : (x : Fault) (b body : List ℕ) → given_by x b ≡ ok body → x ≡ no_fault
-no-fault NoFault b body e = refl
-no-fault (Because why) b body e = absurd (let z : ◌≡◌ {A = ℕ} 0 1 = cc in omega arith)
+no-fault (Ok u) b body e = refl
+no-fault (Err why) b body e = absurd (let z : ◌≡◌ {A = ℕ} 0 1 = cc in omega arith)
 
 module _ (f : WingFields) (l : Lent) (w : TypedFields f) where
   in-width : InWidth (fields_given f)

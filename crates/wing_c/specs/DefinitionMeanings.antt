@@ -1,8 +1,8 @@
 -- What the numbers of definitions and items mean, by the header's words, and that each of them is the meaning of its numbers.
-use Rattle.std.specs.Prelude.{ℕ, ◌^◌, ◌<◌, false, ◌≡◌, List, eqb, ℤ, pos}
+use Rattle.std.specs.Prelude.{ℕ, ◌^◌, ◌<◌, false, ◌≡◌, List, eqb, ℤ, pos, Ok, Err}
 use Rattle.wing_node.specs.Bool.{if}
 use Rattle.wing_node.specs.Refusal.{good_beside}
-use Rattle.wing_node.specs.Result.{ok}
+use Rattle.wing_node.specs.Result.{ok, Result}
 use Rattle.wing_node.specs.Signed.{signed, InBits}
 use Rattle.wing_node.specs.Types.{type_of, unit_of}
 use Rattle.wing_node.specs.Definition.{definition_of}
@@ -20,11 +20,7 @@ use Rattle.wing_node.specs.declared.definition.Details.TheVariants.{None, Floats
 use Rattle.wing_node.specs.declared.definition.Item.{Item}
 use Rattle.wing_node.specs.declared.definition.Item.TheVariants.{None as NoItem, Strings, Float, Refused as ItemRefused}
 use Rattle.wing_node.specs.declared.definition.Definition.{Definition}
-use Rattle.wing_node.specs.declared.definition.Parsed.{Parsed}
-use Rattle.wing_node.specs.declared.definition.Parsed.TheVariants.{Good, Refused}
 use Rattle.wing_node.specs.declared.items.Walk.{Walk}
-use Rattle.wing_node.specs.declared.items.Begun.{Begun}
-use Rattle.wing_node.specs.declared.items.Begun.TheVariants.{Good as WalkBegun, Refused as WalkRefused}
 use Rattle.wing_node.specs.declared.items.Step.{Step}
 use Rattle.wing_node.specs.declared.writer.Fields.{Fields}
 use Rattle.wing_c.specs.Numbers.{body_numbers}
@@ -70,8 +66,8 @@ definition_in r =
     }
 
 -- the definition in a body, or a refusal
-unfoldable pub parsed_in : WingDefinition → Parsed
-parsed_in r = by_status_and_good r.status r.good Refused (λ _. Good (definition_in r))
+unfoldable pub parsed_in : WingDefinition → Result Definition
+parsed_in r = by_status_and_good r.status r.good Err (λ _. Ok (definition_in r))
 
 -- a definition that was read as one to be written: the fields of the same names
 abbrev pub fields_read : WingDefinition → WingFields
@@ -124,8 +120,8 @@ unfoldable pub walk_in : WingWalk → Walk
 walk_in r = record { at = r.at; left = r.left; kind = type_of r.node_type }
 
 -- a walk at the first item, or a refusal
-unfoldable pub begun_in : WingWalk → Begun
-begun_in r = by_status_and_good r.status r.good WalkRefused (λ _. WalkBegun (walk_in r))
+unfoldable pub begun_in : WingWalk → Result Walk
+begun_in r = by_status_and_good r.status r.good Err (λ _. Ok (walk_in r))
 
 -- an item by its kind: 0 two strings, 1 float bits and a string
 unfoldable pub item_kind_in : WingItem → Item
@@ -166,14 +162,14 @@ pub record TypedFields (f : WingFields) : Type 0 where
   pub steps : InBits 31 f.steps
 
 -- of the parser
-abbrev pub OfParsed : Parsed → Type 0
-OfParsed (Good d) = OfType d.node_type d.details
-OfParsed (Refused why) = OfRefusal why
+abbrev pub OfParsed : Result Definition → Type 0
+OfParsed (Ok d) = OfType d.node_type d.details
+OfParsed (Err why) = OfRefusal why
 
 -- of the beginning of a walk
-abbrev pub OfBegun : Begun → Type 0
-OfBegun (WalkBegun w) = Unit {0}
-OfBegun (WalkRefused why) = OfRefusal why
+abbrev pub OfBegun : Result Walk → Type 0
+OfBegun (Ok w) = Unit {0}
+OfBegun (Err why) = OfRefusal why
 
 -- of an item
 abbrev pub OfItem : Item → Type 0
@@ -186,35 +182,35 @@ OfItem (ItemRefused why) = OfRefusal why
 
 -- 02: beside a refusal stands its good: of 5 that of the string, 0 of every other
 pub record GoodBeside (why : Refusal) : Type 0 where
-  pub definition : (definition_numbers (Refused why)).good ≡ good_beside why
-  pub walk : (begun_numbers (WalkRefused why)).good ≡ good_beside why
+  pub definition : (definition_numbers (Err why)).good ≡ good_beside why
+  pub walk : (begun_numbers (Err why)).good ≡ good_beside why
   pub item : (item_numbers (ItemRefused why)).good ≡ good_beside why
 
 -- where the status is a refusal, all other fields are 0, but for the good of 5
 pub record RefusedZero (why : Refusal) : Type 0 where
-  pub definition : let r = definition_numbers (Refused why) in
+  pub definition : let r = definition_numbers (Err why) in
       (r.parent_id ≡ pos 0) × (r.id ≡ pos 0) × (r.index ≡ 0) × (r.node_type ≡ 0) × (r.unit ≡ 0) × (r.read_only ≡ false) ×
       (r.name_len ≡ 0) × (r.long_name_len ≡ 0) × (r.name_start ≡ 0) × (r.long_name_start ≡ 0)
-  pub details : let r = definition_numbers (Refused why) in
+  pub details : let r = definition_numbers (Err why) in
       (r.count ≡ 0) × (r.max_len ≡ 0) × (r.min ≡ 0) × (r.max ≡ 0) × (r.steps ≡ pos 0) × (r.first_item ≡ 0)
-  pub walk : let r = begun_numbers (WalkRefused why) in (r.at ≡ 0) × (r.left ≡ 0) × (r.node_type ≡ 0)
+  pub walk : let r = begun_numbers (Err why) in (r.at ≡ 0) × (r.left ≡ 0) × (r.node_type ≡ 0)
   pub item : let r = item_numbers (ItemRefused why) in
       (r.kind ≡ 0) × (r.bits ≡ 0) × (r.len ≡ 0) × (r.long_len ≡ 0) × (r.start ≡ 0) × (r.long_start ≡ 0)
 
 -- what a type has not is 0, by the details of a definition that was read, and so is the good; two strings have no bits, a float no short string, a walk under
 -- way no good
 pub record OtherZero : Type 0 where
-  pub read : (d : Definition) → (definition_numbers (Good d)).good ≡ 0
+  pub read : (d : Definition) → (definition_numbers (Ok d)).good ≡ 0
   pub walk : (w : Walk) → (walk_numbers w).good ≡ 0
-  pub none : (d : Definition) → d.details ≡ None → let r = definition_numbers (Good d) in
+  pub none : (d : Definition) → d.details ≡ None → let r = definition_numbers (Ok d) in
       (r.count ≡ 0) × (r.max_len ≡ 0) × (r.min ≡ 0) × (r.max ≡ 0) × (r.steps ≡ pos 0) × (r.first_item ≡ 0)
-  pub floats : (d : Definition) (min max : ℕ) (steps : ℤ) → d.details ≡ Floats min max steps → let r = definition_numbers (Good d) in
+  pub floats : (d : Definition) (min max : ℕ) (steps : ℤ) → d.details ≡ Floats min max steps → let r = definition_numbers (Ok d) in
       (r.count ≡ 0) × (r.max_len ≡ 0) × (r.first_item ≡ 0)
-  pub integers : (d : Definition) (min max : ℤ) → d.details ≡ Integers min max → let r = definition_numbers (Good d) in
+  pub integers : (d : Definition) (min max : ℤ) → d.details ≡ Integers min max → let r = definition_numbers (Ok d) in
       (r.count ≡ 0) × (r.max_len ≡ 0) × (r.steps ≡ pos 0) × (r.first_item ≡ 0)
-  pub items : (d : Definition) (count first : ℕ) → d.details ≡ Items count first → let r = definition_numbers (Good d) in
+  pub items : (d : Definition) (count first : ℕ) → d.details ≡ Items count first → let r = definition_numbers (Ok d) in
       (r.max_len ≡ 0) × (r.min ≡ 0) × (r.max ≡ 0) × (r.steps ≡ pos 0)
-  pub text : (d : Definition) (n : ℕ) → d.details ≡ MaxLen n → let r = definition_numbers (Good d) in
+  pub text : (d : Definition) (n : ℕ) → d.details ≡ MaxLen n → let r = definition_numbers (Ok d) in
       (r.count ≡ 0) × (r.min ≡ 0) × (r.max ≡ 0) × (r.steps ≡ pos 0) × (r.first_item ≡ 0)
   pub strings_item : (a b : Span) → let r = item_numbers (Strings a b) in (r.good ≡ 0) × (r.bits ≡ 0)
   pub float_item : (bits : ℕ) (b : Span) → let r = item_numbers (Float bits b) in (r.good ≡ 0) × (r.len ≡ 0) × (r.start ≡ 0)
@@ -223,9 +219,9 @@ pub record OtherZero : Type 0 where
 
 -- every definition, item and walk is what its numbers mean
 pub record DefinitionsSay : Type 0 where
-  pub parsed : (p : Parsed) → OfParsed p → parsed_in (definition_numbers p) ≡ p
+  pub parsed : (p : Result Definition) → OfParsed p → parsed_in (definition_numbers p) ≡ p
   pub walk : (w : Walk) → walk_in (walk_numbers w) ≡ w
-  pub begun : (b : Begun) → OfBegun b → begun_in (begun_numbers b) ≡ b
+  pub begun : (b : Result Walk) → OfBegun b → begun_in (begun_numbers b) ≡ b
   pub item : (i : Item) → OfItem i → item_in (item_numbers i) ≡ i
   pub step : (s : Step) → OfItem s.item → step_in (step_numbers s) ≡ s
   -- what the calls over a body answer is read back from their numbers, whatever its bytes are
@@ -237,7 +233,7 @@ pub record DefinitionsSay : Type 0 where
   pub write_call : (d : Fields) (l : Lent) (out : List ℕ) → let w = (body_of_fields d l out).answer in body_in (body_numbers w) ≡ w
   pub anew_call : (body out : List ℕ) → AreBytes body → let w = (anew_of body out).answer in body_in (body_numbers w) ≡ w
   -- the fields that were read of a body, given with its names and items, are written as the body is anew: a limit's 32 bits serve both ways
-  pub given_back : (body out : List ℕ) (d : Definition) → AreBytes body → definition_of body ≡ Good d →
+  pub given_back : (body out : List ℕ) (d : Definition) → AreBytes body → definition_of body ≡ Ok d →
       body_of_fields (fields_given (fields_read (taken_numbers d))) (lent_from body d) out ≡ anew_of body out
   -- 02: what is written of numbers reads back as the same numbers, type, unit and count too, those that the type lacks left out
   pub written_back : (f : WingFields) (l : Lent) (out body : List ℕ) → TypedFields f → gives (body_of_fields (fields_given f) l out) ≡ ok body →

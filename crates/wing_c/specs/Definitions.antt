@@ -1,5 +1,5 @@
 -- Definitions and items by numbers. A string is told by its place in the body.
-use Rattle.std.specs.Prelude.{ℕ, false, ℤ, pos}
+use Rattle.std.specs.Prelude.{ℕ, false, ℤ, pos, Ok, Err}
 use Rattle.wing_node.specs.Signed.{signed, unsigned}
 use Rattle.wing_node.specs.Types.{type_number, unit_number}
 use Rattle.wing_node.specs.declared.refusal.Refusal.{Refusal}
@@ -8,11 +8,7 @@ use Rattle.wing_node.specs.declared.definition.Details.TheVariants.{None, Floats
 use Rattle.wing_node.specs.declared.definition.Item.{Item}
 use Rattle.wing_node.specs.declared.definition.Item.TheVariants.{None as NoItem, Strings, Float, Refused as ItemRefused}
 use Rattle.wing_node.specs.declared.definition.Definition.{Definition}
-use Rattle.wing_node.specs.declared.definition.Parsed.{Parsed}
-use Rattle.wing_node.specs.declared.definition.Parsed.TheVariants.{Good, Refused}
 use Rattle.wing_node.specs.declared.items.Walk.{Walk}
-use Rattle.wing_node.specs.declared.items.Begun.{Begun}
-use Rattle.wing_node.specs.declared.items.Begun.TheVariants.{Good as WalkBegun, Refused as WalkRefused}
 use Rattle.wing_node.specs.declared.items.Step.{Step}
 use Rattle.wing_node.specs.declared.writer.Fields.{Fields}
 use Rattle.wing_c.specs.Numbers.{sent_back, no_refusal}
@@ -23,6 +19,7 @@ use Rattle.wing_c.specs.declared.definitions.WingItem.{WingItem}
 use Rattle.wing_c.specs.declared.definitions.WingStep.{WingStep}
 use Rattle.wing_c.specs.declared.definitions.DetailFields.{DetailFields}
 use Rattle.wing_c.specs.declared.writer.WingFields.{WingFields}
+use Rattle.wing_node.specs.Result.{Result}
 
 -- what types 1, 2 and 4 add
 abbrev pub limits_as : ℕ → ℕ → ℤ → DetailFields
@@ -90,9 +87,9 @@ refused_numbers why =
     }
 
 -- the definition in a body
-abbrev pub definition_numbers : Parsed → WingDefinition
-definition_numbers (Good d) = taken_numbers d
-definition_numbers (Refused why) = refused_numbers why
+abbrev pub definition_numbers : Result Definition → WingDefinition
+definition_numbers (Ok d) = taken_numbers d
+definition_numbers (Err why) = refused_numbers why
 
 -- a walk: the place reached, the items left, the type
 abbrev pub walk_as : Outcome → ℕ → ℕ → ℕ → WingWalk
@@ -103,9 +100,9 @@ abbrev pub walk_numbers : Walk → WingWalk
 walk_numbers w = walk_as no_refusal w.at w.left (type_number w.kind)
 
 -- a walk at the first item, or the parser's 4 or 5
-abbrev pub begun_numbers : Begun → WingWalk
-begun_numbers (WalkBegun w) = walk_numbers w
-begun_numbers (WalkRefused why) = walk_as (sent_back why) 0 0 0
+abbrev pub begun_numbers : Result Walk → WingWalk
+begun_numbers (Ok w) = walk_numbers w
+begun_numbers (Err why) = walk_as (sent_back why) 0 0 0
 
 -- no item: 0 for none, or a refusal
 abbrev pub no_item : Outcome → WingItem

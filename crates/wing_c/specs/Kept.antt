@@ -1,7 +1,7 @@
 -- A decoder state kept as bytes: what a feed, a next call and a check make of it.
-use Rattle.std.specs.Prelude.{ℕ, List, [], leb, ℤ, pos, length, drop}
+use Rattle.std.specs.Prelude.{ℕ, List, [], leb, ℤ, pos, length, drop, Err}
 use Rattle.wing_node.specs.Bool.{if}
-use Rattle.wing_node.specs.Refusal.{refusal_number, alone}
+use Rattle.wing_node.specs.Refusal.{refusal_number}
 use Rattle.wing_node.specs.Result.{Result, ok, refused}
 use Rattle.wing_node.specs.Value.{NodeValue, integer, float, string}
 use Rattle.wing_node.specs.declared.refusal.Refusal.{Refusal}
@@ -14,7 +14,6 @@ use Rattle.wing_wire.specs.declared.reader.Reply.{Reply}
 use Rattle.wing_wire.specs.declared.unit.Answer.{Answer}
 use Rattle.wing_wire.specs.declared.unit.Answer.TheVariants.{More, Integer, Float, String, Body, End, Refused as NextRefused}
 use Rattle.wing_wire.specs.Write.{WriteEffect, write_effect}
-use Rattle.wing_wire.specs.declared.write.Written.TheVariants.{Refused as NotWritten}
 use Rattle.wing_saved.specs.Saved.{state_bytes, state_from, save_of}
 use Rattle.wing_mirror.specs.Rows.{Table}
 use Rattle.wing_mirror.specs.Record.{full}
@@ -25,6 +24,7 @@ use Rattle.wing_mirror.specs.declared.answer.FeedAnswer.TheVariants.{Taken, Refu
 use Rattle.wing_c.specs.Numbers.{minus, sent_back, feed_status, fed_numbers, no_event, event_numbers}
 use Rattle.wing_c.specs.declared.answers.WingFed.{WingFed}
 use Rattle.wing_c.specs.declared.answers.WingEvent.{WingEvent}
+use Rattle.wing_node.specs.declared.refusal.Refusal.TheVariants.{NumberOver, OutputShort}
 
 -- 0 for the bytes of a sound state, else 8
 abbrev pub state_status : Result State → ℤ
@@ -40,7 +40,7 @@ state_in c state = state_of c (drop 27 state)
 -- the bytes of what it is carried over as, or 9; where it is not carried over, its refusal, and the output as it was
 unfoldable pub carried_kept : Result State → List ℕ → WriteEffect
 carried_kept (ok s) out = save_of s out
-carried_kept (refused why) out = write_effect (NotWritten why) out
+carried_kept (refused why) out = write_effect (Err why) out
 
 -- what an output of a state's size reads as then: the state carried over, else what it read as before
 unfoldable pub state_carried : Result State → Result State → Result State
@@ -154,8 +154,8 @@ next_refused why node state out = kept_next (no_event (sent_back why) node 0) st
 unfoldable pub next_sound : State → List ℕ → List ℕ → List ℕ → KeptNext
 next_sound s state bytes out =
     if (leb (length bytes) 65536)
-    (if (leb body_limit (length out)) (next_replied (next_of s bytes) (next_event s bytes) out) (next_refused (alone 9) s.control.node state out))
-    (next_refused (alone 14) s.control.node state out)
+    (if (leb body_limit (length out)) (next_replied (next_of s bytes) (next_event s bytes) out) (next_refused OutputShort s.control.node state out))
+    (next_refused NumberOver s.control.node state out)
 
 -- 8 for bytes that are no sound state's
 unfoldable pub next_with : Result State → List ℕ → List ℕ → List ℕ → KeptNext

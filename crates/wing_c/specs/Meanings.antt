@@ -1,5 +1,5 @@
 -- What the numbers mean, by the header's words, and that every answer is the meaning of its numbers: none is dropped and no two are alike.
-use Rattle.std.specs.Prelude.{ℕ, suc, ◌≤◌, ◌≡◌, List, eqb, ℤ, pos, negsuc}
+use Rattle.std.specs.Prelude.{ℕ, suc, ◌≤◌, ◌≡◌, List, eqb, ℤ, pos, negsuc, Ok, Err}
 use Rattle.wing_node.specs.Bool.{if}
 use Rattle.wing_node.specs.Refusal.{good_beside}
 use Rattle.wing_node.specs.Signed.{signed, InBits}
@@ -16,14 +16,8 @@ use Rattle.wing_node.specs.declared.refusal.Refusal.{Refusal}
 use Rattle.wing_node.specs.declared.refusal.Refusal.TheVariants.{Number, StringNotUtf8, DefinitionNotUtf8}
 use Rattle.wing_node.specs.declared.value.Value.{Value}
 use Rattle.wing_node.specs.declared.value.Value.TheVariants.{Integer, Float, String}
-use Rattle.wing_node.specs.declared.writer.BodyWritten.{BodyWritten}
-use Rattle.wing_node.specs.declared.writer.BodyWritten.TheVariants.{Bytes as BodyBytes, Refused as BodyRefused}
-use Rattle.wing_wire.specs.declared.write.Written.{Written}
-use Rattle.wing_wire.specs.declared.write.Written.TheVariants.{Bytes, Refused}
 use Rattle.wing_wire.specs.declared.meter.Requested.{Requested}
-use Rattle.wing_wire.specs.declared.meter.Requested.TheVariants.{Bytes as RequestWritten, Refused as RequestRefused}
 use Rattle.wing_wire.specs.declared.meter.MetersRead.{MetersRead}
-use Rattle.wing_wire.specs.declared.meter.MetersRead.TheVariants.{Readings, Refused as ReadRefused}
 use Rattle.wing_wire.specs.declared.unit.Answer.{Answer}
 use Rattle.wing_wire.specs.declared.unit.Answer.TheVariants.{More, Integer as IntegerAt, Float as FloatAt, String as StringAt, Body, End, Refused as NextRefused}
 use Rattle.wing_mirror.specs.declared.answer.Counts.{Counts}
@@ -50,6 +44,7 @@ use Rattle.wing_c.specs.declared.answers.WingEvent.{WingEvent}
 use Rattle.wing_c.specs.declared.answers.WingRequested.{WingRequested}
 use Rattle.wing_c.specs.declared.answers.WingMeters.{WingMeters}
 use Rattle.wing_c.specs.declared.answers.WingLoaded.{WingLoaded}
+use Rattle.wing_node.specs.Result.{Result}
 
 -- ---- what the numbers mean
 
@@ -67,16 +62,16 @@ abbrev pub by_status_and_good : {A : Type 0} → ℤ → ℕ → (Refusal → A)
 by_status_and_good status good refused taken = by_status status (λ n. refused (refusal_in good n)) taken
 
 -- a command or a listing: how many bytes stand at the front of the output
-unfoldable pub written_in : WingWritten → Written
-written_in r = by_status_and_good r.status r.good Refused (λ _. Bytes r.len)
+unfoldable pub written_in : WingWritten → Result ℕ
+written_in r = by_status_and_good r.status r.good Err (λ _. Ok r.len)
 
 -- a definition written: how many bytes stand at the front of the output
-unfoldable pub body_in : WingWritten → BodyWritten
-body_in r = by_status_and_good r.status r.good BodyRefused (λ _. BodyBytes r.len)
+unfoldable pub body_in : WingWritten → Result ℕ
+body_in r = by_status_and_good r.status r.good Err (λ _. Ok r.len)
 
 -- a set: how many bytes of the output to send
-unfoldable pub set_in : WingSet → Written
-set_in r = by_status_and_good r.status r.good Refused (λ _. Bytes r.len)
+unfoldable pub set_in : WingSet → Result ℕ
+set_in r = by_status_and_good r.status r.good Err (λ _. Ok r.len)
 
 -- a feed: taken or refused
 unfoldable pub feed_answer_in : WingFed → FeedAnswer
@@ -126,12 +121,12 @@ unfoldable pub answer_in : WingEvent → Answer
 answer_in r = by_status_and_good r.status r.good NextRefused (λ s. if (eqb s 1) (kind_in r) More)
 
 -- a meter request: how many bytes of the output to send, and the new meter id
-unfoldable pub requested_in : WingRequested → Requested
-requested_in r = by_status r.status RequestRefused (λ _. RequestWritten r.len r.id)
+unfoldable pub requested_in : WingRequested → Result Requested
+requested_in r = by_status r.status Err (λ _. Ok (record { len = r.len; id = r.id }))
 
 -- a meter packet: its meter id, and how many readings stand at the front of the output
-unfoldable pub meters_in : WingMeters → MetersRead
-meters_in r = by_status r.status ReadRefused (λ _. Readings r.id r.count)
+unfoldable pub meters_in : WingMeters → Result MetersRead
+meters_in r = by_status r.status Err (λ _. Ok (record { id = r.id; count = r.count }))
 
 -- a load: how many records the table has now; or a refusal, and the number of the line that it is about
 unfoldable pub loaded_in : WingLoaded → Loaded
@@ -146,14 +141,14 @@ OfRefusal (StringNotUtf8 g) = Unit {0}
 OfRefusal (DefinitionNotUtf8 g) = Unit {0}
 
 -- of a command or a listing
-abbrev pub OfWritten : Written → Type 0
-OfWritten (Bytes n) = Unit {0}
-OfWritten (Refused why) = OfRefusal why
+abbrev pub OfWritten : Result ℕ → Type 0
+OfWritten (Ok n) = Unit {0}
+OfWritten (Err why) = OfRefusal why
 
 -- of a definition written
-abbrev pub OfBody : BodyWritten → Type 0
-OfBody (BodyBytes n) = Unit {0}
-OfBody (BodyRefused why) = OfRefusal why
+abbrev pub OfBody : Result ℕ → Type 0
+OfBody (Ok n) = Unit {0}
+OfBody (Err why) = OfRefusal why
 
 -- of a feed
 abbrev pub OfFeed : FeedAnswer → Type 0
@@ -194,14 +189,14 @@ OfNext End = Unit {0}
 OfNext (NextRefused why) = OfRefusal why
 
 -- of a meter request
-abbrev pub OfRequested : Requested → Type 0
-OfRequested (RequestWritten n id) = Unit {0}
-OfRequested (RequestRefused n) = 1 ≤ n
+abbrev pub OfRequested : Result Requested → Type 0
+OfRequested (Ok (record { len = n; id = id })) = Unit {0}
+OfRequested (Err n) = 1 ≤ n
 
 -- of a meter packet
-abbrev pub OfMeters : MetersRead → Type 0
-OfMeters (Readings id n) = Unit {0}
-OfMeters (ReadRefused n) = 1 ≤ n
+abbrev pub OfMeters : Result MetersRead → Type 0
+OfMeters (Ok (record { id = id; count = n })) = Unit {0}
+OfMeters (Err n) = 1 ≤ n
 
 -- of a load
 abbrev pub OfLoaded : Loaded → Type 0
@@ -222,31 +217,31 @@ pub record NextBeside (a : Answer) (current : ℤ) (used : ℕ) : Type 0 where
 
 -- 02: beside a refusal stands its good: of 1 and 5 that of the string, 0 of every other
 pub record GoodBeside (why : Refusal) : Type 0 where
-  pub written : (written_numbers (Refused why)).good ≡ good_beside why
-  pub body : (body_numbers (BodyRefused why)).good ≡ good_beside why
-  pub set : (count : ℕ) → (set_numbers (Refused why) count).good ≡ good_beside why
+  pub written : (written_numbers (Err why)).good ≡ good_beside why
+  pub body : (body_numbers (Err why)).good ≡ good_beside why
+  pub set : (count : ℕ) → (set_numbers (Err why) count).good ≡ good_beside why
   pub next : (node : ℤ) (taken : ℕ) → (event_numbers (NextRefused why) node taken).good ≡ good_beside why
   pub load : (line : ℕ) → (loaded_numbers (LoadRefused why line)).good ≡ good_beside why
 
 -- where the status is a refusal, all other fields are 0, but for the good of 1 and 5, the count of a set or a feed, a record's bytes, an event's node and
 -- taken, a load's line
 pub record RefusedZero (n : ℕ) (why : Refusal) : Type 0 where
-  pub written : (written_numbers (Refused why)).len ≡ 0
-  pub body : (body_numbers (BodyRefused why)).len ≡ 0
-  pub set : (count : ℕ) → (set_numbers (Refused why) count).len ≡ 0
+  pub written : (written_numbers (Err why)).len ≡ 0
+  pub body : (body_numbers (Err why)).len ≡ 0
+  pub set : (count : ℕ) → (set_numbers (Err why) count).len ≡ 0
   pub lookup : (lookup_numbers (LookupRefused n)).number ≡ 0
   pub read : (s : List ℕ) → let r = record_numbers (RecordRefused n) s in (r.id ≡ pos 0) × (r.value ≡ 0) × (r.len ≡ 0) × (r.kind ≡ 0) × (r.origin ≡ 0)
   pub next : (node : ℤ) (taken : ℕ) → let r = event_numbers (NextRefused why) node taken in (r.value ≡ 0) × (r.len ≡ 0) × (r.kind ≡ 0)
-  pub requested : ((requested_numbers (RequestRefused n)).id ≡ 0) × ((requested_numbers (RequestRefused n)).len ≡ 0)
-  pub meters : ((meters_numbers (ReadRefused n)).id ≡ 0) × ((meters_numbers (ReadRefused n)).count ≡ 0)
+  pub requested : ((requested_numbers (Err n)).id ≡ 0) × ((requested_numbers (Err n)).len ≡ 0)
+  pub meters : ((meters_numbers (Err n)).id ≡ 0) × ((meters_numbers (Err n)).count ≡ 0)
   pub load : (line : ℕ) → (loaded_numbers (LoadRefused why line)).count ≡ 0
 
 -- what a case has not is 0: a call that is taken its good, a lookup of none its number, a number its length, a string or a body its value, an end both, a
 -- load that is taken its line
 pub record OtherZero : Type 0 where
-  pub written : (n : ℕ) → (written_numbers (Bytes n)).good ≡ 0
-  pub body : (n : ℕ) → (body_numbers (BodyBytes n)).good ≡ 0
-  pub set : (n count : ℕ) → (set_numbers (Bytes n) count).good ≡ 0
+  pub written : (n : ℕ) → (written_numbers (Ok n)).good ≡ 0
+  pub body : (n : ℕ) → (body_numbers (Ok n)).good ≡ 0
+  pub set : (n count : ℕ) → (set_numbers (Ok n) count).good ≡ 0
   pub none : (lookup_numbers None).number ≡ 0
   pub integer : (id x : ℤ) (origin : Origin) (s : List ℕ) → (record_numbers (Record id (Integer x) origin) s).len ≡ 0
   pub float : (id : ℤ) (bits : ℕ) (origin : Origin) (s : List ℕ) → (record_numbers (Record id (Float bits) origin) s).len ≡ 0
@@ -261,11 +256,11 @@ pub record OtherZero : Type 0 where
 
 -- every answer is what its numbers mean
 pub record NumbersSay : Type 0 where
-  pub written : (w : Written) → OfWritten w → written_in (written_numbers w) ≡ w
-  pub body : (w : BodyWritten) → OfBody w → body_in (body_numbers w) ≡ w
-  pub set : (w : Written) (count : ℕ) → OfWritten w → set_in (set_numbers w count) ≡ w
+  pub written : (w : Result ℕ) → OfWritten w → written_in (written_numbers w) ≡ w
+  pub body : (w : Result ℕ) → OfBody w → body_in (body_numbers w) ≡ w
+  pub set : (w : Result ℕ) (count : ℕ) → OfWritten w → set_in (set_numbers w count) ≡ w
   -- whatever a set answers, the records there are stand beside it
-  pub set_beside : (w : Written) (count : ℕ) → (set_numbers w count).count ≡ count
+  pub set_beside : (w : Result ℕ) (count : ℕ) → (set_numbers w count).count ≡ count
   pub feed : (a : FeedAnswer) (c : Counts) (count : ℕ) → OfFeed a → feed_answer_in (fed_numbers (feed_status a) c count) ≡ a
   pub feed_beside : (status : ℤ) (c : Counts) (count : ℕ) → FeedBeside status c count
   pub lookup : (l : Lookup) → OfLookup l → lookup_in (lookup_numbers l) ≡ l
@@ -277,8 +272,8 @@ pub record NumbersSay : Type 0 where
   pub read_beside : (a : RecordAnswer) (s : List ℕ) → (record_numbers a s).string ≡ s
   pub next : (a : Answer) (node : ℤ) (taken : ℕ) → OfNext a → answer_in (event_numbers a node taken) ≡ a
   pub next_beside : (a : Answer) (node : ℤ) (taken : ℕ) → NextBeside a node taken
-  pub requested : (r : Requested) → OfRequested r → requested_in (requested_numbers r) ≡ r
-  pub meters : (m : MetersRead) → OfMeters m → meters_in (meters_numbers m) ≡ m
+  pub requested : (r : Result Requested) → OfRequested r → requested_in (requested_numbers r) ≡ r
+  pub meters : (m : Result MetersRead) → OfMeters m → meters_in (meters_numbers m) ≡ m
   pub load : (a : Loaded) → OfLoaded a → loaded_in (loaded_numbers a) ≡ a
   -- what a next call answers is read back from its numbers, from any state in the range of its types and whatever the bytes: 1 with its good too
   pub next_call : (s : State) (bytes : List ℕ) (node : ℤ) (taken : ℕ) → AreBytes bytes → InRange s.control s.store → let a = (next_of s bytes).answer in answer_in (event_numbers a node taken) ≡ a

@@ -1,20 +1,14 @@
 -- The numbers that stand for each answer of the libraries: an enum cannot cross the border to C. A refusal is its number with a minus sign; where it can
 -- be 1 or 5, the good stands beside it.
-use Rattle.std.specs.Prelude.{ℕ, ◌-◌, List, eqb, ℤ, pos, negsuc}
+use Rattle.std.specs.Prelude.{ℕ, ◌-◌, List, eqb, ℤ, pos, negsuc, Ok, Err}
 use Rattle.wing_node.specs.Bool.{if}
 use Rattle.wing_node.specs.Refusal.{refusal_number, good_beside}
 use Rattle.wing_node.specs.Signed.{unsigned}
 use Rattle.wing_node.specs.declared.refusal.Refusal.{Refusal}
 use Rattle.wing_node.specs.declared.value.Value.{Value}
 use Rattle.wing_node.specs.declared.value.Value.TheVariants.{Integer, Float, String}
-use Rattle.wing_node.specs.declared.writer.BodyWritten.{BodyWritten}
-use Rattle.wing_node.specs.declared.writer.BodyWritten.TheVariants.{Bytes as BodyBytes, Refused as BodyRefused}
-use Rattle.wing_wire.specs.declared.write.Written.{Written}
-use Rattle.wing_wire.specs.declared.write.Written.TheVariants.{Bytes, Refused}
 use Rattle.wing_wire.specs.declared.meter.Requested.{Requested}
-use Rattle.wing_wire.specs.declared.meter.Requested.TheVariants.{Bytes as RequestWritten, Refused as RequestRefused}
 use Rattle.wing_wire.specs.declared.meter.MetersRead.{MetersRead}
-use Rattle.wing_wire.specs.declared.meter.MetersRead.TheVariants.{Readings, Refused as ReadRefused}
 use Rattle.wing_wire.specs.declared.unit.Answer.{Answer}
 use Rattle.wing_wire.specs.declared.unit.Answer.TheVariants.{More, Integer as IntegerAt, Float as FloatAt, String as StringAt, Body, End, Refused as NextRefused}
 use Rattle.wing_mirror.specs.declared.answer.Counts.{Counts}
@@ -39,6 +33,7 @@ use Rattle.wing_c.specs.declared.answers.WingEvent.{WingEvent}
 use Rattle.wing_c.specs.declared.answers.WingRequested.{WingRequested}
 use Rattle.wing_c.specs.declared.answers.WingMeters.{WingMeters}
 use Rattle.wing_c.specs.declared.answers.WingLoaded.{WingLoaded}
+use Rattle.wing_node.specs.Result.{Result}
 
 -- a refusal's number with a minus sign
 abbrev pub minus : ℕ → ℤ
@@ -57,23 +52,23 @@ abbrev pub written_as : Outcome → ℕ → WingWritten
 written_as o len = record { status = o.status; good = o.good; len = len }
 
 -- a command or a listing: 0 and the bytes written
-abbrev pub written_numbers : Written → WingWritten
-written_numbers (Bytes n) = written_as no_refusal n
-written_numbers (Refused why) = written_as (sent_back why) 0
+abbrev pub written_numbers : Result ℕ → WingWritten
+written_numbers (Ok n) = written_as no_refusal n
+written_numbers (Err why) = written_as (sent_back why) 0
 
 -- a definition written: 0 and the bytes written
-abbrev pub body_numbers : BodyWritten → WingWritten
-body_numbers (BodyBytes n) = written_as no_refusal n
-body_numbers (BodyRefused why) = written_as (sent_back why) 0
+abbrev pub body_numbers : Result ℕ → WingWritten
+body_numbers (Ok n) = written_as no_refusal n
+body_numbers (Err why) = written_as (sent_back why) 0
 
 -- how many bytes a set wrote, and the records there are
 abbrev pub set_as : Outcome → ℕ → ℕ → WingSet
 set_as o len count = record { status = o.status; good = o.good; len = len; count = count }
 
 -- a set through the mirror: 0 and the bytes written; the records there are, as many as before a refused set
-abbrev pub set_numbers : Written → ℕ → WingSet
-set_numbers (Bytes n) count = set_as no_refusal n count
-set_numbers (Refused why) count = set_as (sent_back why) 0 count
+abbrev pub set_numbers : Result ℕ → ℕ → WingSet
+set_numbers (Ok n) count = set_as no_refusal n count
+set_numbers (Err why) count = set_as (sent_back why) 0 count
 
 -- whether a feed was taken
 abbrev pub feed_status : FeedAnswer → ℤ
@@ -136,14 +131,14 @@ event_numbers End node taken = event_as 4 0 0 node taken
 event_numbers (NextRefused why) node taken = no_event (sent_back why) node taken
 
 -- a meter request: 0, the new meter id and the bytes written
-abbrev pub requested_numbers : Requested → WingRequested
-requested_numbers (RequestWritten n id) = record { status = pos 0; id = id; len = n }
-requested_numbers (RequestRefused n) = record { status = minus n; id = 0; len = 0 }
+abbrev pub requested_numbers : Result Requested → WingRequested
+requested_numbers (Ok (record { len = n; id = id })) = record { status = pos 0; id = id; len = n }
+requested_numbers (Err n) = record { status = minus n; id = 0; len = 0 }
 
 -- a meter packet: 0, its meter id and how many readings it holds
-abbrev pub meters_numbers : MetersRead → WingMeters
-meters_numbers (Readings id n) = record { status = pos 0; id = id; count = n }
-meters_numbers (ReadRefused n) = record { status = minus n; id = 0; count = 0 }
+abbrev pub meters_numbers : Result MetersRead → WingMeters
+meters_numbers (Ok (record { id = id; count = n })) = record { status = pos 0; id = id; count = n }
+meters_numbers (Err n) = record { status = minus n; id = 0; count = 0 }
 
 -- how many records a load left, and the line that it is about
 abbrev pub loaded_as : Outcome → ℕ → ℕ → WingLoaded

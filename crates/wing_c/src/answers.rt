@@ -7,15 +7,13 @@ ghost use Rattle.wing_c.specs.Numbers.{minus as minus_of, sent_back, no_refusal,
 ghost use Rattle.wing_c.specs.Numbers.{held_numbers, record_numbers, event_as, no_event, event_numbers, requested_numbers, meters_numbers, loaded_as, loaded_numbers};
 
 use wing_listing::answer::Loaded;
-use wing_mirror::answer::{FeedAnswer, LentFeedReply, Lookup, RecordAnswer, RecordRead, Same};
+use wing_mirror::answer::{LentFeedReply, RecordRead};
 use wing_mirror::origin;
 use wing_node::field::of_i32;
 use wing_node::refusal::{Refusal, number};
 use wing_node::value::Value;
-use wing_node::writer::BodyWritten;
 use wing_wire::meter::{MetersRead, Requested};
 use wing_wire::unit::Answer;
-use wing_wire::write::Written;
 
 // How a call came out: its status, and the good beside 1 and 5.
 #[derive(Clone, Copy)]
@@ -146,7 +144,7 @@ pub(crate) fn sent_back(why: Refusal) -> Outcome
     ensures { result ≡ sent_back why }
 {
     Outcome {
-        status: minus(number(why)),
+        status: minus(why.number()),
         good: good_beside(why),
     }
 }
@@ -167,21 +165,21 @@ fn written_as(o: Outcome, len: usize) -> WingWritten
     }
 }
 
-pub(crate) fn written(w: Written) -> WingWritten
+pub(crate) fn written(w: Result<usize, Refusal>) -> WingWritten
     ensures { result ≡ written_numbers w }
 {
     match w {
-        Written::Bytes(n) => written_as(no_refusal(), n),
-        Written::Refused(why) => written_as(sent_back(why), 0),
+        Ok(n) => written_as(no_refusal(), n),
+        Err(why) => written_as(sent_back(why), 0),
     }
 }
 
-pub(crate) fn body(w: BodyWritten) -> WingWritten
+pub(crate) fn body(w: Result<usize, Refusal>) -> WingWritten
     ensures { result ≡ body_numbers w }
 {
     match w {
-        BodyWritten::Bytes(n) => written_as(no_refusal(), n),
-        BodyWritten::Refused(why) => written_as(sent_back(why), 0),
+        Ok(n) => written_as(no_refusal(), n),
+        Err(why) => written_as(sent_back(why), 0),
     }
 }
 
@@ -196,12 +194,12 @@ fn set_as(o: Outcome, len: usize, count: usize) -> WingSet
     }
 }
 
-pub(crate) fn set(w: Written, count: usize) -> WingSet
+pub(crate) fn set(w: Result<usize, Refusal>, count: usize) -> WingSet
     ensures { result ≡ set_numbers w count }
 {
     match w {
-        Written::Bytes(n) => set_as(no_refusal(), n, count),
-        Written::Refused(why) => set_as(sent_back(why), 0, count),
+        Ok(n) => set_as(no_refusal(), n, count),
+        Err(why) => set_as(sent_back(why), 0, count),
     }
 }
 
@@ -210,7 +208,7 @@ pub(crate) fn feed_status(a: FeedAnswer) -> i32
 {
     match a {
         FeedAnswer::Taken => 0,
-        FeedAnswer::Refused(why) => minus(why),
+        Err(why) => minus(why),
     }
 }
 
@@ -235,7 +233,7 @@ pub(crate) fn feed_refused(why: Refusal, count: usize) -> WingFed
     ensures { result ≡ fed_numbers (minus_of (refusal_number why)) zero_counts count }
 {
     WingFed {
-        status: minus(number(why)),
+        status: minus(why.number()),
         stored: 0,
         unplaced: 0,
         strings_refused: 0,
@@ -246,32 +244,32 @@ pub(crate) fn feed_refused(why: Refusal, count: usize) -> WingFed
     }
 }
 
-pub(crate) fn found(l: Lookup) -> WingLookup
+pub(crate) fn found(l: Result<Option<usize>, Refusal>) -> WingLookup
     ensures { result ≡ lookup_numbers l }
 {
     match l {
-        Lookup::At(n) => WingLookup {
+        Ok(Some(n)) => WingLookup {
             status: 1,
             number: n,
         },
-        Lookup::None => WingLookup {
+        Ok(None) => WingLookup {
             status: 0,
             number: 0,
         },
-        Lookup::Refused(why) => WingLookup {
+        Err(why) => WingLookup {
             status: minus(why),
             number: 0,
         },
     }
 }
 
-pub(crate) fn same(s: Same) -> i32
+pub(crate) fn same(s: Result<bool, Refusal>) -> i32
     ensures { result ≡ same_number s }
 {
     match s {
-        Same::Yes => 1,
-        Same::No => 0,
-        Same::Refused(why) => minus(why),
+        Ok(true) => 1,
+        Ok(false) => 0,
+        Err(why) => minus(why),
     }
 }
 
@@ -318,7 +316,7 @@ pub(crate) fn record(r: RecordRead) -> WingRecord
         RecordAnswer::Record { id, value, origin } => {
             record_of(id, value, origin::number(origin), string)
         }
-        RecordAnswer::Refused(why) => WingRecord {
+        Err(why) => WingRecord {
             status: minus(why),
             id: 0,
             value: 0,
@@ -383,7 +381,7 @@ pub(crate) fn requested(r: Requested) -> WingRequested
             id: id,
             len: len,
         },
-        Requested::Refused(why) => WingRequested {
+        Err(why) => WingRequested {
             status: minus(why),
             id: 0,
             len: 0,
@@ -400,7 +398,7 @@ pub(crate) fn meters(r: MetersRead) -> WingMeters
             id: id,
             count: count,
         },
-        MetersRead::Refused(why) => WingMeters {
+        Err(why) => WingMeters {
             status: minus(why),
             id: 0,
             count: 0,

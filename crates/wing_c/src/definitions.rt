@@ -7,9 +7,8 @@ ghost use Rattle.wing_c.specs.Definitions.{limits_as, listed_as, detail_numbers,
 ghost use Rattle.wing_c.specs.Definitions.{walk_as, begun_numbers, no_item, item_numbers, step_numbers};
 
 use crate::answers::{Outcome, no_refusal, sent_back};
-use wing_node::definition::{Definition, Details, Item, Parsed};
+use wing_node::definition::{Definition, Details, Item};
 use wing_node::field::of_i32;
-use wing_node::items::Begun;
 use wing_node::node_type::{type_number, type_of, unit_number};
 use wing_node::refusal::Refusal;
 use wing_node::{definition, items};
@@ -184,8 +183,8 @@ pub extern "C" fn wing_definition(body: &[u8]) -> WingDefinition
 {
     let parsed = definition::from_bytes(body);
     match parsed {
-        Parsed::Good(d) => taken(d),
-        Parsed::Refused(why) => refused(why),
+        Ok(d) => taken(d),
+        Err(why) => refused(why),
     }
 }
 
@@ -208,11 +207,11 @@ pub extern "C" fn wing_items_begin(body: &[u8]) -> WingWalk
 {
     let begun = items::items_begin(body);
     match begun {
-        Begun::Good(w) => {
+        Ok(w) => {
             let kind = w.kind;
             walk(no_refusal(), w.at, w.left, type_number(kind))
         }
-        Begun::Refused(why) => walk(sent_back(why), 0, 0, 0),
+        Err(why) => walk(sent_back(why), 0, 0, 0),
     }
 }
 
@@ -235,7 +234,7 @@ fn item(i: Item) -> WingItem
     ensures { result ≡ item_numbers i }
 {
     match i {
-        Item::None => without_item(no_refusal()),
+        Ok(None) => without_item(no_refusal()),
         Item::Strings { item, long_item } => WingItem {
             status: 1,
             good: 0,
@@ -256,7 +255,7 @@ fn item(i: Item) -> WingItem
             start: 0,
             long_start: long_item.start,
         },
-        Item::Refused(why) => without_item(sent_back(why)),
+        Err(why) => without_item(sent_back(why)),
     }
 }
 

@@ -17,12 +17,11 @@ ghost use Rattle.wing_c.specs.Kept.{state_in, kept_feed, state_after, read_after
 use crate::answers;
 use crate::answers::{WingFed, WingLookup, WingRecord, WingSet, WingWritten};
 use crate::kept::keep;
-use wing_mirror::answer::FeedAnswer;
 use wing_mirror::feed::feed_lent;
 use wing_mirror::recall::recall;
 use wing_mirror::table::is_usable;
 use wing_mirror::{query, set};
-use wing_saved::{HEAD, LoadAnswer};
+use wing_saved::HEAD;
 use wing_wire::state::Control;
 
 // 0 for a table that the calls take. 7.
@@ -46,7 +45,7 @@ fn keep_state(state: &mut [u8], a: FeedAnswer, after: Control)
         FeedAnswer::Taken => {
             keep(state, after);
         }
-        FeedAnswer::Refused(_) => {}
+        Err(_) => {}
     }
 }
 
@@ -81,7 +80,7 @@ pub extern "C" fn wing_feed(
             let c = h.control;
             feed_in(state, c, table, count, bytes)
         }
-        LoadAnswer::Refused(why) => answers::feed_refused(why, count),
+        Err(why) => answers::feed_refused(why, count),
     }
 }
 

@@ -13,11 +13,10 @@ use crate::kept::keep;
 use wing_node::field::least;
 use wing_node::refusal::{Refusal, number};
 use wing_saved::earlier::load_earlier;
-use wing_saved::{HEAD, LoadAnswer};
+use wing_saved::HEAD;
 use wing_wire::state::{Control, State, is_sound_lent};
 use wing_wire::stream::{Advanced, advance, release};
 use wing_wire::unit::Answer;
-use wing_wire::write::Written;
 
 // The bytes of a fresh state: 4,123. 9.
 #[unsafe(no_mangle)]
@@ -37,7 +36,7 @@ pub extern "C" fn wing_state_check(state: &[u8]) -> i32
     let a = loaded.answer;
     match a {
         LoadAnswer::Good => 0,
-        LoadAnswer::Refused(why) => minus(number(why)),
+        Err(why) => minus(why.number()),
     }
 }
 
@@ -54,7 +53,7 @@ pub extern "C" fn wing_state_carry_over(earlier: &[u8], state: &mut [u8]) -> Win
             let s = loaded.state;
             written(wing_saved::save(state, s))
         }
-        LoadAnswer::Refused(why) => written(Written::Refused(why)),
+        Err(why) => written(Err(why)),
     }
 }
 
@@ -115,10 +114,10 @@ fn next_sound(state: &mut [u8], c: Control, bytes: &[u8], out: &mut [u8]) -> Win
     ensures state_after { state_from state.new ≡ ok (next_state (state_in c state.old) bytes.now out.old) }
 {
     if 65536 < bytes.len() {
-        return event(Answer::Refused(Refusal::Number(14)), c.node, 0);
+        return event(Answer::Refused(Refusal::NumberOver), c.node, 0);
     }
     if out.len() < State::BODY_LIMIT {
-        return event(Answer::Refused(Refusal::Number(9)), c.node, 0);
+        return event(Answer::Refused(Refusal::OutputShort), c.node, 0);
     }
     next_on(state, c, bytes, out)
 }
@@ -132,7 +131,7 @@ fn next_in(state: &mut [u8], c: Control, bytes: &[u8], out: &mut [u8]) -> WingEv
     if is_sound_lent(c, &state[HEAD..]) {
         return next_sound(state, c, bytes, out);
     }
-    event(Answer::Refused(Refusal::Number(8)), 0, 0)
+    event(Answer::Refused(Refusal::StateUnsound), 0, 0)
 }
 
 // 01: stops after the unit that completes an event or refusal. The bytes of a string or a body go to the front of the output, which has
@@ -149,6 +148,6 @@ pub extern "C" fn wing_next(state: &mut [u8], bytes: &[u8], out: &mut [u8]) -> W
             let c = h.control;
             next_in(state, c, bytes, out)
         }
-        LoadAnswer::Refused(why) => event(Answer::Refused(why), 0, 0),
+        Err(why) => event(Answer::Refused(why), 0, 0),
     }
 }

@@ -6,8 +6,8 @@ ghost use Rattle.wing_c.specs.Windows.{rows_left, rows_from};
 
 use crate::answers::minus;
 use wing_meters::figures::Told;
-use wing_meters::reading::{Followed, RowsAnswer, Taken};
-use wing_meters::window::{Control, Made, MadeAnswer, Window};
+use wing_meters::reading::{Followed, Taken};
+use wing_meters::window::{Control, Made, Window};
 use wing_meters::{reading, window};
 
 // A window's state: the width, how many readings are held, the place of the next one, the largest level, the sum of the levels, and the levels:
@@ -118,7 +118,7 @@ fn told(a: Told) -> WingFigures
             rest: f.rest,
             top: f.top,
         },
-        Told::Refused(why) => without_figures(minus(why)),
+        Err(why) => without_figures(minus(why)),
     }
 }
 
@@ -127,7 +127,7 @@ fn made_status(a: MadeAnswer) -> i32
 {
     match a {
         MadeAnswer::Good => 0,
-        MadeAnswer::Refused(why) => minus(why),
+        Err(why) => minus(why),
     }
 }
 
@@ -170,7 +170,7 @@ fn followed(f: Followed) -> WingFollowed
     let w = f.window;
     match a {
         RowsAnswer::Rows(n) => followed_as(0, n, w),
-        RowsAnswer::Refused(why) => followed_as(minus(why), 0, w),
+        Err(why) => followed_as(minus(why), 0, w),
     }
 }
 

@@ -1,11 +1,9 @@
 -- 02: printing a table, and loading a text into one.
-use Rattle.std.specs.Prelude.{ℕ, ◌/◌, List, map, leb, length}
+use Rattle.std.specs.Prelude.{ℕ, ◌/◌, List, map, leb, length, Err}
 use Rattle.wing_node.specs.declared.refusal.Refusal.{Refusal}
-use Rattle.wing_node.specs.Refusal.{alone}
 use Rattle.wing_node.specs.Bool.{if}
 use Rattle.wing_wire.specs.State.{fresh_state}
 use Rattle.wing_wire.specs.Write.{WriteEffect, write_effect, write_of}
-use Rattle.wing_wire.specs.declared.write.Written.TheVariants.{Refused as NotWritten}
 use Rattle.wing_mirror.specs.Rows.{Table, laid}
 use Rattle.wing_mirror.specs.Entry.{Entry}
 use Rattle.wing_mirror.specs.Record.{width, record_of, full}
@@ -15,10 +13,11 @@ use Rattle.wing_listing.specs.Reading.{Reading, good, bad, reading_of}
 use Rattle.wing_listing.specs.declared.answer.Loaded.{Loaded}
 use Rattle.wing_listing.specs.declared.answer.Loaded.TheVariants.{Records, Refused}
 use Rattle.wing_listing.specs.declared.answer.LoadReply.{LoadReply}
+use Rattle.wing_node.specs.declared.refusal.Refusal.TheVariants.{NoPlace, NumberOver, TableUnsound}
 
 -- 01, 02: 7 for a table that is not usable; else its listing, or 9 with the output as it was
 unfoldable pub print_of : Table → List ℕ → WriteEffect
-print_of t out = if (usable full t) (write_of (printed t) out) (write_effect (NotWritten (alone 7)) out)
+print_of t out = if (usable full t) (write_of (printed t) out) (write_effect (Err TableUnsound) out)
 
 -- what a load leaves: its reply and the table memory
 pub record LoadEffect : Type 0 where
@@ -40,7 +39,7 @@ sent_back why line memory = load_effect (reply_of (Refused why line)) memory
 -- 02: old records are replaced; the bytes past the last record are as they were. 6 only when no line is bad
 unfoldable pub load_entries : List Entry → List ℕ → LoadEffect
 load_entries es memory =
-    if (leb (length es) (length memory / width)) (load_effect (reply_of (Records (length es))) (laid width (map record_of es) memory)) (sent_back (alone 6) 0 memory)
+    if (leb (length es) (length memory / width)) (load_effect (reply_of (Records (length es))) (laid width (map record_of es) memory)) (sent_back NoPlace 0 memory)
 
 -- the entries of a text that is read to its end; else what is wrong with the first bad line, and its number
 unfoldable pub load_read : Reading → List ℕ → LoadEffect
@@ -50,4 +49,4 @@ load_read (bad why line) memory = sent_back why line memory
 -- 02: 7 by the places alone, then 14, then the lines, then 6
 unfoldable pub load_of : List ℕ → List ℕ → LoadEffect
 load_of text memory =
-    if (places_allowed (length memory / width)) (if (leb (length text) 65536) (load_read (reading_of text) memory) (sent_back (alone 14) 0 memory)) (sent_back (alone 7) 0 memory)
+    if (places_allowed (length memory / width)) (if (leb (length text) 65536) (load_read (reading_of text) memory) (sent_back NumberOver 0 memory)) (sent_back TableUnsound 0 memory)

@@ -1,9 +1,7 @@
 -- 01's example of a listing, and the boundaries that 02 names, line by line: one table.
 -- Then whole texts, and one case more by itself: either end of ids and of integers.
-use Rattle.std.specs.Prelude.{ℕ, List, [], ◌∷◌, ◌++◌, ℤ, pos, negsuc, length, replicate}
-use Rattle.wing_node.specs.declared.refusal.Fault.TheVariants.{None, Refused as Because}
-use Rattle.wing_node.specs.declared.refusal.Fault.{Fault}
-use Rattle.wing_node.specs.Refusal.{refusal_number, good_beside}
+use Rattle.std.specs.Prelude.{ℕ, List, [], ◌∷◌, ◌++◌, ℤ, pos, negsuc, length, replicate, Ok, Err}
+use Rattle.wing_node.specs.Refusal.{refusal_number, good_beside, Fault}
 use Rattle.wing_node.specs.Value.{integer, float, string}
 use Rattle.wing_mirror.specs.Rows.{Found, found, nothing}
 use Rattle.wing_mirror.specs.Entry.{Entry, entry}
@@ -22,8 +20,8 @@ lists es text = record { got = listing_of es; wanted = text }
 
 -- a fault's number, with the good that stands beside it; 0 if nothing is wrong
 abbrev pub fault_numbers : Fault → List ℕ
-fault_numbers None = 0 ∷ []
-fault_numbers (Because why) = refusal_number why ∷ good_beside why ∷ []
+fault_numbers (Ok u) = 0 ∷ []
+fault_numbers (Err why) = refusal_number why ∷ good_beside why ∷ []
 
 -- a line after an id, if there is one: nothing is wrong with it
 unfoldable pub fine : Found ℤ → List ℕ → Case

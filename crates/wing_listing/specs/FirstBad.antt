@@ -1,8 +1,7 @@
 -- 02: the first bad line decides. Which texts are taken, which line is the first bad one and what is wrong with it, told by printed lines alone.
 use Rattle.std.specs.Prelude.{ℕ, ◌+◌, true, ◌≡◌, ◌⊎◌, List, [], ◌∷◌, ◌++◌, ℤ, length}
-use Rattle.wing_node.specs.declared.refusal.Fault.{Fault}
 use Rattle.wing_node.specs.declared.refusal.Refusal.{Refusal}
-use Rattle.wing_node.specs.Refusal.{alone, because, by_number}
+use Rattle.wing_node.specs.Refusal.{because, Fault}
 use Rattle.wing_node.specs.Bool.{if}
 use Rattle.wing_node.specs.Signed.{InBits}
 use Rattle.wing_node.specs.Value.{NodeValue, integer, float, string}
@@ -15,6 +14,7 @@ use Rattle.wing_mirror.specs.declared.origin.Origin.TheVariants.{Console}
 use Rattle.wing_listing.specs.Parts.{ended}
 use Rattle.wing_listing.specs.Listing.{header, line_of, listing_of}
 use Rattle.wing_listing.specs.Reading.{above, value_fault}
+use Rattle.wing_node.specs.declared.refusal.Refusal.TheVariants.{IdNotAbove, LineWrong}
 
 -- a string's bytes are bytes
 abbrev pub Bytewise : NodeValue → Type 0
@@ -48,12 +48,12 @@ last_id before (e ∷ es) = last_id (found e.id) es
 
 -- 02: an id not above the one before is 18, then 10, then 1
 unfoldable pub entry_fault : Found ℤ → Entry → Fault
-entry_fault before e = if (above before e.id) (value_fault e.value) (by_number 18)
+entry_fault before e = if (above before e.id) (value_fault e.value) (because IdNotAbove)
 
 -- the text does not begin with the header: 17, line 1
 pub record BadHeader (text : List ℕ) (why : Refusal) (line : ℕ) : Type 0 where
   pub none : (rest : List ℕ) → ended header ++ rest ≡ text → ⊥
-  pub number : why ≡ alone 17
+  pub number : why ≡ LineWrong
   pub first : line ≡ 1
 
 -- after the header and good lines there is more, and it does not begin with the line of any entry: 17
@@ -64,7 +64,7 @@ pub record BadForm (text : List ℕ) (why : Refusal) (line : ℕ) : Type 0 where
   pub begins : listing_of es ++ rest ≡ text
   pub more : rest ≡ [] → ⊥
   pub none : (e : Entry) (after : List ℕ) → Printable e → ended (line_of e) ++ after ≡ rest → ⊥
-  pub number : why ≡ alone 17
+  pub number : why ≡ LineWrong
   pub next : line ≡ length es + 2
 
 -- after the header and good lines comes the line of an entry that is wrong there: 18, 10, 1 with its good

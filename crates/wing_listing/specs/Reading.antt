@@ -1,10 +1,8 @@
 -- 02: the texts that are taken, line by line, and the first bad line of the others.
-use Rattle.std.specs.Prelude.{ℕ, suc, Bool, true, false, List, [], ◌∷◌, eqb, ℤ, length}
+use Rattle.std.specs.Prelude.{ℕ, suc, Bool, true, false, List, [], ◌∷◌, eqb, ℤ, length, Ok, Err}
 use Rattle.std.specs.Int.Signed.{lt_z}
-use Rattle.wing_node.specs.declared.refusal.Fault.TheVariants.{None, Refused as Because}
-use Rattle.wing_node.specs.declared.refusal.Fault.{Fault}
 use Rattle.wing_node.specs.declared.refusal.Refusal.{Refusal}
-use Rattle.wing_node.specs.Refusal.{alone, string_not_utf8, no_fault, because, by_number}
+use Rattle.wing_node.specs.Refusal.{string_not_utf8, no_fault, because, Fault}
 use Rattle.wing_node.specs.Bool.{if, and}
 use Rattle.wing_node.specs.Decimal.{integer_of}
 use Rattle.wing_node.specs.Field.{big}
@@ -18,6 +16,7 @@ use Rattle.wing_listing.specs.Parts.{newline, comma, parted, part}
 use Rattle.wing_listing.specs.Integers.{is_integer, first}
 use Rattle.wing_listing.specs.Hex.{are_pairs, from_pairs}
 use Rattle.wing_listing.specs.Listing.{header, letter_i, letter_f, letter_s}
+use Rattle.wing_node.specs.declared.refusal.Refusal.TheVariants.{IdNotAbove, LineWrong, StringLong}
 
 -- ---- a line
 
@@ -51,11 +50,11 @@ above (found before) id = lt_z before id
 
 -- 02: what is wrong with a value: 10 if it is a string over 256 bytes, 1 with its good if it is not UTF-8
 unfoldable pub value_fault : NodeValue → Fault
-value_fault v = if (too_long v) (by_number 10) (if (not_text v) (because (string_not_utf8 (text_in v))) no_fault)
+value_fault v = if (too_long v) (because StringLong) (if (not_text v) (because (string_not_utf8 (text_in v))) no_fault)
 
 -- 02: within a line 17, 18, 10, 1
 unfoldable pub line_fault : Found ℤ → List ℕ → Fault
-line_fault before line = if (is_line line) (if (above before (id_said line)) (value_fault (entry_said line).value) (by_number 18)) (by_number 17)
+line_fault before line = if (is_line line) (if (above before (id_said line)) (value_fault (entry_said line).value) (because IdNotAbove)) (because LineWrong)
 
 -- ---- a text
 
@@ -71,21 +70,21 @@ after e (bad why line) = bad why line
 
 -- the reading from a line of a number on: what is wrong with it, else the rest
 abbrev pub unless_bad : Fault → ℕ → Reading → Reading
-unless_bad None n rest = rest
-unless_bad (Because why) n rest = bad why n
+unless_bad (Ok u) n rest = rest
+unless_bad (Err why) n rest = bad why n
 
 -- 02: the first bad line decides. The lines from that of number n on, after an id if there is one; what stands after the last newline is a line out of form
 unfoldable pub lines_from : ℕ → Found ℤ → List (List ℕ) → Reading
 lines_from n before [] = good []
-lines_from n before (rest ∷ []) = if (eqb (length rest) 0) (good []) (bad (alone 17) n)
+lines_from n before (rest ∷ []) = if (eqb (length rest) 0) (good []) (bad LineWrong n)
 lines_from n before (line ∷ next ∷ lines) =
     unless_bad (line_fault before line) n (after (entry_said line) (lines_from (suc n) (found (id_said line)) (next ∷ lines)))
 
 -- 02: the header is the first line
 unfoldable pub after_header : List (List ℕ) → Reading
-after_header [] = bad (alone 17) 1
-after_header (rest ∷ []) = bad (alone 17) 1
-after_header (line ∷ next ∷ lines) = if (same_bytes line header) (lines_from 2 nothing (next ∷ lines)) (bad (alone 17) 1)
+after_header [] = bad LineWrong 1
+after_header (rest ∷ []) = bad LineWrong 1
+after_header (line ∷ next ∷ lines) = if (same_bytes line header) (lines_from 2 nothing (next ∷ lines)) (bad LineWrong 1)
 
 -- 02: each line ends with a newline byte
 unfoldable pub reading_of : List ℕ → Reading

@@ -1,9 +1,7 @@
 -- What the steps of the code answer, by the definitions of a text.
-use Rattle.std.specs.Prelude.{ℕ, ◌+◌, min, Bool, true, false, not, ◌≡◌, List, map, ltb, leb, eqb, ℤ, pos, neg_ℤ, length}
-use Rattle.wing_node.specs.declared.refusal.Fault.TheVariants.{None, Refused as Because}
-use Rattle.wing_node.specs.declared.refusal.Fault.{Fault}
+use Rattle.std.specs.Prelude.{ℕ, ◌+◌, min, Bool, true, false, not, ◌≡◌, List, map, ltb, leb, eqb, ℤ, pos, neg_ℤ, length, Ok, Err}
 use Rattle.wing_node.specs.declared.refusal.Refusal.{Refusal}
-use Rattle.wing_node.specs.Refusal.{alone, no_fault, because}
+use Rattle.wing_node.specs.Refusal.{no_fault, because, Fault}
 use Rattle.wing_node.specs.Bool.{if, and}
 use Rattle.wing_node.specs.Bytes.{joined}
 use Rattle.wing_node.specs.Decimal.{number_spelled, integer_of}
@@ -21,6 +19,7 @@ use Rattle.wing_listing.specs.declared.line.Judged.{Judged}
 use Rattle.wing_listing.specs.declared.scan.Scanned.{Scanned}
 use Rattle.wing_listing.specs.declared.answer.Loaded.{Loaded}
 use Rattle.wing_listing.specs.declared.answer.Loaded.TheVariants.{Records, Refused}
+use Rattle.wing_node.specs.declared.refusal.Refusal.TheVariants.{NoPlace, NumberOver, TableUnsound}
 
 -- ---- integers
 
@@ -82,16 +81,16 @@ scanned_as (bad why line) = scanned_bad why line
 
 -- 6 where the records outnumber the places; a text that is sent back has count 0 and stays what it is
 unfoldable pub fitting : Scanned → ℕ → Scanned
-fitting s places = if (leb s.count places) s (scanned_bad (alone 6) 0)
+fitting s places = if (leb s.count places) s (scanned_bad NoPlace 0)
 
 -- all that a load is refused for, as `load_of` has it
 unfoldable pub checked_as : List ℕ → ℕ → Scanned
-checked_as text places = if (places_allowed places) (if (leb (length text) 65536) (fitting (scanned_as (reading_of text)) places) (scanned_bad (alone 14) 0)) (scanned_bad (alone 7) 0)
+checked_as text places = if (places_allowed places) (if (leb (length text) 65536) (fitting (scanned_as (reading_of text)) places) (scanned_bad NumberOver 0)) (scanned_bad TableUnsound 0)
 
 -- the answer of a load, by what is wrong
 abbrev pub loaded_by : Fault → Scanned → Loaded
-loaded_by None s = Records s.count
-loaded_by (Because why) s = Refused why s.line
+loaded_by (Ok u) s = Records s.count
+loaded_by (Err why) s = Refused why s.line
 
 -- the answer of a load
 unfoldable pub loaded_as : Scanned → Loaded

@@ -1,14 +1,15 @@
 // One line of a listing: three fields parted by commas. 02: within a line 17, 18, 10, 1.
 ghost use Rattle.std.specs.Prelude.{◌≡◌, true, length};
 ghost use Rattle.wing_node.specs.Bool.{if};
-ghost use Rattle.wing_node.specs.Refusal.{no_fault, by_number};
+ghost use Rattle.wing_node.specs.Refusal.{no_fault, by_number, because};
 ghost use Rattle.wing_listing.specs.Parts.{part};
 ghost use Rattle.wing_listing.specs.Reading.{is_value, value_said, value_fault, above};
 ghost use Rattle.wing_listing.specs.Steps.{LineSays, id_before, judged_as};
+ghost use Rattle.wing_node.specs.declared.refusal.Refusal.TheVariants.{IdNotAbove, LineWrong};
 
 use crate::hex::{are_pairs, lay_bytes};
 use crate::integer::integer_in;
-use wing_node::refusal::{Fault, by_number, is_refused, string_fault};
+use wing_node::refusal::{Refusal, string_fault};
 
 // Whether a line is in form; its id, 0 if that field is out of form; its kind letter, and where its value begins.
 #[derive(Clone, Copy)]
@@ -22,7 +23,7 @@ pub struct Line {
 // What is wrong with a line, if anything is, and its id.
 #[derive(Clone, Copy)]
 pub struct Judged {
-    pub fault: Fault,
+    pub fault: Result<(), Refusal>,
     pub id: i32,
 }
 
@@ -88,7 +89,7 @@ pub(crate) fn line_in(s: &[u8]) -> Line
 }
 
 // 02: a string over 256 bytes gets 10 and one that isn't UTF-8 gets 1, with its good.
-fn value_fault(kind: u8, s: &[u8]) -> Fault
+fn value_fault(kind: u8, s: &[u8]) -> Result<(), Refusal>
     requires { is_value kind s.now ≡ true }
     ensures { result ≡ value_fault (value_said kind s.now) }
 {
@@ -98,9 +99,9 @@ fn value_fault(kind: u8, s: &[u8]) -> Fault
             lay_bytes(&mut bytes, 0, s);
             return string_fault(&bytes, (s.len() / 2) as u16);
         }
-        return by_number(10);
+        return Err(Refusal::StringLong);
     }
-    Fault::None
+    Ok(())
 }
 
 // 02: above the id before, if there is one.
@@ -114,16 +115,16 @@ fn rises(any: bool, before: i32, id: i32) -> bool
 }
 
 // 02: a line out of form is 17, and after that an id not above the one before 18.
-fn form_fault(formed: bool, rises: bool) -> Fault
-    ensures { result ≡ if formed (if rises no_fault (by_number 18)) (by_number 17) }
+fn form_fault(formed: bool, rises: bool) -> Result<(), Refusal>
+    ensures { result ≡ if formed (if rises no_fault (because IdNotAbove)) (because LineWrong) }
 {
     if formed {
         if rises {
-            return Fault::None;
+            return Ok(());
         }
-        return by_number(18);
+        return Err(Refusal::IdNotAbove);
     }
-    by_number(17)
+    Err(Refusal::LineWrong)
 }
 
 // A line after one with the id before, if there is any.

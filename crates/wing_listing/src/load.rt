@@ -12,7 +12,7 @@ use crate::line::find;
 use crate::place::lay_line;
 use crate::scan::{Scanned, bad, scan};
 use wing_mirror::table::places;
-use wing_node::refusal::{Fault, Refusal};
+use wing_node::refusal::Refusal;
 use wing_wire::state::State;
 
 // The header's line.
@@ -37,11 +37,11 @@ fn check(text: &[u8], places: usize) -> Scanned
             if s.count <= places {
                 return s;
             }
-            return bad(Refusal::Number(6), 0);
+            return bad(Refusal::NoPlace, 0);
         }
-        return bad(Refusal::Number(14), 0);
+        return bad(Refusal::NumberOver, 0);
     }
-    bad(Refusal::Number(7), 0)
+    bad(Refusal::TableUnsound, 0)
 }
 
 // The first lines after the header, each as the record of its number.
@@ -65,8 +65,8 @@ fn answer(s: Scanned) -> Loaded
 {
     let fault = s.fault;
     match fault {
-        Fault::None => Loaded::Records(s.count),
-        Fault::Refused(why) => Loaded::Refused {
+        Ok(()) => Loaded::Records(s.count),
+        Err(why) => Loaded::Refused {
             why: why,
             line: s.line,
         },

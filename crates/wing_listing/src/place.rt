@@ -9,6 +9,7 @@ use crate::hex::lay_bytes;
 use crate::integer::integer_in;
 use crate::line::line_in;
 use wing_node::field::{put_i32, put_u16};
+use wing_node::refusal::Refusal;
 
 // The kind of a letter that is not i.
 fn kind_of(letter: u8) -> u8

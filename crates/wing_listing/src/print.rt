@@ -12,7 +12,6 @@ ghost use Rattle.wing_listing.specs.Calls.{print_of};
 use crate::row::print_record;
 use wing_mirror::table::is_usable;
 use wing_node::refusal::Refusal;
-use wing_wire::write::Written;
 
 // The header's line.
 const HEADER: usize = 14;
@@ -63,16 +62,16 @@ fn lay_listing(out: &mut [u8], table: &[u8], count: usize) -> usize
 }
 
 // No line is longer than 527 bytes: an output with room for as many such is not measured.
-pub fn print(table: &[u8], count: usize, out: &mut [u8]) -> Written
+pub fn print(table: &[u8], count: usize, out: &mut [u8]) -> Result<usize, Refusal>
     ensures { write_effect result out.new ≡ print_of (table_of table.now count) out.old }
 {
     if is_usable(table, count) {
         if out.len() < HEADER + LINE * count {
             if out.len() < HEADER + lines_len(table, count) {
-                return Written::Refused(Refusal::Number(9));
+                return Err(Refusal::OutputShort);
             }
         }
-        return Written::Bytes(lay_listing(out, table, count));
+        return Ok(lay_listing(out, table, count));
     }
-    Written::Refused(Refusal::Number(7))
+    Err(Refusal::TableUnsound)
 }

@@ -7,12 +7,12 @@ ghost use Rattle.wing_listing.specs.Reading.{lines_from, reading_of};
 ghost use Rattle.wing_listing.specs.Steps.{scanned_as, scanned_bad};
 
 use crate::line::{find, judge};
-use wing_node::refusal::{Fault, Refusal};
+use wing_node::refusal::Refusal;
 
 // What is wrong, if anything is, and with which line, 0 for none; and how many records are to be laid: none of a text that is sent back.
 #[derive(Clone, Copy)]
 pub struct Scanned {
-    pub fault: Fault,
+    pub fault: Result<(), Refusal>,
     pub line: usize,
     pub count: usize,
 }
@@ -21,7 +21,7 @@ pub(crate) fn bad(why: Refusal, line: usize) -> Scanned
     ensures { result ≡ scanned_bad why line }
 {
     Scanned {
-        fault: Fault::Refused(why),
+        fault: Err(why),
         line: line,
         count: 0,
     }
@@ -37,20 +37,20 @@ fn scan_lines(text: &[u8]) -> Scanned
     while at < text.len() {
         let end = at + find(&text[at..], 0x0a);
         if end == text.len() {
-            return bad(Refusal::Number(17), number);
+            return bad(Refusal::LineWrong, number);
         }
         let j = judge(&text[at..end], number > 2, before);
         let fault = j.fault;
         match fault {
-            Fault::None => {}
-            Fault::Refused(why) => return bad(why, number),
+            Ok(()) => {}
+            Err(why) => return bad(why, number),
         }
         before = j.id;
         at = end + 1;
         number += 1;
     }
     Scanned {
-        fault: Fault::None,
+        fault: Ok(()),
         line: 0,
         count: number - 2,
     }
@@ -80,7 +80,7 @@ pub(crate) fn scan(text: &[u8]) -> Scanned
         if is_same(&text[..n], b"id,kind,value") {
             return scan_lines(&text[n + 1..]);
         }
-        return bad(Refusal::Number(17), 1);
+        return bad(Refusal::LineWrong, 1);
     }
-    bad(Refusal::Number(17), 1)
+    bad(Refusal::LineWrong, 1)
 }

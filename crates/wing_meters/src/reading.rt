@@ -10,6 +10,7 @@ use crate::kept::{figures_in, lay_row, tell};
 use crate::level::level_of;
 use crate::sound::{greatest, is_sound_lent};
 use crate::window::{Control, Window};
+use wing_node::refusal::Refusal;
 
 // The answer, and the window with the reading in it; after a refusal the window as it was.
 #[derive(Clone, Copy)]
@@ -104,7 +105,7 @@ pub fn reading(w: Window, x: i16) -> Taken
         };
     }
     Taken {
-        answer: Told::Refused(8),
+        answer: Err(Refusal::StateUnsound),
         window: w,
     }
 }
@@ -129,7 +130,7 @@ fn refuse(why: u8, w: Window) -> Followed
     ensures { result ≡ followed_of (RowsAnswer.Refused why) w }
 {
     Followed {
-        answer: RowsAnswer::Refused(why),
+        answer: Err(why),
         window: w,
     }
 }

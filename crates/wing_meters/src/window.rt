@@ -6,6 +6,7 @@ ghost use Rattle.wing_meters.specs.Calls.{made_of, figures_answer};
 use crate::figures::Told;
 use crate::kept::tell;
 use crate::sound::is_sound_lent;
+use wing_node::refusal::Refusal;
 
 // The width, how many readings are held, the place of the next one, the largest level and the sum of the levels.
 #[derive(Clone, Copy)]
@@ -56,7 +57,7 @@ fn no_window() -> Made
     ensures { result ≡ made_of 0 }
 {
     Made {
-        answer: MadeAnswer::Refused(19),
+        answer: Err(Refusal::WidthWrong),
         window: fresh(0),
     }
 }
@@ -93,5 +94,5 @@ pub fn figures(w: Window) -> Told
     if is_sound_lent(c, &w.levels) {
         return tell(c);
     }
-    Told::Refused(8)
+    Err(Refusal::StateUnsound)
 }

@@ -2,9 +2,8 @@
 -- contracts of the calls, and for `counts` and `come_out`, which run the plain machine, by the theorem on histories.
 use Rattle.std.specs.Prelude.{ℕ, ◌-◌, Bool, true, false, List, [], ◌∷◌, ◌++◌, map, pos, negsuc, length, replicate}
 use Rattle.wing_node.specs.Bytes.{joined}
-use Rattle.wing_node.specs.Refusal.{alone}
 use Rattle.wing_node.specs.Value.{integer, float, string}
-use Rattle.wing_node.specs.declared.refusal.Refusal.TheVariants.{StringNotUtf8}
+use Rattle.wing_node.specs.declared.refusal.Refusal.TheVariants.{StringNotUtf8, NoPlace}
 use Rattle.wing_mirror.specs.Entry.{Entry, entry}
 use Rattle.wing_mirror.specs.Layout.{kept}
 use Rattle.wing_mirror.specs.Record.{record_of, entry_in, full}
@@ -95,7 +94,7 @@ cases =
     come_out
     (set (pos 7) (integer (pos 63)) (replicate 6 0) ∷ set (pos 7) (integer (pos 5)) (replicate 9 0) ∷ set (pos 8) (integer (pos 5)) (replicate 9 0) ∷
     feed (0xd7 ∷ 0x00 ∷ 0x00 ∷ 0x00 ∷ 0x08 ∷ 0x05 ∷ []) ∷ set (pos 7) (string (0x41 ∷ 0xc3 ∷ [])) [] ∷ [])
-    (sent (0xd7 ∷ 0x00 ∷ 0x00 ∷ 0x00 ∷ 0x07 ∷ 0x3f ∷ []) ∷ sent (0xd7 ∷ 0x00 ∷ 0x00 ∷ 0x00 ∷ 0x07 ∷ 0x05 ∷ []) ∷ refused (alone 6) ∷
+    (sent (0xd7 ∷ 0x00 ∷ 0x00 ∷ 0x00 ∷ 0x07 ∷ 0x3f ∷ []) ∷ sent (0xd7 ∷ 0x00 ∷ 0x00 ∷ 0x00 ∷ 0x07 ∷ 0x05 ∷ []) ∷ refused NoPlace ∷
     fed (six 0 1 0 0 0 0) ∷ refused (StringNotUtf8 1) ∷ []) ∷
     -- records: ff ff ff fe, float, console, 4, 3f 80 00 00
     lays minus_two ((0xff ∷ 0xff ∷ 0xff ∷ 0xfe ∷ 0x01 ∷ 0x00 ∷ 0x00 ∷ 0x04 ∷ 0x3f ∷ 0x80 ∷ 0x00 ∷ 0x00 ∷ []) ++ replicate 252 0x00) ∷

@@ -1,12 +1,12 @@
 -- 01: a feed counts values stored, values with no place, strings refused, definitions read, definitions refused, and ends.
-use Rattle.std.specs.Prelude.{ℕ, ◌+◌, leb, eqb}
+use Rattle.std.specs.Prelude.{ℕ, ◌+◌, leb, eqb, Ok, Err}
 use Rattle.wing_node.specs.Refusal.{refusal_number}
 use Rattle.wing_node.specs.Bool.{if}
-use Rattle.wing_node.specs.declared.definition.Parsed.{Parsed}
-use Rattle.wing_node.specs.declared.definition.Parsed.TheVariants.{Good, Refused}
 use Rattle.wing_mirror.specs.declared.answer.Counts.{Counts}
 use Rattle.wing_mirror.specs.declared.counts.Mark.{Mark}
 use Rattle.wing_mirror.specs.declared.counts.Mark.TheVariants.{Stored, Unplaced, StringRefused, DefinitionRead, DefinitionRefused, Ended, Uncounted}
+use Rattle.wing_node.specs.Result.{Result}
+use Rattle.wing_node.specs.declared.definition.Definition.{Definition}
 
 -- 01's six counts, all 0
 abbrev pub zero_counts : Counts
@@ -63,9 +63,9 @@ unfoldable pub refusal_mark : ℕ → Mark
 refusal_mark n = if (eqb n 1) StringRefused (if (leb 2 n) (if (leb n 5) DefinitionRefused Uncounted) Uncounted)
 
 -- 01: each body goes through the parser: one that it takes, or its 4 or 5
-unfoldable pub body_mark : Parsed → Mark
-body_mark (Good d) = DefinitionRead
-body_mark (Refused why) = refusal_mark (refusal_number why)
+unfoldable pub body_mark : Result Definition → Mark
+body_mark (Ok d) = DefinitionRead
+body_mark (Err why) = refusal_mark (refusal_number why)
 
 -- their sum
 abbrev pub total : Counts → ℕ

@@ -1,11 +1,9 @@
 -- Demand 3: a mirror and the plain machine over a whole history, for records of any layout; 01's is `full` (specs/Record.antt).
-use Rattle.std.specs.Prelude.{ℕ, ◌+◌, ◌*◌, ◌/◌, ◌≤◌, true, ◌≡◌, ◌↔◌, List, [], ◌∷◌, map, length, take, drop}
+use Rattle.std.specs.Prelude.{ℕ, ◌+◌, ◌*◌, ◌/◌, ◌≤◌, true, ◌≡◌, ◌↔◌, List, [], ◌∷◌, map, length, take, drop, Ok, Err}
 use Rattle.wing_wire.specs.State.{fresh_state}
 use Rattle.wing_wire.specs.Range.{AreBytes}
 use Rattle.wing_wire.specs.Write.{write_of}
 use Rattle.wing_wire.specs.declared.state.State.{State}
-use Rattle.wing_wire.specs.declared.write.Written.{Written}
-use Rattle.wing_wire.specs.declared.write.Written.TheVariants.{Bytes, Refused}
 use Rattle.wing_node.specs.Refusal.{alone}
 use Rattle.wing_node.specs.Bytes.{joined}
 use Rattle.wing_mirror.specs.Rows.{Table, All, places, insert, In}
@@ -22,6 +20,7 @@ use Rattle.wing_mirror.specs.declared.answer.Counts.{Counts}
 use Rattle.wing_mirror.specs.declared.answer.Same.TheVariants.{Yes}
 use Rattle.wing_mirror.specs.declared.answer.FeedAnswer.{FeedAnswer}
 use Rattle.wing_mirror.specs.declared.answer.FeedAnswer.TheVariants.{Taken, Refused as FeedRefused}
+use Rattle.wing_node.specs.Result.{Result}
 
 -- 01: a mirror is a decoder state, a table buffer and its count
 pub record Mirror : Type 0 where
@@ -38,9 +37,9 @@ feed_outcome Taken c = fed c
 feed_outcome (FeedRefused n) c = refused (alone n)
 
 -- how a set came out, by its answer and the bytes written
-abbrev pub set_outcome : Written → List ℕ → Outcome
-set_outcome (Bytes n) out = sent (take n out)
-set_outcome (Refused why) out = refused why
+abbrev pub set_outcome : Result ℕ → List ℕ → Outcome
+set_outcome (Ok n) out = sent (take n out)
+set_outcome (Err why) out = refused why
 
 -- an entry's place in the order of signed ids
 abbrev pub rank : Entry → ℕ
@@ -163,8 +162,8 @@ module _ (L : Layout) where
       EqualButOrigins (mirror_run buffer (map feed pieces)).state.table t
 
   -- an answer that n bytes were written, and the output after it: these n bytes do that
-  abbrev pub Rebuilt : Written → List ℕ → Table → Type 0
-  Rebuilt answer out t = (n : ℕ) → answer ≡ Bytes n → RebuiltBy (take n out) t
+  abbrev pub Rebuilt : Result ℕ → List ℕ → Table → Type 0
+  Rebuilt answer out t = (n : ℕ) → answer ≡ Ok n → RebuiltBy (take n out) t
 
   -- what recall writes of any mirror after any history does
   abbrev pub Rebuilding : Type 0

@@ -18,6 +18,7 @@ use Rattle.wing_mirror.specs.Call.{Call, feed, set, text_in, too_long, not_text,
 use Rattle.wing_mirror.specs.declared.answer.Counts.{Counts}
 use Rattle.wing_mirror.specs.declared.counts.Mark.TheVariants.{Stored, Unplaced, Ended}
 use Rattle.wing_mirror.specs.declared.origin.Origin.TheVariants.{Console, SetOrder}
+use Rattle.wing_node.specs.declared.refusal.Refusal.TheVariants.{NoPlace, NumberOver, OutputShort, StringLong, TableUnsound}
 
 -- ---- the decoder
 
@@ -116,17 +117,17 @@ module _ (keeping : NodeValue → Keeping) where
   -- a put by a set
   unfoldable pub machine_step : ℕ → Machine → Call → Step Machine
   machine_step places s (feed bytes) =
-      if (not (places_allowed places)) (refuse s (alone 7))
-      (if (ltb 65536 (length bytes)) (refuse s (alone 14))
+      if (not (places_allowed places)) (refuse s TableUnsound)
+      (if (ltb 65536 (length bytes)) (refuse s NumberOver)
       (record {
         state = record { decoder = state_after s.decoder bytes; map = (machine_feed places s bytes).map };
         outcome = fed (machine_feed places s bytes).counts;
       }))
   machine_step places s (set id v out) =
-      if (not (places_allowed places)) (refuse s (alone 7))
+      if (not (places_allowed places)) (refuse s TableUnsound)
       (unless_kept (keeping v) (λ mark number. refuse s (alone number))
-      (if (too_long v) (refuse s (alone 10))
+      (if (too_long v) (refuse s StringLong)
       (if (not_text v) (refuse s (string_not_utf8 (text_in v)))
-      (if (not (room places id s.map)) (refuse s (alone 6))
-      (if (ltb (length out) (length (set_bytes id v))) (refuse s (alone 9))
+      (if (not (room places id s.map)) (refuse s NoPlace)
+      (if (ltb (length out) (length (set_bytes id v))) (refuse s OutputShort)
       (record { state = record { decoder = s.decoder; map = put_in (entry id v SetOrder) s.map }; outcome = sent (set_bytes id v) }))))))

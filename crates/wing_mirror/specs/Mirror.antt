@@ -1,5 +1,5 @@
 -- The mirror: what feed and set make of a table of any layout, and what they answer.
-use Rattle.std.specs.Prelude.{ℕ, not, List, ◌++◌, ltb, leb, eqb, ℤ, length, drop}
+use Rattle.std.specs.Prelude.{ℕ, not, List, ◌++◌, ltb, leb, eqb, ℤ, length, drop, Ok, Err}
 use Rattle.wing_node.specs.declared.refusal.Refusal.{Refusal}
 use Rattle.wing_node.specs.Refusal.{refusal_number, alone, string_not_utf8}
 use Rattle.wing_node.specs.Bool.{if}
@@ -11,8 +11,6 @@ use Rattle.wing_wire.specs.Reader.{Event, more, value, body, end, refused, event
 use Rattle.wing_wire.specs.Command.{set_bytes}
 use Rattle.wing_wire.specs.declared.state.State.{State}
 use Rattle.wing_wire.specs.declared.unit.Answer.{Answer}
-use Rattle.wing_wire.specs.declared.write.Written.{Written}
-use Rattle.wing_wire.specs.declared.write.Written.TheVariants.{Bytes, Refused}
 use Rattle.wing_mirror.specs.Rows.{Table}
 use Rattle.wing_mirror.specs.Entry.{entry}
 use Rattle.wing_mirror.specs.Layout.{Layout, unless_kept}
@@ -27,6 +25,8 @@ use Rattle.wing_mirror.specs.declared.answer.FeedAnswer.TheVariants.{Taken, Refu
 use Rattle.wing_mirror.specs.declared.answer.FeedReply.{FeedReply}
 use Rattle.wing_mirror.specs.declared.answer.LentFeedReply.{LentFeedReply}
 use Rattle.wing_mirror.specs.declared.answer.SetReply.{SetReply}
+use Rattle.wing_node.specs.declared.refusal.Refusal.TheVariants.{NoPlace, OutputShort, StringLong, TableUnsound}
+use Rattle.wing_node.specs.Result.{Result}
 
 -- a table, and the counts of a feed so far
 pub record TableTally : Type 0 where
@@ -62,13 +62,13 @@ lent_effect r store buffer = record { answer = r.answer; counts = r.counts; stat
 
 -- what a set leaves
 pub record SetEffect : Type 0 where
-  pub answer : Written
+  pub answer : Result ℕ
   pub out : List ℕ
   pub table : Table
 
 -- 01: refused, all is as it was
 abbrev pub refused_set : Refusal → Table → List ℕ → SetEffect
-refused_set why t out = record { answer = Refused why; out = out; table = t }
+refused_set why t out = record { answer = Err why; out = out; table = t }
 
 -- what the call leaves, by its reply and the lent buffers
 abbrev pub set_effect : SetReply → List ℕ → List ℕ → SetEffect
@@ -114,10 +114,10 @@ module _ (L : Layout) where
   -- origin is the set order
   unfoldable pub mirror_set : ℤ → NodeValue → Table → List ℕ → SetEffect
   mirror_set id v t out =
-      if (not (usable L t)) (refused_set (alone 7) t out)
+      if (not (usable L t)) (refused_set TableUnsound t out)
       (unless_kept (keeping v) (λ mark number. refused_set (alone number) t out)
-      (if (too_long v) (refused_set (alone 10) t out)
+      (if (too_long v) (refused_set StringLong t out)
       (if (not_text v) (refused_set (string_not_utf8 (text_in v)) t out)
-      (if (not (fits L (entry id v SetOrder) t)) (refused_set (alone 6) t out)
-      (if (ltb (length out) (length (set_bytes id v))) (refused_set (alone 9) t out)
-      (record { answer = Bytes (length (set_bytes id v)); out = set_bytes id v ++ drop (length (set_bytes id v)) out; table = put L (entry id v SetOrder) t }))))))
+      (if (not (fits L (entry id v SetOrder) t)) (refused_set NoPlace t out)
+      (if (ltb (length out) (length (set_bytes id v))) (refused_set OutputShort t out)
+      (record { answer = Ok (length (set_bytes id v)); out = set_bytes id v ++ drop (length (set_bytes id v)) out; table = put L (entry id v SetOrder) t }))))))

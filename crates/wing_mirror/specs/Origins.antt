@@ -1,11 +1,10 @@
 -- 02: who set it. What each call makes of a node's value and origin; that two mirrors compare with origins; and where the origin is set aside.
-use Rattle.std.specs.Prelude.{ℕ, ◌<◌, true, ◌≡◌, ◌↔◌, List, [], ◌∷◌, map, ℤ, length, get_or}
+use Rattle.std.specs.Prelude.{ℕ, ◌<◌, true, ◌≡◌, ◌↔◌, List, [], ◌∷◌, map, ℤ, length, get_or, Ok}
 use Rattle.wing_node.specs.Bool.{if}
 use Rattle.wing_node.specs.Value.{NodeValue}
 use Rattle.wing_wire.specs.Range.{AreBytes, InRange}
 use Rattle.wing_wire.specs.Reader.{Event, more, value, body, end, refused}
 use Rattle.wing_wire.specs.declared.state.State.{State}
-use Rattle.wing_wire.specs.declared.write.Written.TheVariants.{Bytes}
 use Rattle.wing_mirror.specs.Rows.{Table, Found, found, nothing, places, All, In}
 use Rattle.wing_mirror.specs.Origin.{origin_number}
 use Rattle.wing_mirror.specs.Entry.{Entry, entry}
@@ -71,7 +70,7 @@ module _ (L : Layout) where
   pub record WhoSetIt : Type 0 where
     -- an accepted set, of any table; ids, numbers and bytes are in the range of their types
     pub by_set : (t : Table) (id : ℤ) (v : NodeValue) (out : List ℕ) (n : ℕ) → AreBytes t.buffer → TypedCall (set id v out) →
-        (mirror_set L id v t out).answer ≡ Bytes n → GivenBySet (entries_of t) (entries_of (mirror_set L id v t out).table) id v
+        (mirror_set L id v t out).answer ≡ Ok n → GivenBySet (entries_of t) (entries_of (mirror_set L id v t out).table) id v
     -- and an accepted feed, of any table and state
     pub by_feed : (s : State) (t : Table) (bytes : List ℕ) → AreBytes t.buffer → InRange s.control s.store → TypedCall (feed bytes) →
         (mirror_feed L s t bytes).answer ≡ FeedTaken → GivenByFeed (places width t) (events s bytes) (entries_of t) (entries_of (mirror_feed L s t bytes).table)

@@ -2,7 +2,7 @@
 use crate::origin::Origin;
 use wing_node::value::Value;
 use wing_wire::state::{Control, State};
-use wing_wire::write::Written;
+use wing_node::refusal::Refusal;
 
 // An id's record number.
 #[derive(Clone, Copy)]
@@ -76,6 +76,6 @@ pub struct FeedReply {
 // The answer of a set with the number of records.
 #[derive(Clone, Copy)]
 pub struct SetReply {
-    pub answer: Written,
+    pub answer: Result<usize, Refusal>,
     pub count: usize,
 }

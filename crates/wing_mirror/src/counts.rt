@@ -5,7 +5,7 @@ ghost use Rattle.wing_node.specs.Refusal.{refusal_number};
 ghost use Rattle.wing_mirror.specs.Counts.{zero_counts, tick as tick_of, total, refusal_mark, body_mark};
 
 use crate::answer::Counts;
-use wing_node::definition::{Parsed, from_bytes};
+use wing_node::definition::from_bytes;
 use wing_node::refusal::{Refusal, number};
 
 // Which of the six is meant, if any.
@@ -71,7 +71,7 @@ pub(crate) fn tick(mut c: Counts, m: Mark) -> Counts
 pub(crate) fn refusal_mark(why: Refusal) -> Mark
     ensures { result ≡ refusal_mark (refusal_number why) }
 {
-    let n = number(why);
+    let n = why.number();
     if n == 1 {
         return Mark::StringRefused;
     }
@@ -89,7 +89,7 @@ pub(crate) fn body_mark(body: &[u8]) -> Mark
 {
     let p = from_bytes(body);
     match p {
-        Parsed::Good(_) => Mark::DefinitionRead,
-        Parsed::Refused(why) => refusal_mark(why),
+        Ok(_) => Mark::DefinitionRead,
+        Err(why) => refusal_mark(why),
     }
 }

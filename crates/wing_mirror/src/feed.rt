@@ -6,7 +6,7 @@ ghost use Rattle.wing_mirror.specs.Record.{full};
 ghost use Rattle.wing_mirror.specs.Table.{table as table_of, usable};
 ghost use Rattle.wing_mirror.specs.Mirror.{fed_all, taken_feed, refused_feed, feed_effect, lent_effect, mirror_feed, lent_feed};
 
-use crate::answer::{FeedAnswer, FeedReply, LentFeedReply};
+use crate::answer::{FeedReply, LentFeedReply};
 use crate::counts::zero_counts;
 use crate::keep::{Tally, keep_answer};
 use crate::table::is_usable;
@@ -83,7 +83,7 @@ pub fn feed_lent(
     }
     let counts = zero_counts();
     LentFeedReply {
-        answer: FeedAnswer::Refused(why),
+        answer: Err(why),
         counts: counts,
         control: c,
         count: count,

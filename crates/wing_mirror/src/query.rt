@@ -8,7 +8,7 @@ ghost use Rattle.wing_mirror.specs.Table.{table as table_of};
 ghost use Rattle.wing_mirror.specs.Order.{InOrder};
 ghost use Rattle.wing_mirror.specs.Query.{lookup_answer, answer_of, read_of, beside_zeros, refused_record, record_answer, same_bytes, same_tables, same_answer};
 
-use crate::answer::{Lookup, RecordAnswer, RecordRead, Same};
+use crate::answer::RecordRead;
 use crate::bytes::lay;
 use crate::order::{row, search};
 use crate::origin::Origin;
@@ -17,33 +17,34 @@ use crate::table::is_usable;
 use wing_node::field::least;
 use wing_node::value::Value;
 use wing_wire::state::State;
+use wing_node::refusal::Refusal;
 
-fn number_of(table: &[u8], width: usize, count: usize, key: u32) -> Lookup
+fn number_of(table: &[u8], width: usize, count: usize, key: u32) -> Result<Option<usize>, Refusal>
     requires { InOrder width (table_of table.now count) }
     ensures { result ≡ answer_of (number_of key_of key (records width count table.now)) }
 {
     let position = search(table, width, count, key);
     if position.found {
-        return Lookup::At(position.number);
+        return Ok(Some(position.number));
     }
-    Lookup::None
+    Ok(None)
 }
 
 // 01: an id's record number, or none. 7.
-pub fn lookup(table: &[u8], count: usize, id: i32) -> Lookup
+pub fn lookup(table: &[u8], count: usize, id: i32) -> Result<Option<usize>, Refusal>
     ensures { result ≡ lookup_answer full (table_of table.now count) id }
 {
     if is_usable(table, count) {
         return number_of(table, State::PLACE_WIDTH, count, rank(id));
     }
-    Lookup::Refused(7)
+    Err(Refusal::TableUnsound)
 }
 
 fn refused(why: u8) -> RecordRead
     ensures { result ≡ refused_record why }
 {
     RecordRead {
-        answer: RecordAnswer::Refused(why),
+        answer: Err(why),
         string: [0u8; 256],
     }
 }
@@ -135,16 +136,16 @@ fn same_records(a: &[u8], count_a: usize, b: &[u8], count_b: usize) -> bool
 }
 
 // 01: two mirrors are equal if count and records are, 02: origins included. 7 for either table.
-pub fn same(a: &[u8], count_a: usize, b: &[u8], count_b: usize) -> Same
+pub fn same(a: &[u8], count_a: usize, b: &[u8], count_b: usize) -> Result<bool, Refusal>
     ensures { result ≡ same_answer full (table_of a.now count_a) (table_of b.now count_b) }
 {
     if is_usable(a, count_a) {
         if is_usable(b, count_b) {
             if same_records(a, count_a, b, count_b) {
-                return Same::Yes;
+                return Ok(true);
             }
-            return Same::No;
+            return Ok(false);
         }
     }
-    Same::Refused(7)
+    Err(Refusal::TableUnsound)
 }

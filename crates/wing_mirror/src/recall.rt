@@ -14,10 +14,9 @@ use wing_node::refusal::Refusal;
 use wing_node::value::Value;
 use wing_wire::set;
 use wing_wire::state::State;
-use wing_wire::write::Written;
 
 // The set order of what a record holds. Not by `send`, which would be a call for each record, with the value in memory.
-fn send_record(out: &mut [u8], rec: &[u8]) -> Written
+fn send_record(out: &mut [u8], rec: &[u8]) -> Result<usize, Refusal>
     requires { (length rec.now ≡ width) × (well_formed rec.now ≡ true) }
     ensures { write_effect result out.new ≡ write_of (order_in rec.now) out.old }
 {
@@ -34,12 +33,12 @@ fn send_record(out: &mut [u8], rec: &[u8]) -> Written
     }
 }
 
-fn size_in(w: Written) -> usize
+fn size_in(w: Result<usize, Refusal>) -> usize
     ensures { result ≡ size_in w }
 {
     match w {
-        Written::Bytes(n) => n,
-        Written::Refused(_) => 0,
+        Ok(n) => n,
+        Err(_) => 0,
     }
 }
 
@@ -85,16 +84,16 @@ fn lay_recall(out: &mut [u8], table: &[u8], count: usize) -> usize
 }
 
 // No set order is longer than 395 bytes: an output with room for as many such is not measured.
-pub fn recall(table: &[u8], count: usize, out: &mut [u8]) -> Written
+pub fn recall(table: &[u8], count: usize, out: &mut [u8]) -> Result<usize, Refusal>
     ensures { write_effect result out.new ≡ recall_of full (table_of table.now count) out.old }
 {
     if is_usable(table, count) {
         if out.len() < 2 + 395 * count {
             if out.len() < 2 + orders_len(table, count) {
-                return Written::Refused(Refusal::Number(9));
+                return Err(Refusal::OutputShort);
             }
         }
-        return Written::Bytes(lay_recall(out, table, count));
+        return Ok(lay_recall(out, table, count));
     }
-    Written::Refused(Refusal::Number(7))
+    Err(Refusal::TableUnsound)
 }

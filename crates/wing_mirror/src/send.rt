@@ -8,10 +8,10 @@ ghost use Rattle.wing_mirror.specs.Entry.{storable};
 use wing_node::field::least;
 use wing_node::value::Value;
 use wing_wire::set;
-use wing_wire::write::Written;
+use wing_node::refusal::Refusal;
 
 // The command of a value; a string's bytes stand beside its length.
-pub(crate) fn send(out: &mut [u8], id: i32, value: Value, string: &[u8]) -> Written
+pub(crate) fn send(out: &mut [u8], id: i32, value: Value, string: &[u8]) -> Result<usize, Refusal>
     requires { storable (node_value value string.now) ≡ true }
     ensures { write_effect result out.new ≡ write_of (set_bytes id (node_value value string.now)) out.old }
 {

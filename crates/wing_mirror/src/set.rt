@@ -1,13 +1,13 @@
 // Set through the mirror: the command is written and the value stored. 01: 7, 10, 1, 6, 9; refused, all is as it was.
 ghost use Rattle.std.specs.Prelude.{◌≡◌, true, length};
 ghost use Rattle.wing_node.specs.Bool.{if};
-ghost use Rattle.wing_node.specs.Refusal.{alone};
 ghost use Rattle.wing_node.specs.Value.{integer, float, string as string_of, node_value};
 ghost use Rattle.wing_mirror.specs.Entry.{storable};
 ghost use Rattle.wing_mirror.specs.Record.{width, full};
 ghost use Rattle.wing_mirror.specs.Table.{table as table_of, usable};
 ghost use Rattle.wing_mirror.specs.Mirror.{mirror_set, set_effect};
 ghost use Rattle.wing_mirror.specs.Sets.{replied, kept_of, refused_set_reply};
+ghost use Rattle.wing_node.specs.declared.refusal.Refusal.TheVariants.{TableUnsound};
 
 use crate::answer::SetReply;
 use crate::origin::Origin;
@@ -15,34 +15,33 @@ use crate::record::lay_record;
 use crate::send::send;
 use crate::store::{has_room, put};
 use crate::table::is_usable;
-use wing_node::refusal::{Fault, Refusal, string_fault};
+use wing_node::refusal::{Refusal, string_fault};
 use wing_node::value::Value;
 use wing_wire::state::State;
-use wing_wire::write::Written;
 
 fn refused(why: Refusal, count: usize) -> SetReply
     ensures { result ≡ refused_set_reply why count }
 {
     SetReply {
-        answer: Written::Refused(why),
+        answer: Err(why),
         count: count,
     }
 }
 
 // Stored if its command was written.
-fn keep_written(table: &mut [u8], count: usize, rec: &[u8], written: Written) -> SetReply
+fn keep_written(table: &mut [u8], count: usize, rec: &[u8], written: Result<usize, Refusal>) -> SetReply
     requires { (usable full (table_of table.old count) ≡ true) × (length rec.now ≡ width) }
     ensures { replied result table.new ≡ kept_of full written rec.now (table_of table.old count) }
 {
     match written {
-        Written::Bytes(n) => {
+        Ok(n) => {
             let kept = put(table, State::PLACE_WIDTH, count, rec);
             SetReply {
-                answer: Written::Bytes(n),
+                answer: Ok(n),
                 count: kept.count,
             }
         }
-        Written::Refused(why) => refused(why, count),
+        Err(why) => refused(why, count),
     }
 }
 
@@ -66,9 +65,9 @@ fn set_value(
             let written = send(out, id, value, string);
             return keep_written(table, count, laid, written);
         }
-        return refused(Refusal::Number(6), count);
+        return refused(Refusal::NoPlace, count);
     }
-    refused(Refusal::Number(7), count)
+    refused(Refusal::TableUnsound, count)
 }
 
 // 01: set through the mirror writes the command and stores the value. 7, 6, 9.
@@ -87,12 +86,12 @@ pub fn set_float(table: &mut [u8], count: usize, out: &mut [u8], id: i32, bits: 
 
 // A string's set that is refused for what it is: 7 before that.
 fn refused_string(table: &[u8], count: usize, why: Refusal) -> SetReply
-    ensures { result ≡ refused_set_reply (if (usable full (table_of table.now count)) why (alone 7)) count }
+    ensures { result ≡ refused_set_reply (if (usable full (table_of table.now count)) why TableUnsound) count }
 {
     if is_usable(table, count) {
         return refused(why, count);
     }
-    refused(Refusal::Number(7), count)
+    refused(Refusal::TableUnsound, count)
 }
 
 // The same for a string. 7, 10, 1, 6, 9.
@@ -103,9 +102,9 @@ pub fn set_string(table: &mut [u8], count: usize, out: &mut [u8], id: i32, value
         let fault = string_fault(value, 256);
         let string = Value::String(value.len() as u16);
         return match fault {
-            Fault::None => set_value(table, count, out, id, string, value),
-            Fault::Refused(why) => refused_string(table, count, why),
+            Ok(()) => set_value(table, count, out, id, string, value),
+            Err(why) => refused_string(table, count, why),
         };
     }
-    refused_string(table, count, Refusal::Number(10))
+    refused_string(table, count, Refusal::StringLong)
 }

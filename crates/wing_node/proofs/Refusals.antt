@@ -1,15 +1,14 @@
--- The reason of a refusal, and what the fault of a string tells of it.
+-- The reason of a refusal, what the fault of a string tells of it, and the result where a `?` hands a refusal on.
 use mathlib.Core.Path.{◌≡◌, refl, ap, sym}
 use mathlib.Core.Bool.{Bool, true, false, true≢false}
 use mathlib.Core.List.{List}
 use Prim.Native.Nat.{ℕ}
 use Rattle.wing_node.specs.Bool.{if}
 use Rattle.wing_node.specs.Utf8.{utf8}
-use Rattle.wing_node.specs.Refusal.{string_not_utf8, no_fault, because, is_refused, string_fault}
+use Rattle.wing_node.specs.Refusal.{string_not_utf8, no_fault, because, is_refused, string_fault, Fault}
 use Rattle.wing_node.specs.Result.{Result, ok, refused}
 use Rattle.wing_node.specs.declared.refusal.Refusal.{Refusal}
-use Rattle.wing_node.specs.declared.refusal.Fault.{Fault}
-use Rattle.wing_node.specs.declared.refusal.Fault.TheVariants.{None, Refused}
+use Rattle.std.specs.Prelude.{Ok, Err, IsErrAnd}
 
 -- the reason of a refusal, or another
 abbrev pub reason : {A : Type 0} → Refusal → Result A → Refusal
@@ -18,8 +17,13 @@ reason other (refused why) = why
 
 -- the reason of a fault, or another
 abbrev pub reason_of : Refusal → Fault → Refusal
-reason_of other None = other
-reason_of other (Refused why) = why
+reason_of other (Ok u) = other
+reason_of other (Err why) = why
+
+-- where a `?` returns, the result is the refusal that the call gave
+pub handed-on : {A : Type 0} (r : Result A) (why : Refusal) → IsErrAnd r (λ e. e ≡ why) → r ≡ Err why
+handed-on (Ok a) why h = absurd h
+handed-on (Err e) why h = ap Err h
 
 module _ (s : List ℕ) where
   pub string-right : string_fault s ≡ no_fault → utf8 s ≡ true

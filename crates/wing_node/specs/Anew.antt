@@ -1,5 +1,5 @@
 -- A body that was read and is written anew (02): the parser's answer as the writer's fields, and what the body lends.
-use Rattle.std.specs.Prelude.{ℕ, ◌-◌, ℤ, pos, List, [], take, drop}
+use Rattle.std.specs.Prelude.{ℕ, ◌-◌, ℤ, pos, List, [], take, drop, Ok, Err}
 use Rattle.wing_node.specs.Refusal.{no_fault}
 use Rattle.wing_node.specs.Cursor.{cursor, after}
 use Rattle.wing_node.specs.Types.{type_number, unit_number}
@@ -10,10 +10,8 @@ use Rattle.wing_node.specs.declared.node_type.NodeType.{NodeType}
 use Rattle.wing_node.specs.declared.definition.Details.{Details}
 use Rattle.wing_node.specs.declared.definition.Details.TheVariants.{None, Floats, Integers, Items, String as max_len}
 use Rattle.wing_node.specs.declared.definition.Definition.{Definition}
-use Rattle.wing_node.specs.declared.definition.Parsed.{Parsed}
-use Rattle.wing_node.specs.declared.definition.Parsed.TheVariants.{Good, Refused}
 use Rattle.wing_node.specs.declared.writer.Fields.{Fields}
-use Rattle.wing_node.specs.declared.writer.BodyWritten.TheVariants.{Refused as BodyRefused}
+use Rattle.wing_node.specs.Result.{Result}
 
 -- the fields of a definition that was read, with limits, steps, count and length
 abbrev pub fields_with : Definition → ℕ → ℕ → ℤ → ℤ → ℤ → ℕ → ℕ → Fields
@@ -64,9 +62,9 @@ lent_from body d =
     }
 
 -- written anew, or refused as the parser does
-abbrev pub anew_from : List ℕ → Parsed → List ℕ → BodyEffect
-anew_from body (Good d) out = body_of_fields (fields_of d) (lent_from body d) out
-anew_from body (Refused why) out = body_effect (BodyRefused why) out
+abbrev pub anew_from : List ℕ → Result Definition → List ℕ → BodyEffect
+anew_from body (Ok d) out = body_of_fields (fields_of d) (lent_from body d) out
+anew_from body (Err why) out = body_effect (Err why) out
 
 -- a body read and written anew
 unfoldable pub anew_of : List ℕ → List ℕ → BodyEffect

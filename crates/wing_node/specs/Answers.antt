@@ -1,33 +1,25 @@
 -- For each answer enum, 01's number and values. A string is its bytes in the body, not its place.
-use Rattle.std.specs.Prelude.{ℕ, ◌/◌, ◌%◌, Bool, ◌≡◌, List, eqb, ℤ, take, drop}
+use Rattle.std.specs.Prelude.{ℕ, ◌/◌, ◌%◌, Bool, ◌≡◌, List, eqb, ℤ, take, drop, Option, Some, None, Ok, Err}
 use Rattle.std.specs.Borrow.{Bor}
-use Rattle.wing_node.specs.Result.{Result, ok, refused}
+use Rattle.wing_node.specs.Result.{Result}
+use Rattle.wing_node.specs.declared.walker.Walker.{Walker}
+use Rattle.wing_node.specs.declared.value.StringRead.{StringRead}
 use Rattle.wing_node.specs.Signed.{signed}
 use Rattle.wing_node.specs.Types.{type_of, unit_of}
 use Rattle.wing_node.specs.Value.{NodeValue, MaybeString, no_string, some, string_in, answer_of}
 use Rattle.wing_node.specs.Definition.{FieldName, ParentId, Id, Index, Name, LongName, Flags, Min, Max, Steps, Count, MaxLen}
-use Rattle.wing_node.specs.Items.{walk, begin_of}
-use Rattle.wing_node.specs.Walker.{start_of, opened_of}
+use Rattle.wing_node.specs.Items.{begin_of}
+use Rattle.wing_node.specs.Walker.{opened_of}
 use Rattle.wing_node.specs.declared.node_type.NodeType.{NodeType}
 use Rattle.wing_node.specs.declared.node_type.NodeType.TheVariants.{Node, LinearFloat, LogarithmicFloat, FaderLevel, Integer, StringEnum, FloatEnum, String}
 use Rattle.wing_node.specs.declared.node_type.NodeUnit.{NodeUnit}
-use Rattle.wing_node.specs.declared.value.StringAnswer.{StringAnswer}
-use Rattle.wing_node.specs.declared.value.StringAnswer.TheVariants.{None as StringAnswer-as-None, String as StringAnswer-as-String}
 use Rattle.wing_node.specs.declared.definition.Span.{Span}
 use Rattle.wing_node.specs.declared.definition.Item.{Item}
-use Rattle.wing_node.specs.declared.definition.Item.TheVariants.{None as Item-as-None, Strings, Float, Refused as Item-as-Refused}
+use Rattle.wing_node.specs.declared.definition.Item.TheVariants.{Strings, Float}
 use Rattle.wing_node.specs.declared.definition.Details.{Details}
-use Rattle.wing_node.specs.declared.definition.Details.TheVariants.{None, Floats, Integers, Items, String as max_len}
+use Rattle.wing_node.specs.declared.definition.Details.TheVariants.{None as no_details, Floats, Integers, Items, String as max_len}
 use Rattle.wing_node.specs.declared.definition.Definition.{Definition}
-use Rattle.wing_node.specs.declared.definition.Parsed.{Parsed}
-use Rattle.wing_node.specs.declared.definition.Parsed.TheVariants.{Good, Refused}
 use Rattle.wing_node.specs.declared.items.Walk.{Walk}
-use Rattle.wing_node.specs.declared.items.Begun.{Begun}
-use Rattle.wing_node.specs.declared.items.Begun.TheVariants.{Good as Begun-as-Good, Refused as Begun-as-Refused}
-use Rattle.wing_node.specs.declared.walker.Opening.{Opening}
-use Rattle.wing_node.specs.declared.walker.Opening.TheVariants.{Good as Opening-as-Good, Refused as Opening-as-Refused}
-use Rattle.wing_node.specs.declared.walker.Start.{Start}
-use Rattle.wing_node.specs.declared.walker.Opened.{Opened}
 
 -- the bytes of a span
 abbrev pub bytes_at : List ℕ → Span → List ℕ
@@ -61,16 +53,16 @@ values_of body d =
     }
 
 -- 01: the definition, or its 4 or 5
-abbrev pub parsed_result : List ℕ → Parsed → Result DefinitionValues
-parsed_result body (Good d) = ok (values_of body d)
-parsed_result body (Refused why) = refused why
+abbrev pub parsed_result : List ℕ → Result Definition → Result DefinitionValues
+parsed_result body (Ok d) = Ok (values_of body d)
+parsed_result body (Err why) = Err why
 
 -- 01: types 1, 2: min, max, steps; 4: min, max; 5, 6: item count, then items, from a place on; 7: length. By the number of each field
 abbrev pub details_by : NodeType → (FieldName → ℕ) → ℕ → Details
-details_by Node v first = None
+details_by Node v first = no_details
 details_by LinearFloat v first = Floats (v Min) (v Max) (signed 31 (v Steps))
 details_by LogarithmicFloat v first = Floats (v Min) (v Max) (signed 31 (v Steps))
-details_by FaderLevel v first = None
+details_by FaderLevel v first = no_details
 details_by Integer v first = Integers (signed 31 (v Min)) (signed 31 (v Max))
 details_by StringEnum v first = Items (v Count) first
 details_by FloatEnum v first = Items (v Count) first
@@ -99,40 +91,25 @@ pub data ItemValues : Type 0 where
   float : ℕ → List ℕ → ItemValues
 
 -- 01: the item, none, or 4, 5 or 14
-abbrev pub item_result : List ℕ → Item → Result ItemValues
-item_result body Item-as-None = ok none
-item_result body (Strings a b) = ok (strings (bytes_at body a) (bytes_at body b))
-item_result body (Float bits b) = ok (float bits (bytes_at body b))
-item_result body (Item-as-Refused why) = refused why
+abbrev pub item_result : List ℕ → Result (Option Item) → Result ItemValues
+item_result body (Ok None) = Ok none
+item_result body (Ok (Some (Strings a b))) = Ok (strings (bytes_at body a) (bytes_at body b))
+item_result body (Ok (Some (Float bits b))) = Ok (float bits (bytes_at body b))
+item_result body (Err why) = Err why
 
--- 01: the walk (the place reached, the number of items left, the type), or 4 or 5
-abbrev pub begun_result : Begun → Result Walk
-begun_result (Begun-as-Good w) = ok w
-begun_result (Begun-as-Refused why) = refused why
+-- the walk of a walker that was begun, or 4 or 5
+abbrev pub opened_result : Result Walker → Result Walk
+opened_result (Ok w) = Ok w.walk
+opened_result (Err why) = Err why
 
--- the same, of the walker's opening and the walk beside it
-abbrev pub opening_result : Opening → Walk → Result Walk
-opening_result Opening-as-Good w = ok w
-opening_result (Opening-as-Refused why) w = refused why
-
--- of a walker that was begun
-abbrev pub opened_result : Opened → Result Walk
-opened_result o = opening_result o.opening (walk o.walker.at o.walker.left o.walker.kind)
-
--- of a walk that was begun on plain numbers
-abbrev pub start_result : Start → Result Walk
-start_result p = opening_result p.opening (walk p.at p.left p.kind)
-
--- 01: the string, or none; its bytes are at the front of the array beside the answer
-abbrev pub string_result : StringAnswer → List ℕ → MaybeString
-string_result StringAnswer-as-None bytes = no_string
-string_result (StringAnswer-as-String n) bytes = some (take n bytes)
+-- 01: the string, or none; its bytes are at the front of the array beside its length
+abbrev pub string_result : Option StringRead → MaybeString
+string_result None = no_string
+string_result (Some r) = some (take r.len r.bytes)
 
 -- the walker begins with the walk of the plain call, and the string getter gives 01's string
 pub record AnswersAgree : Type 0 where
   -- 01: beginning gives a walk at the first item, or 4 or 5
-  pub opened : (body : Bor (List ℕ)) → opened_result (opened_of body) ≡ begun_result (begin_of body.now)
-  -- the same on plain numbers
-  pub started : (body : List ℕ) → start_result (start_of (begin_of body)) ≡ begun_result (begin_of body)
+  pub opened : (body : Bor (List ℕ)) → opened_result (opened_of body) ≡ begin_of body.now
   -- 01: the string getter gives the string, an integer's decimal, and none for a float
-  pub string : (v : NodeValue) → string_result (answer_of (string_in v)).answer (answer_of (string_in v)).bytes ≡ string_in v
+  pub string : (v : NodeValue) → string_result (answer_of (string_in v)) ≡ string_in v

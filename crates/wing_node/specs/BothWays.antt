@@ -1,7 +1,6 @@
 -- The writer and the parser (02): what is written reads back as the fields that were given, and a body that was read and is written anew has the
 -- same bytes exactly when its flags are canonical and nothing follows its last field.
-use Rattle.std.specs.Prelude.{ℕ, ◌+◌, ◌-◌, ◌/◌, ◌%◌, ◌^◌, ◌≤◌, ◌<◌, ◌≡◌, ◌↔◌, List, [], ◌∷◌, map, eqb, length, take, drop, get_or}
-use Rattle.wing_node.specs.Refusal.{alone}
+use Rattle.std.specs.Prelude.{ℕ, ◌+◌, ◌-◌, ◌/◌, ◌%◌, ◌^◌, ◌≤◌, ◌<◌, ◌≡◌, ◌↔◌, List, [], ◌∷◌, map, eqb, length, take, drop, get_or, Ok}
 use Rattle.wing_node.specs.Result.{Result, ok, refused}
 use Rattle.wing_node.specs.Signed.{InBits}
 use Rattle.wing_node.specs.Field.{bytes_of}
@@ -18,8 +17,8 @@ use Rattle.wing_node.specs.declared.node_type.NodeType.TheVariants.{Node, Linear
 use Rattle.wing_node.specs.declared.definition.Details.{Details}
 use Rattle.wing_node.specs.declared.definition.Details.TheVariants.{None, Floats, Integers, Items, String as max_len}
 use Rattle.wing_node.specs.declared.definition.Definition.{Definition}
-use Rattle.wing_node.specs.declared.definition.Parsed.TheVariants.{Good}
 use Rattle.wing_node.specs.declared.writer.Fields.{Fields}
+use Rattle.wing_node.specs.declared.refusal.Refusal.TheVariants.{BodyLong, OutputShort}
 
 -- 02: those its type lacks left out. What each type has of the given fields; items begin at `first`
 abbrev pub details_given : NodeType → Fields → ℕ → Details
@@ -117,7 +116,7 @@ gives e = body_result e.answer e.out
 -- a body of bytes, and what the parser answers to it
 pub record Reading (body : List ℕ) (d : Definition) : Type 0 where
   pub bytes : (i : ℕ) → get_or body i 0 < 256
-  pub answer : definition_of body ≡ Good d
+  pub answer : definition_of body ≡ Ok d
 
 -- both directions, for all eight types
 pub record BothWays : Type 0 where
@@ -128,6 +127,6 @@ pub record BothWays : Type 0 where
   pub anew : (body out : List ℕ) (d : Definition) → Reading body d → extent (all_fields body) body ≤ 4096 → extent (all_fields body) body ≤ length out →
       WrittenAnew body (gives (body_of_fields (fields_of d) (lent_from body d) out))
   -- else it is 2 or 9
-  pub long : (body out : List ℕ) (d : Definition) → Reading body d → 4096 < extent (all_fields body) body → gives (body_of_fields (fields_of d) (lent_from body d) out) ≡ refused (alone 2)
+  pub long : (body out : List ℕ) (d : Definition) → Reading body d → 4096 < extent (all_fields body) body → gives (body_of_fields (fields_of d) (lent_from body d) out) ≡ refused BodyLong
   pub short : (body out : List ℕ) (d : Definition) → Reading body d → extent (all_fields body) body ≤ 4096 → length out < extent (all_fields body) body →
-      gives (body_of_fields (fields_of d) (lent_from body d) out) ≡ refused (alone 9)
+      gives (body_of_fields (fields_of d) (lent_from body d) out) ≡ refused OutputShort

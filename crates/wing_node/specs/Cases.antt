@@ -1,7 +1,6 @@
 -- 01's worked case: a node definition of 15 bytes with a one-letter name passes, and 14 bytes give 4. From its fields these bytes are written (02).
 -- Then four tables of cases: what each type adds, read and, from the same fields (02), written; its items; and RFC 3629's grammar at the ends of its rows.
-use Rattle.std.specs.Prelude.{ℕ, ◌≡◌, refl, Bool, true, false, List, [], ◌∷◌, map, take, ℤ, pos, negsuc}
-use Rattle.wing_node.specs.Refusal.{alone}
+use Rattle.std.specs.Prelude.{ℕ, ◌≡◌, refl, Bool, true, false, List, [], ◌∷◌, map, take, ℤ, pos, negsuc, Ok, Err, Some, Option}
 use Rattle.wing_node.specs.Digits.{number_from, number_in, digits_in}
 use Rattle.wing_node.specs.Utf8.{holds, begins, first_that, char_length, good_from, good, utf8}
 use Rattle.wing_node.specs.Types.{type_of, unit_of}
@@ -16,19 +15,19 @@ use Rattle.wing_node.specs.declared.node_type.NodeUnit.{NodeUnit}
 use Rattle.wing_node.specs.declared.node_type.NodeUnit.TheVariants.{None as no_unit, Db, Percent, Milliseconds, Hertz, Meters, Seconds, Octaves}
 use Rattle.wing_node.specs.declared.definition.Span.{Span}
 use Rattle.wing_node.specs.declared.definition.Item.{Item}
-use Rattle.wing_node.specs.declared.definition.Item.TheVariants.{Strings, Float, Refused as Item-as-Refused}
+use Rattle.wing_node.specs.declared.definition.Item.TheVariants.{Strings, Float}
 use Rattle.wing_node.specs.declared.definition.Details.{Details}
 use Rattle.wing_node.specs.declared.definition.Details.TheVariants.{None, Floats, Integers, Items, String as max_len}
-use Rattle.wing_node.specs.declared.refusal.Refusal.TheVariants.{DefinitionNotUtf8}
-use Rattle.wing_node.specs.declared.definition.Parsed.{Parsed}
-use Rattle.wing_node.specs.declared.definition.Parsed.TheVariants.{Good, Refused}
+use Rattle.wing_node.specs.declared.refusal.Refusal.TheVariants.{DefinitionNotUtf8, DefinitionShort, NumberOver}
 use Rattle.wing_node.specs.declared.writer.Fields.{Fields}
+use Rattle.wing_node.specs.Result.{Result}
+use Rattle.wing_node.specs.declared.definition.Definition.{Definition}
 
 -- 01's definition of 15 bytes
 abbrev pub fifteen : List ℕ
 fifteen = 0 ∷ 0 ∷ 0 ∷ 1 ∷ 255 ∷ 255 ∷ 255 ∷ 254 ∷ 0 ∷ 7 ∷ 1 ∷ 65 ∷ 0 ∷ 2 ∷ 1 ∷ []
 
-pub passes : definition_of fifteen ≡ Good (record {
+pub passes : definition_of fifteen ≡ Ok (record {
   parent_id = pos 1;
   id = negsuc 1;
   index = 7;
@@ -61,17 +60,17 @@ pub written : body_given (record {
 unfolding digits_in type_of laid laid_all body_given
 written = refl
 
-pub short : definition_of (take 14 fifteen) ≡ Refused (alone 4)
+pub short : definition_of (take 14 fifteen) ≡ Err DefinitionShort
 unfolding number_from number_in holds begins first_that char_length good_from good utf8 type_of unit_of size content right held_fault fault value_of content_at read_at reads after definition_of details_at times
 short = refl
 
 -- the first failing field counts: a name that is not UTF-8 comes before fields that are missing
-pub wrong : definition_of (0 ∷ 0 ∷ 0 ∷ 1 ∷ 0 ∷ 0 ∷ 0 ∷ 2 ∷ 0 ∷ 7 ∷ 1 ∷ 200 ∷ []) ≡ Refused (DefinitionNotUtf8 0)
+pub wrong : definition_of (0 ∷ 0 ∷ 0 ∷ 1 ∷ 0 ∷ 0 ∷ 0 ∷ 2 ∷ 0 ∷ 7 ∷ 1 ∷ 200 ∷ []) ≡ Err (DefinitionNotUtf8 0)
 unfolding number_from number_in holds begins first_that char_length good_from good utf8 type_of unit_of size content right held_fault fault value_of content_at read_at reads after definition_of details_at times
 wrong = refl
 
 -- in a field the length comes before UTF-8
-pub past_end : definition_of (0 ∷ 0 ∷ 0 ∷ 1 ∷ 0 ∷ 0 ∷ 0 ∷ 2 ∷ 0 ∷ 7 ∷ 2 ∷ 200 ∷ []) ≡ Refused (alone 4)
+pub past_end : definition_of (0 ∷ 0 ∷ 0 ∷ 1 ∷ 0 ∷ 0 ∷ 0 ∷ 2 ∷ 0 ∷ 7 ∷ 2 ∷ 200 ∷ []) ≡ Err DefinitionShort
 unfolding number_from number_in holds begins first_that char_length good_from good utf8 type_of unit_of size content right held_fault fault value_of content_at read_at reads after definition_of details_at times
 past_end = refl
 
@@ -89,7 +88,7 @@ AsWanted {A} cs = map (λ (c : Case A). c.got) cs ≡ map (λ (c : Case A). c.wa
 -- ---- definitions read
 
 -- a body and what the parser says of it
-abbrev pub parses : List ℕ → Parsed → Case Parsed
+abbrev pub parses : List ℕ → Result Definition → Case (Result Definition)
 parses body answer = record { got = definition_of body; wanted = answer }
 
 -- a string by its start in the body and its length
@@ -101,9 +100,9 @@ abbrev pub node_two : ℕ → ℕ → List ℕ → List ℕ
 node_two high low rest = 0 ∷ 0 ∷ 0 ∷ 1 ∷ 0 ∷ 0 ∷ 0 ∷ 2 ∷ 0 ∷ 7 ∷ 0 ∷ 0 ∷ high ∷ low ∷ rest
 
 -- what it says
-abbrev pub is_two : NodeType → NodeUnit → Bool → Details → Parsed
+abbrev pub is_two : NodeType → NodeUnit → Bool → Details → Result Definition
 is_two type unit read_only details =
-    Good (record {
+    Ok (record {
       parent_id = pos 1;
       id = pos 2;
       index = 7;
@@ -115,10 +114,10 @@ is_two type unit read_only details =
       details = details;
     })
 
-unfoldable pub definitions : List (Case Parsed)
+unfoldable pub definitions : List (Case (Result Definition))
 definitions =
     -- 01: 15 bytes with a one-letter name
-    parses fifteen (Good (record {
+    parses fifteen (Ok (record {
       parent_id = pos 1;
       id = negsuc 1;
       index = 7;
@@ -130,17 +129,17 @@ definitions =
       details = None;
     })) ∷
     -- 01: 14 bytes give 4
-    parses (take 14 fifteen) (Refused (alone 4)) ∷
+    parses (take 14 fifteen) (Err DefinitionShort) ∷
     -- the first failing field counts: a name that is not UTF-8 comes before fields that are missing
-    parses (0 ∷ 0 ∷ 0 ∷ 1 ∷ 0 ∷ 0 ∷ 0 ∷ 2 ∷ 0 ∷ 7 ∷ 1 ∷ 200 ∷ []) (Refused (DefinitionNotUtf8 0)) ∷
+    parses (0 ∷ 0 ∷ 0 ∷ 1 ∷ 0 ∷ 0 ∷ 0 ∷ 2 ∷ 0 ∷ 7 ∷ 1 ∷ 200 ∷ []) (Err (DefinitionNotUtf8 0)) ∷
     -- 02: three bytes of it are good
-    parses (0 ∷ 0 ∷ 0 ∷ 1 ∷ 0 ∷ 0 ∷ 0 ∷ 2 ∷ 0 ∷ 7 ∷ 4 ∷ 0x41 ∷ 0xc3 ∷ 0xa9 ∷ 0x80 ∷ []) (Refused (DefinitionNotUtf8 3)) ∷
+    parses (0 ∷ 0 ∷ 0 ∷ 1 ∷ 0 ∷ 0 ∷ 0 ∷ 2 ∷ 0 ∷ 7 ∷ 4 ∷ 0x41 ∷ 0xc3 ∷ 0xa9 ∷ 0x80 ∷ []) (Err (DefinitionNotUtf8 3)) ∷
     -- in a field the length comes before UTF-8
-    parses (0 ∷ 0 ∷ 0 ∷ 1 ∷ 0 ∷ 0 ∷ 0 ∷ 2 ∷ 0 ∷ 7 ∷ 2 ∷ 200 ∷ []) (Refused (alone 4)) ∷
+    parses (0 ∷ 0 ∷ 0 ∷ 1 ∷ 0 ∷ 0 ∷ 0 ∷ 2 ∷ 0 ∷ 7 ∷ 2 ∷ 200 ∷ []) (Err DefinitionShort) ∷
     -- type 1: min, max, steps
     parses (node_two 0 0x12 (0xc1 ∷ 0x90 ∷ 0x00 ∷ 0x00 ∷ 0x41 ∷ 0x90 ∷ 0x00 ∷ 0x00 ∷ 0xff ∷ 0xff ∷ 0xff ∷ 0xfe ∷ [])) (is_two LinearFloat Percent false (Floats 0xc1900000 0x41900000 (negsuc 1))) ∷
     -- a byte less
-    parses (node_two 0 0x12 (0xc1 ∷ 0x90 ∷ 0x00 ∷ 0x00 ∷ 0x41 ∷ 0x90 ∷ 0x00 ∷ 0x00 ∷ 0xff ∷ 0xff ∷ 0xff ∷ [])) (Refused (alone 4)) ∷
+    parses (node_two 0 0x12 (0xc1 ∷ 0x90 ∷ 0x00 ∷ 0x00 ∷ 0x41 ∷ 0x90 ∷ 0x00 ∷ 0x00 ∷ 0xff ∷ 0xff ∷ 0xff ∷ [])) (Err DefinitionShort) ∷
     -- type 2: the same
     parses (node_two 0 0x23 (0x41 ∷ 0xa0 ∷ 0x00 ∷ 0x00 ∷ 0x46 ∷ 0x9c ∷ 0x40 ∷ 0x00 ∷ 0x00 ∷ 0x00 ∷ 0x00 ∷ 0x78 ∷ [])) (is_two LogarithmicFloat Milliseconds false (Floats 0x41a00000 0x469c4000 (pos 120))) ∷
     -- type 3 adds nothing; later bytes are ignored
@@ -150,7 +149,7 @@ definitions =
     -- type 5: a count, and its items from 16 on
     parses (node_two 2 0x56 (0 ∷ 1 ∷ 1 ∷ 67 ∷ 2 ∷ 68 ∷ 69 ∷ [])) (is_two StringEnum Seconds true (Items 1 16)) ∷
     -- its item's long string is not UTF-8: one byte is good
-    parses (node_two 0 0x50 (0 ∷ 1 ∷ 1 ∷ 67 ∷ 2 ∷ 68 ∷ 0xc3 ∷ [])) (Refused (DefinitionNotUtf8 1)) ∷
+    parses (node_two 0 0x50 (0 ∷ 1 ∷ 1 ∷ 67 ∷ 2 ∷ 68 ∷ 0xc3 ∷ [])) (Err (DefinitionNotUtf8 1)) ∷
     -- type 6
     parses (node_two 0 0x67 (0 ∷ 1 ∷ 0x3f ∷ 0x80 ∷ 0 ∷ 0 ∷ 1 ∷ 68 ∷ [])) (is_two FloatEnum Octaves false (Items 1 16)) ∷
     -- type 7: a length
@@ -165,22 +164,22 @@ definitions =
 -- ---- items
 
 -- a body, an item's number and what is answered
-abbrev pub holds_item : List ℕ → ℕ → Item → Case Item
+abbrev pub holds_item : List ℕ → ℕ → Result (Option Item) → Case (Result (Option Item))
 holds_item body number answer = record { got = item_numbered body number; wanted = answer }
 
 -- two items of two strings: C and DE, none and F
 abbrev pub two_items : List ℕ
 two_items = node_two 0 0x50 (0 ∷ 2 ∷ 1 ∷ 67 ∷ 2 ∷ 68 ∷ 69 ∷ 0 ∷ 1 ∷ 70 ∷ [])
 
-unfoldable pub items : List (Case Item)
+unfoldable pub items : List (Case (Result (Option Item)))
 items =
     -- a short and a long string
-    holds_item two_items 0 (Strings (span 17 1) (span 19 2)) ∷
-    holds_item two_items 1 (Strings (span 22 0) (span 23 1)) ∷
+    holds_item two_items 0 (Ok (Some (Strings (span 17 1) (span 19 2)))) ∷
+    holds_item two_items 1 (Ok (Some (Strings (span 22 0) (span 23 1)))) ∷
     -- 01: a number not below the count is 14
-    holds_item two_items 2 (Item-as-Refused (alone 14)) ∷
+    holds_item two_items 2 (Err NumberOver) ∷
     -- float bits and a string
-    holds_item (node_two 0 0x60 (0 ∷ 1 ∷ 0x3f ∷ 0x80 ∷ 0 ∷ 0 ∷ 1 ∷ 68 ∷ [])) 0 (Float 0x3f800000 (span 21 1)) ∷ []
+    holds_item (node_two 0 0x60 (0 ∷ 1 ∷ 0x3f ∷ 0x80 ∷ 0 ∷ 0 ∷ 1 ∷ 68 ∷ [])) 0 (Ok (Some (Float 0x3f800000 (span 21 1)))) ∷ []
 
 -- ---- definitions written
 

@@ -3,12 +3,12 @@
 use Rattle.std.specs.Prelude.{ℕ, ◌+◌, Bool, true, List, [], ◌∷◌, ltb, length, take, drop, get_or}
 use Rattle.wing_node.specs.Bool.{if}
 use Rattle.wing_node.specs.Utf8.{utf8}
-use Rattle.wing_node.specs.Refusal.{definition_not_utf8, no_fault, because, by_number, is_refused}
+use Rattle.wing_node.specs.Refusal.{Fault, definition_not_utf8, no_fault, because, is_refused}
 use Rattle.wing_node.specs.Field.{big}
-use Rattle.wing_node.specs.declared.refusal.Fault.{Fault}
 use Rattle.wing_node.specs.declared.cursor.Cursor.{Cursor}
 use Rattle.wing_node.specs.declared.cursor.FieldRead.{FieldRead}
 use Rattle.wing_node.specs.declared.cursor.ShortRead.{ShortRead}
+use Rattle.wing_node.specs.declared.refusal.Refusal.TheVariants.{DefinitionShort}
 
 -- 01: a field is a number of so many bytes, or a string: its length in one byte, then its bytes
 pub data Field : Type 0 where
@@ -36,7 +36,7 @@ held_fault f s = if (right f s) no_fault (because (definition_not_utf8 (content 
 
 -- why the field is refused: 4 past the end, 5 not UTF-8; the length comes before UTF-8
 unfoldable pub fault : Field → List ℕ → Fault
-fault f s = if (ltb (length s) (size f s)) (by_number 4) (held_fault f s)
+fault f s = if (ltb (length s) (size f s)) (because DefinitionShort) (held_fault f s)
 
 -- its number: a string's is its length
 unfoldable pub value_of : Field → List ℕ → ℕ

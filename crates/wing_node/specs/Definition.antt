@@ -1,25 +1,23 @@
 -- A definition: which fields stand in a body in which order, and what they say.
-use Rattle.std.specs.Prelude.{ℕ, zero, suc, ◌/◌, ◌%◌, List, [], ◌∷◌, ◌++◌, map, eqb, get_or}
+use Rattle.std.specs.Prelude.{ℕ, zero, suc, ◌/◌, ◌%◌, List, [], ◌∷◌, ◌++◌, map, eqb, get_or, Option, Some, None, Ok, Err}
 use Rattle.wing_node.specs.Bool.{if}
 use Rattle.wing_node.specs.Signed.{signed}
 use Rattle.wing_node.specs.Cursor.{Field, number, string, start, nothing, read_at, reads, after}
 use Rattle.wing_node.specs.Types.{type_of, unit_of}
-use Rattle.wing_node.specs.declared.refusal.Fault.{Fault}
-use Rattle.wing_node.specs.declared.refusal.Fault.TheVariants.{None, Refused as Because}
 use Rattle.wing_node.specs.declared.cursor.Cursor.{Cursor}
 use Rattle.wing_node.specs.declared.cursor.FieldRead.{FieldRead}
 use Rattle.wing_node.specs.declared.node_type.NodeType.{NodeType}
 use Rattle.wing_node.specs.declared.node_type.NodeType.TheVariants.{Node, LinearFloat, LogarithmicFloat, FaderLevel, Integer, StringEnum, FloatEnum, String}
 use Rattle.wing_node.specs.declared.definition.Span.{Span}
 use Rattle.wing_node.specs.declared.definition.Item.{Item}
-use Rattle.wing_node.specs.declared.definition.Item.TheVariants.{None as no_item, Strings, Float}
+use Rattle.wing_node.specs.declared.definition.Item.TheVariants.{Strings, Float}
 use Rattle.wing_node.specs.declared.definition.ItemRead.{ItemRead}
 use Rattle.wing_node.specs.declared.definition.Details.{Details}
 use Rattle.wing_node.specs.declared.definition.Details.TheVariants.{None as no_details, Floats, Integers, Items, String as max_len}
 use Rattle.wing_node.specs.declared.definition.DetailsRead.{DetailsRead}
-use Rattle.wing_node.specs.declared.definition.Parsed.{Parsed}
-use Rattle.wing_node.specs.declared.definition.Parsed.TheVariants.{Good, Refused}
 use Rattle.wing_node.specs.declared.definition.Definition.{Definition}
+use Rattle.wing_node.specs.Refusal.{Fault}
+use Rattle.wing_node.specs.Result.{Result}
 
 -- the fields of a definition by name
 pub data FieldName : Type 0 where
@@ -121,15 +119,15 @@ abbrev pub nth : List FieldRead → ℕ → FieldRead
 nth rs k = get_or rs k (nothing start)
 
 -- what an item's fields say
-abbrev pub item_from : NodeType → List FieldRead → Item
-item_from Node rs = no_item
-item_from LinearFloat rs = no_item
-item_from LogarithmicFloat rs = no_item
-item_from FaderLevel rs = no_item
-item_from Integer rs = no_item
-item_from StringEnum rs = Strings (span_of (nth rs 0)) (span_of (nth rs 1))
-item_from FloatEnum rs = Float (nth rs 0).value (span_of (nth rs 1))
-item_from String rs = no_item
+abbrev pub item_from : NodeType → List FieldRead → Option Item
+item_from Node rs = None
+item_from LinearFloat rs = None
+item_from LogarithmicFloat rs = None
+item_from FaderLevel rs = None
+item_from Integer rs = None
+item_from StringEnum rs = Some (Strings (span_of (nth rs 0)) (span_of (nth rs 1)))
+item_from FloatEnum rs = Some (Float (nth rs 0).value (span_of (nth rs 1)))
+item_from String rs = None
 
 -- the item at a cursor, and the cursor after it
 unfoldable pub item_at : NodeType → List ℕ → Cursor → ItemRead
@@ -180,12 +178,12 @@ definition_from f details =
     }
 
 -- 01: 4 or 5 by the first field that fails, else the definition
-abbrev pub parsed_from : Fault → Definition → Parsed
-parsed_from None d = Good d
-parsed_from (Because why) d = Refused why
+abbrev pub parsed_from : Fault → Definition → Result Definition
+parsed_from (Ok u) d = Ok d
+parsed_from (Err why) d = Err why
 
 -- the definition, or the refusal of the first failing field. 01: later bytes are ignored
-unfoldable pub definition_of : List ℕ → Parsed
+unfoldable pub definition_of : List ℕ → Result Definition
 definition_of body =
     let f = named header body start in
     let found = details_at (kind_from f) body (past header body start) in

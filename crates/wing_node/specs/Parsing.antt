@@ -2,13 +2,13 @@
 use Rattle.std.specs.Prelude.{ℕ, zero, suc, ◌+◌, ◌-◌, ◌≤◌, ◌<◌, true, false, ◌≡◌, ◌↔◌, ◌⊎◌, List, drop}
 use Rattle.wing_node.specs.Result.{Result, ok, refused}
 use Rattle.wing_node.specs.declared.refusal.Refusal.{Refusal}
-use Rattle.wing_node.specs.declared.refusal.Refusal.TheVariants.{DefinitionNotUtf8}
-use Rattle.wing_node.specs.Refusal.{alone, good_beside}
+use Rattle.wing_node.specs.declared.refusal.Refusal.TheVariants.{DefinitionNotUtf8, DefinitionShort, NumberOver}
+use Rattle.wing_node.specs.Refusal.{good_beside}
 use Rattle.wing_node.specs.Types.{has_items}
 use Rattle.wing_node.specs.Definition.{item_of, definition_of}
 use Rattle.wing_node.specs.Items.{walk, begin_of, step_at, item_numbered}
 use Rattle.wing_node.specs.Standing.{PastEnd, NotUtf8, Stand, StopsAt, extent}
-use Rattle.wing_node.specs.Answers.{DefinitionValues, ItemValues, none, strings, float, parsed_result, begun_result, item_result}
+use Rattle.wing_node.specs.Answers.{DefinitionValues, ItemValues, none, strings, float, parsed_result, item_result}
 use Rattle.wing_node.specs.InBody.{count_in, all_fields, definition_in, walk_in, item_in, item_in_body}
 use Rattle.wing_node.specs.declared.items.Walk.{Walk}
 use Rattle.wing_node.specs.declared.items.Step.{Step}
@@ -25,12 +25,12 @@ pub record Takes (body : List ℕ) : Type 0 where
 
 -- 4, or 5 with a good
 abbrev pub FourOrFive : Refusal → Type 0
-FourOrFive why = (why ≡ alone 4) ⊎ (why ≡ DefinitionNotUtf8 (good_beside why))
+FourOrFive why = (why ≡ DefinitionShort) ⊎ (why ≡ DefinitionNotUtf8 (good_beside why))
 
 -- the parser. 01: in a definition the first failing field counts, length before UTF-8
 pub record Parsing (body : List ℕ) : Type 0 where
   -- 01: definition field past the end, 4
-  pub past_end : (parser_says body ≡ refused (alone 4)) ↔ StopsAt PastEnd (all_fields body) body
+  pub past_end : (parser_says body ≡ refused DefinitionShort) ↔ StopsAt PastEnd (all_fields body) body
   -- 01: definition string not UTF-8, 5; 02: with the good of that string
   pub not_utf8 : (g : ℕ) → (parser_says body ≡ refused (DefinitionNotUtf8 g)) ↔ StopsAt (NotUtf8 g) (all_fields body) body
   -- no other refusal
@@ -42,7 +42,7 @@ pub record Parsing (body : List ℕ) : Type 0 where
 
 -- what beginning a walk answers
 abbrev pub begin_says : List ℕ → Result Walk
-begin_says body = begun_result (begin_of body)
+begin_says body = begin_of body
 
 -- beginning a walk
 pub record Beginning (body : List ℕ) : Type 0 where
@@ -75,7 +75,7 @@ pub record Stepping (body : List ℕ) (w : Walk) : Type 0 where
   -- none, exactly then
   pub nothing : (step_says body w ≡ ok none) ↔ ((w.left ≡ 0) ⊎ (has_items w.kind ≡ false))
   -- 4: a field of the item is past the end
-  pub past_end : (step_says body w ≡ refused (alone 4)) ↔ (Left w × StopsAt PastEnd (item_of w.kind) (drop w.at body))
+  pub past_end : (step_says body w ≡ refused DefinitionShort) ↔ (Left w × StopsAt PastEnd (item_of w.kind) (drop w.at body))
   -- 5: a string of it is not UTF-8; 02: with its good
   pub not_utf8 : (g : ℕ) → (step_says body w ≡ refused (DefinitionNotUtf8 g)) ↔ (Left w × StopsAt (NotUtf8 g) (item_of w.kind) (drop w.at body))
   -- no other refusal
@@ -96,7 +96,7 @@ number_says body n = item_result body (item_numbered body n)
 -- the item of a number
 pub record ByNumber (body : List ℕ) (n : ℕ) : Type 0 where
   -- 01: a body that the parser refuses gives its 4 or 5 before 14; 14: item number not below its count
-  pub refusals : (why : Refusal) → (number_says body n ≡ refused why) ↔ ((parser_says body ≡ refused why) ⊎ (Takes body × (count_in body ≤ n) × (why ≡ alone 14)))
+  pub refusals : (why : Refusal) → (number_says body n ≡ refused why) ↔ ((parser_says body ≡ refused why) ⊎ (Takes body × (count_in body ≤ n) × (why ≡ NumberOver)))
   -- else an item
   pub given : Takes body → n < count_in body → IsItem (number_says body n)
   -- and it says what the item of that number holds

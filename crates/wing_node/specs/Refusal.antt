@@ -1,27 +1,77 @@
 -- Why a call is sent back. 01: with a number; 02: beside 1 and 5 stands the good of the string that is not UTF-8.
-use Rattle.std.specs.Prelude.{ℕ, Bool, true, false, List}
+use Rattle.std.specs.Prelude.{ℕ, Bool, List, is_err, Ok, Err}
+use Rattle.std.specs.Result.{result_and}
 use Rattle.wing_node.specs.Bool.{if}
 use Rattle.wing_node.specs.Utf8.{good, utf8}
+use Rattle.wing_node.specs.Result.{Result}
 use Rattle.wing_node.specs.declared.refusal.Refusal.{Refusal}
-use Rattle.wing_node.specs.declared.refusal.Refusal.TheVariants.{Number, StringNotUtf8, DefinitionNotUtf8}
-use Rattle.wing_node.specs.declared.refusal.Fault.{Fault}
-use Rattle.wing_node.specs.declared.refusal.Fault.TheVariants.{None, Refused}
+use Rattle.wing_node.specs.declared.refusal.Refusal.TheVariants.{StringNotUtf8, DefinitionNotUtf8, BodyLong, BodyEmpty, DefinitionShort, NoPlace, TableUnsound, StateUnsound, OutputShort, StringLong, MetersOver, MeterIdLast, PacketSize, NumberOver, NameLong, FieldsUnfit, LineWrong, IdNotAbove, WidthWrong}
 
--- 01's number: string not UTF-8 is 1, definition string not UTF-8 is 5
+-- 01's and 02's number of each
 abbrev pub refusal_number : Refusal → ℕ
-refusal_number (Number n) = n
 refusal_number (StringNotUtf8 g) = 1
+refusal_number BodyLong = 2
+refusal_number BodyEmpty = 3
+refusal_number DefinitionShort = 4
 refusal_number (DefinitionNotUtf8 g) = 5
+refusal_number NoPlace = 6
+refusal_number TableUnsound = 7
+refusal_number StateUnsound = 8
+refusal_number OutputShort = 9
+refusal_number StringLong = 10
+refusal_number MetersOver = 11
+refusal_number MeterIdLast = 12
+refusal_number PacketSize = 13
+refusal_number NumberOver = 14
+refusal_number NameLong = 15
+refusal_number FieldsUnfit = 16
+refusal_number LineWrong = 17
+refusal_number IdNotAbove = 18
+refusal_number WidthWrong = 19
 
--- 02: the good that stands beside 1 and 5; a number alone has none, 0
+-- 02: the good that stands beside 1 and 5; the others have none, 0
 abbrev pub good_beside : Refusal → ℕ
-good_beside (Number n) = 0
 good_beside (StringNotUtf8 g) = g
+good_beside BodyLong = 0
+good_beside BodyEmpty = 0
+good_beside DefinitionShort = 0
 good_beside (DefinitionNotUtf8 g) = g
+good_beside NoPlace = 0
+good_beside TableUnsound = 0
+good_beside StateUnsound = 0
+good_beside OutputShort = 0
+good_beside StringLong = 0
+good_beside MetersOver = 0
+good_beside MeterIdLast = 0
+good_beside PacketSize = 0
+good_beside NumberOver = 0
+good_beside NameLong = 0
+good_beside FieldsUnfit = 0
+good_beside LineWrong = 0
+good_beside IdNotAbove = 0
+good_beside WidthWrong = 0
 
--- a number alone
-abbrev pub alone : ℕ → Refusal
-alone n = Number n
+-- the refusal by its number alone: the good set aside, 0
+abbrev pub good_aside : Refusal → Refusal
+good_aside (StringNotUtf8 g) = StringNotUtf8 0
+good_aside BodyLong = BodyLong
+good_aside BodyEmpty = BodyEmpty
+good_aside DefinitionShort = DefinitionShort
+good_aside (DefinitionNotUtf8 g) = DefinitionNotUtf8 0
+good_aside NoPlace = NoPlace
+good_aside TableUnsound = TableUnsound
+good_aside StateUnsound = StateUnsound
+good_aside OutputShort = OutputShort
+good_aside StringLong = StringLong
+good_aside MetersOver = MetersOver
+good_aside MeterIdLast = MeterIdLast
+good_aside PacketSize = PacketSize
+good_aside NumberOver = NumberOver
+good_aside NameLong = NameLong
+good_aside FieldsUnfit = FieldsUnfit
+good_aside LineWrong = LineWrong
+good_aside IdNotAbove = IdNotAbove
+good_aside WidthWrong = WidthWrong
 
 -- 1, of a string of the wire or to be set, with its good
 abbrev pub string_not_utf8 : List ℕ → Refusal
@@ -31,27 +81,25 @@ string_not_utf8 s = StringNotUtf8 (good s)
 abbrev pub definition_not_utf8 : List ℕ → Refusal
 definition_not_utf8 s = DefinitionNotUtf8 (good s)
 
+-- whether something is at fault, and why
+abbrev pub Fault : Type 0
+Fault = Result (Unit {0})
+
 -- nothing is at fault
 abbrev pub no_fault : Fault
-no_fault = None
+no_fault = Ok tt
 
 -- something is, for this reason
 abbrev pub because : Refusal → Fault
-because why = Refused why
-
--- for a number alone
-abbrev pub by_number : ℕ → Fault
-by_number n = because (alone n)
+because why = Err why
 
 -- whether something is at fault
 abbrev pub is_refused : Fault → Bool
-is_refused None = false
-is_refused (Refused why) = true
+is_refused f = is_err f
 
 -- the first of two faults, if there is any
 abbrev pub first_fault : Fault → Fault → Fault
-first_fault None b = b
-first_fault (Refused why) b = Refused why
+first_fault a b = result_and a b
 
 -- 01: a string of the wire or to be set is UTF-8, or 1
 unfoldable pub string_fault : List ℕ → Fault

@@ -1,9 +1,8 @@
 -- Node values as 01 has them, and what the getters give.
-use Rattle.std.specs.Prelude.{ℕ, ◌-◌, List, ◌++◌, length, take, replicate, ℤ, pos}
+use Rattle.std.specs.Prelude.{ℕ, ◌-◌, List, ◌++◌, length, take, replicate, ℤ, pos, Option, Some, None}
 use Rattle.wing_node.specs.Decimal.{decimal}
 use Rattle.wing_node.specs.declared.value.Value.{Value}
 use Rattle.wing_node.specs.declared.value.Value.TheVariants.{Integer, Float, String}
-use Rattle.wing_node.specs.declared.value.StringAnswer.TheVariants.{None, String as found}
 use Rattle.wing_node.specs.declared.value.StringRead.{StringRead}
 
 -- a value: values are the same if their kinds are and their integers, float bits or string bytes are
@@ -36,6 +35,6 @@ string_in (float bits) = no_string
 string_in (string s) = some s
 
 -- the getter's answer: the length, with the bytes in an array of 256, zero-filled
-unfoldable pub answer_of : MaybeString → StringRead
-answer_of no_string = record { answer = None; bytes = replicate 256 0 }
-answer_of (some s) = record { answer = found (length s); bytes = s ++ replicate (256 - length s) 0 }
+unfoldable pub answer_of : MaybeString → Option StringRead
+answer_of no_string = None
+answer_of (some s) = Some (record { len = length s; bytes = s ++ replicate (256 - length s) 0 })

@@ -1,23 +1,20 @@
 -- A definition written (02): what each field of the body holds, when the fields are sent back, and what the call leaves.
-use Rattle.std.specs.Prelude.{ℕ, ◌+◌, ◌*◌, Bool, true, not, ◌≡◌, ◌⊎◌, List, [], ◌∷◌, ◌++◌, ltb, eqb, ℤ, length, take, drop}
+use Rattle.std.specs.Prelude.{ℕ, ◌+◌, ◌*◌, Bool, true, not, ◌≡◌, ◌⊎◌, List, [], ◌∷◌, ◌++◌, ltb, eqb, ℤ, length, take, drop, Ok, Err}
 use Rattle.wing_node.specs.Bool.{if, and, or}
 use Rattle.wing_node.specs.Result.{Result, ok, refused}
 use Rattle.wing_node.specs.Signed.{unsigned}
 use Rattle.wing_node.specs.Bytes.{placed}
 use Rattle.wing_node.specs.Field.{bytes_of}
-use Rattle.wing_node.specs.Refusal.{no_fault, by_number, is_refused, first_fault, text_fault}
+use Rattle.wing_node.specs.Refusal.{no_fault, is_refused, first_fault, text_fault, because, Fault}
 use Rattle.wing_node.specs.Types.{type_of, has_items}
 use Rattle.wing_node.specs.Cursor.{Field, size, held_fault}
 use Rattle.wing_node.specs.Standing.{Whole, extent}
 use Rattle.wing_node.specs.Written.{laid_by}
 use Rattle.wing_node.specs.Definition.{FieldName, ParentId, Id, Index, Name, LongName, Flags, Min, Max, Steps, Count, MaxLen, header, added, items_of}
-use Rattle.wing_node.specs.declared.refusal.Fault.{Fault}
-use Rattle.wing_node.specs.declared.refusal.Fault.TheVariants.{None, Refused as Because}
 use Rattle.wing_node.specs.declared.node_type.NodeType.{NodeType}
 use Rattle.wing_node.specs.declared.node_type.NodeType.TheVariants.{Node, LinearFloat, LogarithmicFloat, FaderLevel, Integer, StringEnum, FloatEnum, String}
 use Rattle.wing_node.specs.declared.writer.Fields.{Fields}
-use Rattle.wing_node.specs.declared.writer.BodyWritten.{BodyWritten}
-use Rattle.wing_node.specs.declared.writer.BodyWritten.TheVariants.{Bytes, Refused}
+use Rattle.wing_node.specs.declared.refusal.Refusal.TheVariants.{BodyLong, FieldsUnfit, NameLong, OutputShort}
 
 -- what is lent beside the fields: two names, and the items in their byte form
 pub record Lent : Type 0 where
@@ -102,25 +99,25 @@ all_texts_fault d l = first_fault (text_fault l.name) (first_fault (text_fault l
 
 -- 02: the writer's order is 15, 16, 5, 2, 9; the first three of them
 unfoldable pub lent_fault : Fields → Lent → Fault
-lent_fault d l = if (too_long l) (by_number 15) (if (unfit d.node_type d.unit d.count l.items) (by_number 16) (all_texts_fault d l))
+lent_fault d l = if (too_long l) (because NameLong) (if (unfit d.node_type d.unit d.count l.items) (because FieldsUnfit) (all_texts_fault d l))
 
 -- why a body of these bytes is not written into this output: over 4,096 bytes, an output too short
 unfoldable pub room_fault : List ℕ → List ℕ → Fault
-room_fault body out = if (ltb 4096 (length body)) (by_number 2) (if (ltb (length out) (length body)) (by_number 9) no_fault)
+room_fault body out = if (ltb 4096 (length body)) (because BodyLong) (if (ltb (length out) (length body)) (because OutputShort) no_fault)
 
 -- what the call leaves: its answer, and the output
 pub record BodyEffect : Type 0 where
-  pub answer : BodyWritten
+  pub answer : Result ℕ
   pub out : List ℕ
 
 -- an answer and the output
-abbrev pub body_effect : BodyWritten → List ℕ → BodyEffect
+abbrev pub body_effect : Result ℕ → List ℕ → BodyEffect
 body_effect answer out = record { answer = answer; out = out }
 
 -- refused, and the output as it was; or the bytes at its front, with those past them as they were
 abbrev pub body_put : Fault → List ℕ → List ℕ → BodyEffect
-body_put None body out = body_effect (Bytes (length body)) (placed out 0 body)
-body_put (Because why) body out = body_effect (Refused why) out
+body_put (Ok u) body out = body_effect (Ok (length body)) (placed out 0 body)
+body_put (Err why) body out = body_effect (Err why) out
 
 -- why the call is refused, in that order
 abbrev pub fault_of : Fields → Lent → List ℕ → Fault
@@ -131,6 +128,6 @@ unfoldable pub body_of_fields : Fields → Lent → List ℕ → BodyEffect
 body_of_fields d l out = body_put (fault_of d l out) (body_given d l) out
 
 -- 02, what the call gives: the bytes written, the first n of the output after it, or the refusal
-abbrev pub body_result : BodyWritten → List ℕ → Result (List ℕ)
-body_result (Bytes n) out = ok (take n out)
-body_result (Refused why) out = refused why
+abbrev pub body_result : Result ℕ → List ℕ → Result (List ℕ)
+body_result (Ok n) out = ok (take n out)
+body_result (Err why) out = refused why

@@ -4,11 +4,11 @@ ghost use Rattle.wing_node.specs.Writer.{body_effect, body_of_fields};
 ghost use Rattle.wing_node.specs.Anew.{fields_with, fields_of, item_bytes, lent_from, anew_of};
 
 use crate::cursor::Cursor;
-use crate::definition::{Definition, Details, Parsed, from_bytes, past_items};
+use crate::definition::{Definition, Details, from_bytes, past_items};
 use crate::field::least;
 use crate::node_type::{NodeType, type_number, unit_number};
-use crate::refusal::Fault;
-use crate::writer::{BodyWritten, Fields, to_bytes};
+use crate::refusal::Refusal;
+use crate::writer::{Fields, to_bytes};
 
 // A part of a body, from a place to another.
 #[derive(Clone, Copy)]
@@ -46,7 +46,7 @@ fn items_part(body: &[u8], kind: NodeType, details: Details) -> Part
                 count,
                 Cursor {
                     at: first,
-                    fault: Fault::None,
+                    fault: Ok(()),
                 },
             );
             part_of(body, first, distance(first, end.at))
@@ -101,7 +101,7 @@ pub fn fields_of(d: Definition) -> Fields
 }
 
 // A definition that was read of a body, written.
-fn write_read(body: &[u8], d: Definition, out: &mut [u8]) -> BodyWritten
+fn write_read(body: &[u8], d: Definition, out: &mut [u8]) -> Result<usize, Refusal>
     ensures { body_effect result out.new ≡ body_of_fields (fields_of d) (lent_from body.now d) out.old }
 {
     let name = part_of(body, d.name.start, d.name.len as usize);
@@ -126,12 +126,9 @@ fn write_read(body: &[u8], d: Definition, out: &mut [u8]) -> BodyWritten
 
 // A body, read and written to the front of out: the parser's 4 or 5, or what the writer answers. Bytes after the last field are not
 // written.
-pub fn write_anew(body: &[u8], out: &mut [u8]) -> BodyWritten
+pub fn write_anew(body: &[u8], out: &mut [u8]) -> Result<usize, Refusal>
     ensures { body_effect result out.new ≡ anew_of body.now out.old }
 {
-    let parsed = from_bytes(body);
-    match parsed {
-        Parsed::Good(d) => write_read(body, d, out),
-        Parsed::Refused(why) => BodyWritten::Refused(why),
-    }
+    let d = from_bytes(body)?;
+    write_read(body, d, out)
 }

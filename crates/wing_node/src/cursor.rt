@@ -4,13 +4,13 @@ ghost use Rattle.std.specs.Prelude.{◌≡◌};
 ghost use Rattle.wing_node.specs.Cursor.{number, string, stopped, nothing, read_at, short_of};
 
 use crate::field::{least, left, u16_at, u32_at};
-use crate::refusal::{Fault, Refusal, by_number, is_refused};
+use crate::refusal::Refusal;
 use crate::utf8::good_len;
 
 #[derive(Clone, Copy)]
 pub struct Cursor {
     pub at: usize,
-    pub fault: Fault,
+    pub fault: Result<(), Refusal>,
 }
 
 // A field that was read: its number (a string's is its length), where its bytes begin, and the cursor after it.
@@ -28,7 +28,7 @@ pub struct ShortRead {
     pub next: Cursor,
 }
 
-fn refuse(c: Cursor, why: Fault) -> FieldRead
+fn refuse(c: Cursor, why: Result<(), Refusal>) -> FieldRead
     ensures { result ≡ nothing (stopped c why) }
 {
     FieldRead {
@@ -41,7 +41,7 @@ fn refuse(c: Cursor, why: Fault) -> FieldRead
     }
 }
 
-fn refuse_short(c: Cursor, why: Fault) -> ShortRead
+fn refuse_short(c: Cursor, why: Result<(), Refusal>) -> ShortRead
     ensures { result ≡ short_of (nothing (stopped c why)) }
 {
     ShortRead {
@@ -58,18 +58,18 @@ pub(crate) fn read_32(body: &[u8], c: Cursor) -> FieldRead
 {
     let at = c.at;
     let fault = c.fault;
-    if is_refused(fault) {
+    if fault.is_err() {
         return refuse(c, fault);
     }
     if left(body, at) < 4 {
-        return refuse(c, by_number(4));
+        return refuse(c, Err(Refusal::DefinitionShort));
     }
     FieldRead {
         value: u32_at(body, at),
         start: at,
         next: Cursor {
             at: at + 4,
-            fault: Fault::None,
+            fault: Ok(()),
         },
     }
 }
@@ -79,17 +79,17 @@ pub(crate) fn read_16(body: &[u8], c: Cursor) -> ShortRead
 {
     let at = c.at;
     let fault = c.fault;
-    if is_refused(fault) {
+    if fault.is_err() {
         return refuse_short(c, fault);
     }
     if left(body, at) < 2 {
-        return refuse_short(c, by_number(4));
+        return refuse_short(c, Err(Refusal::DefinitionShort));
     }
     ShortRead {
         value: u16_at(body, at),
         next: Cursor {
             at: at + 2,
-            fault: Fault::None,
+            fault: Ok(()),
         },
     }
 }
@@ -101,12 +101,12 @@ pub(crate) fn read_string(body: &[u8], c: Cursor) -> FieldRead
 {
     let at = c.at;
     let fault = c.fault;
-    if is_refused(fault) {
+    if fault.is_err() {
         return refuse(c, fault);
     }
     let there = left(body, at);
     if there < 1 {
-        return refuse(c, by_number(4));
+        return refuse(c, Err(Refusal::DefinitionShort));
     }
     let len = body[at] as usize;
     let first = at + 1;
@@ -114,20 +114,17 @@ pub(crate) fn read_string(body: &[u8], c: Cursor) -> FieldRead
     let end = first + least(len, rest);
     let good = good_len(&body[first..end]);
     if rest < len {
-        return refuse(c, by_number(4));
+        return refuse(c, Err(Refusal::DefinitionShort));
     }
     if good < len {
-        return refuse(
-            c,
-            Fault::Refused(Refusal::DefinitionNotUtf8 { good: good as u16 }),
-        );
+        return refuse(c, Err(Refusal::DefinitionNotUtf8 { good: good as u16 }));
     }
     FieldRead {
         value: len as u32,
         start: first,
         next: Cursor {
             at: end,
-            fault: Fault::None,
+            fault: Ok(()),
         },
     }
 }

@@ -7,7 +7,7 @@ ghost use Rattle.wing_node.specs.Definition.{span_of, item_at, items_of, listed_
 use crate::cursor::{Cursor, FieldRead, read_16, read_32, read_string};
 use crate::field::to_i32;
 use crate::node_type::{NodeType, NodeUnit, type_of, unit_of};
-use crate::refusal::{Fault, Refusal, is_refused};
+use crate::refusal::Refusal;
 
 // Where a string lies in the body.
 #[derive(Clone, Copy)]
@@ -25,18 +25,16 @@ fn span_of(r: FieldRead) -> Span
     }
 }
 
-// An item of a string or float enum; none, or the refusal.
+// An item of a string or float enum.
 #[derive(Clone, Copy)]
 pub enum Item {
-    None,
     Strings { item: Span, long_item: Span },
     Float { item: u32, long_item: Span },
-    Refused(Refusal),
 }
 
 #[derive(Clone, Copy)]
 pub struct ItemRead {
-    pub item: Item,
+    pub item: Option<Item>,
     pub next: Cursor,
 }
 
@@ -69,13 +67,6 @@ pub struct Definition {
     pub details: Details,
 }
 
-// The definition, or the refusal: 4 or 5.
-#[derive(Clone, Copy)]
-pub enum Parsed {
-    Good(Definition),
-    Refused(Refusal),
-}
-
 fn string_item(body: &[u8], c: Cursor) -> ItemRead
     ensures { result ≡ item_at NodeType.StringEnum body.now c }
 {
@@ -83,10 +74,10 @@ fn string_item(body: &[u8], c: Cursor) -> ItemRead
     let long_item = read_string(body, item.next);
     let next = long_item.next;
     ItemRead {
-        item: Item::Strings {
+        item: Some(Item::Strings {
             item: span_of(item),
             long_item: span_of(long_item),
-        },
+        }),
         next: next,
     }
 }
@@ -98,10 +89,10 @@ fn float_item(body: &[u8], c: Cursor) -> ItemRead
     let long_item = read_string(body, item.next);
     let next = long_item.next;
     ItemRead {
-        item: Item::Float {
+        item: Some(Item::Float {
             item: item.value,
             long_item: span_of(long_item),
-        },
+        }),
         next: next,
     }
 }
@@ -113,7 +104,7 @@ pub(crate) fn read_item(body: &[u8], kind: NodeType, c: Cursor) -> ItemRead
         NodeType::StringEnum => string_item(body, c),
         NodeType::FloatEnum => float_item(body, c),
         _ => ItemRead {
-            item: Item::None,
+            item: None,
             next: c,
         },
     }
@@ -127,7 +118,7 @@ pub(crate) fn past_items(body: &[u8], kind: NodeType, count: u16, first: Cursor)
     let mut left = count;
     while 0 < left {
         let fault = c.fault;
-        if is_refused(fault) {
+        if fault.is_err() {
             return c;
         }
         let read = read_item(body, kind, c);
@@ -206,25 +197,15 @@ fn read_details(body: &[u8], kind: NodeType, c: Cursor) -> DetailsRead
     }
 }
 
-// The definition, unless a field was refused.
-fn finish(fault: Fault, d: Definition) -> Parsed
-    ensures { result ≡ parsed_from fault d }
-{
-    match fault {
-        Fault::None => Parsed::Good(d),
-        Fault::Refused(why) => Parsed::Refused(why),
-    }
-}
-
 // The definition in a body, or 4 or 5 by its first failing field. Later bytes are ignored.
-pub fn from_bytes(body: &[u8]) -> Parsed
+pub fn from_bytes(body: &[u8]) -> Result<Definition, Refusal>
     ensures { result ≡ definition_of body.now }
 {
     let parent_id = read_32(
         body,
         Cursor {
             at: 0,
-            fault: Fault::None,
+            fault: Ok(()),
         },
     );
     let id = read_32(body, parent_id.next);
@@ -248,6 +229,6 @@ pub fn from_bytes(body: &[u8]) -> Parsed
         details: details,
     };
     let next = found.next;
-    let fault = next.fault;
-    finish(fault, d)
+    next.fault?;
+    Ok(d)
 }

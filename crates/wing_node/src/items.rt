@@ -3,9 +3,9 @@ ghost use Rattle.std.specs.Prelude.{◌≡◌};
 ghost use Rattle.wing_node.specs.Items.{walk_from, begin_of, stayed, step_at, numbered_from, item_numbered};
 
 use crate::cursor::Cursor;
-use crate::definition::{Details, Item, Parsed, from_bytes, past_items, read_item};
+use crate::definition::{Details, Item, from_bytes, past_items, read_item};
 use crate::node_type::{NodeType, has_items};
-use crate::refusal::{Fault, Refusal};
+use crate::refusal::Refusal;
 
 // Where a walk over the items stands: the place reached, the items left and the type.
 #[derive(Clone, Copy)]
@@ -15,16 +15,10 @@ pub struct Walk {
     pub kind: NodeType,
 }
 
-// A walk at the first item, or the parser's 4 or 5.
-#[derive(Clone, Copy)]
-pub enum Begun {
-    Good(Walk),
-    Refused(Refusal),
-}
-
+// The item, none, or the refusal; and the walk after it.
 #[derive(Clone, Copy)]
 pub struct Step {
-    pub item: Item,
+    pub item: Result<Option<Item>, Refusal>,
     pub next: Walk,
 }
 
@@ -35,99 +29,89 @@ fn first_of(kind: NodeType, details: Details) -> Walk
         Details::Items { count, first } => Walk {
             at: first,
             left: count,
-            kind: kind,
+            kind,
         },
         _ => Walk {
             at: 0,
             left: 0,
-            kind: kind,
+            kind,
         },
     }
 }
 
 // 01: the walk begins at the first item; a body that the parser refuses gives its 4 or 5.
-pub fn items_begin(body: &[u8]) -> Begun
+pub fn items_begin(body: &[u8]) -> Result<Walk, Refusal>
     ensures { result ≡ begin_of body.now }
 {
-    let parsed = from_bytes(body);
-    match parsed {
-        Parsed::Good(d) => {
-            let kind = d.node_type;
-            let details = d.details;
-            Begun::Good(first_of(kind, details))
-        }
-        Parsed::Refused(why) => Begun::Refused(why),
-    }
+    let d = from_bytes(body)?;
+    Ok(first_of(d.node_type, d.details))
 }
 
-fn stay(item: Item, at: usize, left: u16, kind: NodeType) -> Step
-    ensures { result ≡ stayed item at left kind }
+fn stay(item: Result<Option<Item>, Refusal>, walk: Walk) -> Step
+    ensures { result ≡ stayed item walk.at walk.left walk.kind }
 {
-    Step {
-        item: item,
-        next: Walk {
-            at: at,
-            left: left,
-            kind: kind,
-        },
-    }
+    Step { item, next: walk }
 }
 
-// The item at a place, with where the walk then stands. A refused step leaves the walk as it was.
-pub fn item_step(body: &[u8], at: usize, left: u16, kind: NodeType) -> Step
-    ensures { result ≡ step_at body.now at left kind }
+// The item at a walk's place, with where the walk then stands. A refused step leaves the walk as it was.
+pub fn item_step(body: &[u8], walk: Walk) -> Step
+    ensures { result ≡ step_at body.now walk.at walk.left walk.kind }
 {
-    if left == 0 {
-        return stay(Item::None, at, left, kind);
+    if walk.left == 0 {
+        return stay(Ok(None), walk);
     }
-    if has_items(kind) {
+    if has_items(walk.kind) {
         let read = read_item(
             body,
-            kind,
+            walk.kind,
             Cursor {
-                at: at,
-                fault: Fault::None,
+                at: walk.at,
+                fault: Ok(()),
             },
         );
-        let next = read.next;
-        let fault = next.fault;
-        let item = read.item;
-        return match fault {
-            Fault::None => stay(item, next.at, left - 1, kind),
-            Fault::Refused(why) => stay(Item::Refused(why), at, left, kind),
+        return match read.next.fault {
+            Ok(()) => stay(
+                Ok(read.item),
+                Walk {
+                    at: read.next.at,
+                    left: walk.left - 1,
+                    kind: walk.kind,
+                },
+            ),
+            Err(why) => stay(Err(why), walk),
         };
     }
-    stay(Item::None, at, left, kind)
+    stay(Ok(None), walk)
 }
 
-fn numbered(body: &[u8], number: usize, first: Walk) -> Item
+fn numbered(body: &[u8], number: usize, first: Walk) -> Result<Option<Item>, Refusal>
     ensures { result ≡ numbered_from body.now number first }
 {
     if first.left as usize <= number {
-        return Item::Refused(Refusal::Number(14));
+        return Err(Refusal::NumberOver);
     }
     let before = number as u16;
-    let kind = first.kind;
     let c = past_items(
         body,
-        kind,
+        first.kind,
         before,
         Cursor {
             at: first.at,
-            fault: Fault::None,
+            fault: Ok(()),
         },
     );
-    let there = item_step(body, c.at, first.left - before, kind);
-    there.item
+    let there = Walk {
+        at: c.at,
+        left: first.left - before,
+        kind: first.kind,
+    };
+    item_step(body, there).item
 }
 
 // The item of a number, from 0. A body that the parser refuses gives its 4 or 5 before 14.
-pub fn item_by_number(body: &[u8], number: usize) -> Item
+pub fn item_by_number(body: &[u8], number: usize) -> Result<Option<Item>, Refusal>
     ensures { result ≡ item_numbered body.now number }
 {
-    let begun = items_begin(body);
-    match begun {
-        Begun::Good(first) => numbered(body, number, first),
-        Begun::Refused(why) => Item::Refused(why),
-    }
+    let first = items_begin(body)?;
+    numbered(body, number, first)
 }

@@ -1,71 +1,70 @@
-// Why a call is sent back: its number alone, or, for a string that isn't UTF-8 (02), 1 or 5 with its good, how many of its leading bytes form
-// whole characters.
+// Why a call is sent back. Each reason has its number in the rules; beside a string that isn't UTF-8 (1, or 5 for a definition's) stands its good:
+// how many of its leading bytes form whole characters.
 ghost use Rattle.std.specs.Prelude.{◌≡◌, take};
-ghost use Rattle.wing_node.specs.Refusal.{refusal_number, is_refused, first_fault, by_number, string_fault};
+ghost use Rattle.wing_node.specs.Refusal.{refusal_number, string_fault};
 
-use crate::field::least;
 use crate::utf8::good_len;
 
-// 1 is a string of the wire or to be set, 5 one of a definition.
-#[derive(Clone, Copy)]
+#[derive(Clone, Copy, Debug, PartialEq, Eq)]
 pub enum Refusal {
-    Number(u8),
     StringNotUtf8 { good: u16 },
+    BodyLong,
+    BodyEmpty,
+    DefinitionShort,
     DefinitionNotUtf8 { good: u16 },
+    NoPlace,
+    TableUnsound,
+    StateUnsound,
+    OutputShort,
+    StringLong,
+    MetersOver,
+    MeterIdLast,
+    PacketSize,
+    NumberOver,
+    NameLong,
+    FieldsUnfit,
+    LineWrong,
+    IdNotAbove,
+    WidthWrong,
 }
 
-// Why something is sent back, if it is.
-#[derive(Clone, Copy)]
-pub enum Fault {
-    None,
-    Refused(Refusal),
-}
-
-// 01's number.
-pub fn number(why: Refusal) -> u8
-    ensures { result ≡ refusal_number why }
-{
-    match why {
-        Refusal::Number(n) => n,
-        Refusal::StringNotUtf8 { good: _ } => 1,
-        Refusal::DefinitionNotUtf8 { good: _ } => 5,
+impl Refusal {
+    // The number that the rules give it.
+    pub fn number(self) -> u8
+        ensures { result ≡ refusal_number self }
+    {
+        match self {
+            Refusal::StringNotUtf8 { good: _ } => 1,
+            Refusal::BodyLong => 2,
+            Refusal::BodyEmpty => 3,
+            Refusal::DefinitionShort => 4,
+            Refusal::DefinitionNotUtf8 { good: _ } => 5,
+            Refusal::NoPlace => 6,
+            Refusal::TableUnsound => 7,
+            Refusal::StateUnsound => 8,
+            Refusal::OutputShort => 9,
+            Refusal::StringLong => 10,
+            Refusal::MetersOver => 11,
+            Refusal::MeterIdLast => 12,
+            Refusal::PacketSize => 13,
+            Refusal::NumberOver => 14,
+            Refusal::NameLong => 15,
+            Refusal::FieldsUnfit => 16,
+            Refusal::LineWrong => 17,
+            Refusal::IdNotAbove => 18,
+            Refusal::WidthWrong => 19,
+        }
     }
-}
-
-pub fn is_refused(f: Fault) -> bool
-    ensures { result ≡ is_refused f }
-{
-    match f {
-        Fault::None => false,
-        Fault::Refused(_) => true,
-    }
-}
-
-// The first of two, if there is any.
-pub(crate) fn first_fault(a: Fault, b: Fault) -> Fault
-    ensures { result ≡ first_fault a b }
-{
-    match a {
-        Fault::None => b,
-        Fault::Refused(why) => Fault::Refused(why),
-    }
-}
-
-// By a number alone.
-pub fn by_number(n: u8) -> Fault
-    ensures { result ≡ by_number n }
-{
-    Fault::Refused(Refusal::Number(n))
 }
 
 // A string of the wire or to be set, the first n bytes of s or all where it has fewer: 1 with its good, unless all of it is.
-pub fn string_fault(s: &[u8], n: u16) -> Fault
+pub fn string_fault(s: &[u8], n: u16) -> Result<(), Refusal>
     ensures { result ≡ string_fault (take n s.now) }
 {
-    let len = least(n as usize, s.len());
+    let len = (n as usize).min(s.len());
     let good = good_len(&s[..len]);
     if good == len {
-        return Fault::None;
+        return Ok(());
     }
-    Fault::Refused(Refusal::StringNotUtf8 { good: good as u16 })
+    Err(Refusal::StringNotUtf8 { good: good as u16 })
 }

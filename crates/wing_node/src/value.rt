@@ -1,5 +1,5 @@
 // Node values and their getters (libwing's WingNodeData).
-ghost use Rattle.std.specs.Prelude.{◌≡◌, ◌+◌, ◌≤◌, length, take, nat_abs};
+ghost use Rattle.std.specs.Prelude.{◌≡◌, ◌+◌, ◌≤◌, length, take, nat_abs, Some};
 ghost use Rattle.wing_node.specs.Bytes.{placed, zeroed};
 ghost use Rattle.wing_node.specs.Field.{put_at};
 ghost use Rattle.wing_node.specs.Decimal.{digits, last_digits};
@@ -16,16 +16,10 @@ pub enum Value {
     String(u16),
 }
 
-// What the string getter gives: no string, or one of this length in the array beside.
-#[derive(Clone, Copy)]
-pub enum StringAnswer {
-    None,
-    String(u16),
-}
-
+// A string that was read: its length, and its bytes, with zeros after them.
 #[derive(Clone, Copy)]
 pub struct StringRead {
-    pub answer: StringAnswer,
+    pub len: u16,
     pub bytes: [u8; 256],
 }
 
@@ -41,30 +35,24 @@ pub fn get_int(v: Value) -> i32
 }
 
 // 01: the string getter gives the string, an integer's decimal, and none for a float.
-pub fn get_string(v: Value, bytes: [u8; 256]) -> StringRead
+pub fn get_string(v: Value, bytes: [u8; 256]) -> Option<StringRead>
     ensures { result ≡ answer_of (string_in (node_value v bytes)) }
 {
     match v {
-        Value::Integer(x) => decimal(x),
-        Value::Float(_) => StringRead {
-            answer: StringAnswer::None,
-            bytes: [0u8; 256],
-        },
-        Value::String(n) => first(n, bytes),
+        Value::Integer(x) => Some(decimal(x)),
+        Value::Float(_) => None,
+        Value::String(n) => Some(first(n, bytes)),
     }
 }
 
 // The first n of the bytes, or all where n is over 256; what stood past them is not given.
 fn first(n: u16, bytes: [u8; 256]) -> StringRead
-    ensures { result ≡ answer_of (some (take n bytes)) }
+    ensures { Some result ≡ answer_of (some (take n bytes)) }
 {
     let mut kept = bytes;
     zero_from(n as usize, &mut kept);
     let len = if n < 256 { n } else { 256 };
-    StringRead {
-        answer: StringAnswer::String(len),
-        bytes: kept,
-    }
+    StringRead { len, bytes: kept }
 }
 
 fn zero_from(from: usize, out: &mut [u8])
@@ -79,12 +67,12 @@ fn zero_from(from: usize, out: &mut [u8])
 
 // The decimal of x, at most eleven bytes: a minus sign and ten digits.
 fn decimal(x: i32) -> StringRead
-    ensures { result ≡ answer_of (some (decimal_of x)) }
+    ensures { Some result ≡ answer_of (some (decimal_of x)) }
 {
     let mut bytes = [0u8; 256];
     let k = put_decimal(&mut bytes, 0, x);
     StringRead {
-        answer: StringAnswer::String(k as u16),
+        len: k as u16,
         bytes,
     }
 }

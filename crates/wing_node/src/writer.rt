@@ -7,17 +7,18 @@ ghost use Rattle.wing_node.specs.Bytes.{placed};
 ghost use Rattle.wing_node.specs.Signed.{unsigned};
 ghost use Rattle.wing_node.specs.Field.{bytes_of};
 ghost use Rattle.wing_node.specs.Types.{type_of};
-ghost use Rattle.wing_node.specs.Refusal.{by_number, first_fault, text_fault};
+ghost use Rattle.wing_node.specs.Refusal.{first_fault, text_fault, because};
 ghost use Rattle.wing_node.specs.Cursor.{string, size, held_fault};
 ghost use Rattle.wing_node.specs.Laid.{laid};
 ghost use Rattle.wing_node.specs.Standing.{extent};
 ghost use Rattle.wing_node.specs.Definition.{form, header, added, item_of, items_of};
 ghost use Rattle.wing_node.specs.Written.{laid_by};
 ghost use Rattle.wing_node.specs.Writer.{lent, type_given, flags_of, holds, body_given, unfit, texts_fault, lent_fault, body_effect, body_of_fields};
+ghost use Rattle.wing_node.specs.declared.refusal.Refusal.TheVariants.{FieldsUnfit};
 
 use crate::field::{least, left, of_i32, put_i32, put_u16, put_u32};
 use crate::node_type::{NodeType, has_items, type_of};
-use crate::refusal::{Fault, Refusal, by_number, first_fault};
+use crate::refusal::Refusal;
 use crate::utf8::good_len;
 
 // The fields that a definition of any type has, flat. Those that its type lacks are ignored, but for the count (and the
@@ -39,30 +40,23 @@ pub struct Fields {
     pub max_len: u16,
 }
 
-// How many bytes the body took, or the refusal.
-#[derive(Clone, Copy)]
-pub enum BodyWritten {
-    Bytes(usize),
-    Refused(Refusal),
-}
-
 // What was passed: the place after it, and the first of its strings that is not UTF-8.
 #[derive(Clone, Copy)]
 struct Checked {
     at: usize,
-    fault: Fault,
+    fault: Result<(), Refusal>,
 }
 
 // A definition's string: 5 with its good, unless all of it is.
-fn text_fault(s: &[u8]) -> Fault
+fn text_fault(s: &[u8]) -> Result<(), Refusal>
     requires { length s.now ≤ 255 }
     ensures { result ≡ text_fault s.now }
 {
     let good = good_len(s);
     if good == s.len() {
-        return Fault::None;
+        return Ok(());
     }
-    Fault::Refused(Refusal::DefinitionNotUtf8 { good: good as u16 })
+    Err(Refusal::DefinitionNotUtf8 { good: good as u16 })
 }
 
 // A string at a place. Its bytes are looked at as far as they are there.
@@ -74,7 +68,7 @@ fn check_string(items: &[u8], at: usize) -> Checked
     if there < 1 {
         return Checked {
             at: at + 1,
-            fault: Fault::None,
+            fault: Ok(()),
         };
     }
     let len = items[at] as usize;
@@ -99,20 +93,25 @@ fn check_item(items: &[u8], kind: NodeType, at: usize) -> Checked
             let long_fault = long_item.fault;
             Checked {
                 at: long_item.at,
-                fault: first_fault(fault, long_fault),
+                fault: fault.and(long_fault),
             }
         }
         NodeType::FloatEnum => check_string(items, at + 4),
         _ => Checked {
             at: at,
-            fault: Fault::None,
+            fault: Ok(()),
         },
     }
 }
 
 // Why items are refused, after what was at fault before them: 16 where their lengths are not exactly so many, else the first 5. One pass.
-fn items_fault(items: &[u8], kind: NodeType, count: u16, before: Fault) -> Fault
-    ensures { result ≡ if (eqb (extent (items_of kind count) items.now) (length items.now)) (first_fault before (texts_fault (items_of kind count) items.now)) (by_number 16) }
+fn items_fault(
+    items: &[u8],
+    kind: NodeType,
+    count: u16,
+    before: Result<(), Refusal>,
+) -> Result<(), Refusal>
+    ensures { result ≡ if (eqb (extent (items_of kind count) items.now) (length items.now)) (first_fault before (texts_fault (items_of kind count) items.now)) (because FieldsUnfit) }
 {
     let mut passed = Checked {
         at: 0,
@@ -121,59 +120,65 @@ fn items_fault(items: &[u8], kind: NodeType, count: u16, before: Fault) -> Fault
     let mut left = count;
     while 0 < left {
         if items.len() < passed.at {
-            return by_number(16);
+            return Err(Refusal::FieldsUnfit);
         }
         let item = check_item(items, kind, passed.at);
         let fault = passed.fault;
         let next = item.fault;
         passed = Checked {
             at: item.at,
-            fault: first_fault(fault, next),
+            fault: fault.and(next),
         };
         left -= 1;
     }
     if passed.at != items.len() {
-        return by_number(16);
+        return Err(Refusal::FieldsUnfit);
     }
     passed.fault
 }
 
 // Why a type, a unit or items are refused, after what was at fault in the names: 16, then 5.
-fn fields_fault(node_type: u8, unit: u8, count: u16, items: &[u8], names: Fault) -> Fault
-    ensures { result ≡ if (unfit node_type unit count items.now) (by_number 16) (first_fault names (texts_fault (items_of (type_of node_type) count) items.now)) }
+fn fields_fault(
+    node_type: u8,
+    unit: u8,
+    count: u16,
+    items: &[u8],
+    names: Result<(), Refusal>,
+) -> Result<(), Refusal>
+    ensures { result ≡ if (unfit node_type unit count items.now) (because FieldsUnfit) (first_fault names (texts_fault (items_of (type_of node_type) count) items.now)) }
 {
     if node_type > 7 {
-        return by_number(16);
+        return Err(Refusal::FieldsUnfit);
     }
     if unit > 7 {
-        return by_number(16);
+        return Err(Refusal::FieldsUnfit);
     }
     let kind = type_of(node_type as u16);
     if has_items(kind) {
         return items_fault(items, kind, count, names);
     }
     if count > 0 {
-        return by_number(16);
+        return Err(Refusal::FieldsUnfit);
     }
     if items.len() > 0 {
-        by_number(16)
+        Err(Refusal::FieldsUnfit)
     } else {
         names
     }
 }
 
 // Why what is lent is refused: 15, 16, 5.
-fn lent_fault(d: Fields, name: &[u8], long_name: &[u8], items: &[u8]) -> Fault
+fn lent_fault(d: Fields, name: &[u8], long_name: &[u8], items: &[u8]) -> Result<(), Refusal>
     ensures { result ≡ lent_fault d (lent name.now long_name.now items.now) }
 {
     if name.len() > 255 {
-        return by_number(15);
+        return Err(Refusal::NameLong);
     }
     let long = long_name.len();
     if long > 255 {
-        return by_number(15);
+        return Err(Refusal::NameLong);
     }
-    let names = first_fault(text_fault(name), text_fault(long_name));
+    let names = text_fault(name).and(text_fault(long_name));
     fields_fault(d.node_type, d.unit, d.count, items, names)
 }
 
@@ -295,22 +300,18 @@ pub fn to_bytes(
     long_name: &[u8],
     items: &[u8],
     out: &mut [u8],
-) -> BodyWritten
+) -> Result<usize, Refusal>
     ensures { body_effect result out.new ≡ body_of_fields d (lent name.now long_name.now items.now) out.old }
 {
-    let fault = lent_fault(d, name, long_name, items);
-    match fault {
-        Fault::None => {}
-        Fault::Refused(why) => return BodyWritten::Refused(why),
-    }
+    lent_fault(d, name, long_name, items)?;
     let kind = type_of(d.node_type as u16);
     let len = 14 + name.len() + long_name.len() + added_len(kind) + items.len();
     if len > 4096 {
-        return BodyWritten::Refused(Refusal::Number(2));
+        return Err(Refusal::BodyLong);
     }
     if out.len() < len {
-        return BodyWritten::Refused(Refusal::Number(9));
+        return Err(Refusal::OutputShort);
     }
     lay_body(out, d, kind, name, long_name, items);
-    BodyWritten::Bytes(len)
+    Ok(len)
 }

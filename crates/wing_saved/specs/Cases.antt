@@ -1,12 +1,11 @@
 -- The bytes before the store, written out for some controls, one table: the order of the fields and the width of each, byte for byte; and the same of
 -- version 1, for two.
 -- Then the same of old states, which version 1 has, with the number of every class.
-use Rattle.std.specs.Prelude.{ℕ, true, false, List, [], ◌∷◌, ◌++◌, pos, negsuc, take, drop, replicate}
+use Rattle.std.specs.Prelude.{ℕ, true, false, List, [], ◌∷◌, ◌++◌, pos, negsuc, take, drop, replicate, None, Some}
 use Rattle.wing_wire.specs.State.{escape, control, fresh_control}
 use Rattle.wing_wire.specs.Earlier.{earlier_control, earlier_state, earlier_fresh}
 use Rattle.wing_wire.specs.declared.token.Class.{Class}
 use Rattle.wing_wire.specs.declared.token.Class.TheVariants.{NoEvent, Integer, String as AString, Length, Int16, Int32, Float, Node, End, Count, LongCount}
-use Rattle.wing_wire.specs.declared.state.Pending.TheVariants.{None, Byte}
 use Rattle.wing_wire.specs.declared.state.Token.TheVariants.{Number, Body}
 use Rattle.wing_wire.specs.declared.state.Control.{Control}
 use Rattle.wing_wire.specs.declared.earlier.Token.TheVariants.{Number as number, String as string, Body as body}
@@ -37,11 +36,11 @@ class_is k n = record { got = take 2 (drop 9 (earlier_bytes (earlier_state (earl
 
 -- node −2, channel 2, the byte 41 pending, in the middle of a body of 70,000: 65,800 are left, none stored
 abbrev pub in_body : Control
-in_body = control (escape false (pos 2) (Byte 0x41)) (negsuc 1) (Body 0 70000 65800)
+in_body = control (escape false (pos 2) (Some 0x41)) (negsuc 1) (Body 0 70000 65800)
 
 -- the same of a body of 300: 200 are left, 7 stored
 abbrev pub in_short_body : Control
-in_short_body = control (escape false (pos 2) (Byte 0x41)) (negsuc 1) (Body 7 300 200)
+in_short_body = control (escape false (pos 2) (Some 0x41)) (negsuc 1) (Body 7 300 200)
 
 -- node 0, channel −1, after a count 0: the four units of the long count are left
 abbrev pub in_long_count : Control
@@ -49,7 +48,7 @@ in_long_count = control (escape false (negsuc 0) None) (pos 0) (Number LongCount
 
 -- an old state in that shorter body
 abbrev pub in_old_body : EarlierControl
-in_old_body = earlier_control (escape false (pos 2) (Byte 0x41)) (negsuc 1) (body 300 200 7)
+in_old_body = earlier_control (escape false (pos 2) (Some 0x41)) (negsuc 1) (body 300 200 7)
 
 -- an old state at node 7, channel 0, after an escape byte, in a string of 5: 2 are left
 abbrev pub in_old_string : EarlierControl

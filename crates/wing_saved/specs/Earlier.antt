@@ -1,7 +1,6 @@
 -- States saved under version 1 (02, Job 4): what such bytes say, and what they are loaded as.
 use Rattle.std.specs.Prelude.{ℕ, ◌%◌, ◌^◌, ◌<◌, Bool, true, ◌≡◌, List, ◌++◌, ltb, drop}
 use Rattle.wing_node.specs.declared.refusal.Refusal.{Refusal}
-use Rattle.wing_node.specs.Refusal.{alone}
 use Rattle.wing_node.specs.Bool.{if, and}
 use Rattle.wing_node.specs.Result.{Result, ok, refused}
 use Rattle.wing_wire.specs.Range.{AreBytes, InRange}
@@ -15,6 +14,7 @@ use Rattle.wing_wire.specs.declared.earlier.Token.TheVariants.{Between as betwee
 use Rattle.wing_wire.specs.declared.earlier.State.{State as EarlierState}
 use Rattle.wing_saved.specs.Saved.{head_under, head_from_under, loaded_as}
 use Rattle.wing_saved.specs.declared.Loaded.{Loaded}
+use Rattle.wing_node.specs.declared.refusal.Refusal.TheVariants.{StateUnsound}
 
 -- the version before 02's Job 4
 abbrev pub earlier_version : ℕ
@@ -43,7 +43,7 @@ narrowed (Body stored want left) = body (want % 0x10000) (left % 0x10000) stored
 -- the old state of a control that the fields say and of the store after them; 8 for counts that had no room
 unfoldable pub earlier_with : Result Control → List ℕ → Result EarlierState
 earlier_with (ok c) bytes =
-    if (is_narrow c.token) (ok (earlier_state (earlier_control c.escape c.node (narrowed c.token)) (drop 27 bytes))) (refused (alone 8))
+    if (is_narrow c.token) (ok (earlier_state (earlier_control c.escape c.node (narrowed c.token)) (drop 27 bytes))) (refused StateUnsound)
 earlier_with (refused why) bytes = refused why
 
 -- the old state that bytes say, sound or not, if they are as many as a state's and begin with its fields under version 1; else 8
@@ -92,4 +92,4 @@ pub record EarlierLaws : Type 0 where
   -- bytes that are loaded are those of an old sound state, and it is carried over as what they are loaded as
   pub again : (bytes : List ℕ) (t : State) → AreBytes bytes → carried_from (earlier_from bytes) ≡ ok t → CarriedSaves bytes t
   -- no other number than 8
-  pub refusal : (bytes : List ℕ) (why : Refusal) → carried_from (earlier_from bytes) ≡ refused why → why ≡ alone 8
+  pub refusal : (bytes : List ℕ) (why : Refusal) → carried_from (earlier_from bytes) ≡ refused why → why ≡ StateUnsound

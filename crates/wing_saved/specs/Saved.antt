@@ -1,7 +1,6 @@
 -- A decoder state as plain bytes: the form, what bytes say by it, and which bytes are a sound state's.
-use Rattle.std.specs.Prelude.{ℕ, ◌%◌, ◌^◌, ◌<◌, Bool, true, false, ◌≡◌, List, [], ◌∷◌, ◌++◌, eqb, length, drop, get_or}
+use Rattle.std.specs.Prelude.{ℕ, ◌%◌, ◌^◌, ◌<◌, Bool, true, false, ◌≡◌, List, [], ◌∷◌, ◌++◌, eqb, length, drop, get_or, Ok, Err, Option, None, Some}
 use Rattle.wing_node.specs.declared.refusal.Refusal.{Refusal}
-use Rattle.wing_node.specs.Refusal.{alone}
 use Rattle.wing_node.specs.Bool.{if, and}
 use Rattle.wing_node.specs.Result.{Result, ok, refused}
 use Rattle.wing_node.specs.Field.{bytes_of, field_at}
@@ -12,18 +11,16 @@ use Rattle.wing_wire.specs.Write.{WriteEffect, write_effect, write_of}
 use Rattle.wing_wire.specs.Range.{AreBytes, InRange}
 use Rattle.wing_wire.specs.declared.token.Class.{Class}
 use Rattle.wing_wire.specs.declared.token.Class.TheVariants.{NoEvent, LongCount}
-use Rattle.wing_wire.specs.declared.state.Pending.{Pending}
-use Rattle.wing_wire.specs.declared.state.Pending.TheVariants.{None, Byte}
 use Rattle.wing_wire.specs.declared.state.Token.{Token}
 use Rattle.wing_wire.specs.declared.state.Token.TheVariants.{Between, Number, String, Body}
 use Rattle.wing_wire.specs.declared.state.Control.{Control}
 use Rattle.wing_wire.specs.declared.state.State.{State}
-use Rattle.wing_wire.specs.declared.write.Written.TheVariants.{Bytes, Refused}
 use Rattle.wing_saved.specs.declared.TokenFields.{TokenFields}
 use Rattle.wing_saved.specs.declared.HeadRead.{HeadRead}
 use Rattle.wing_saved.specs.declared.Loaded.{Loaded}
 use Rattle.wing_saved.specs.declared.LoadAnswer.{LoadAnswer}
 use Rattle.wing_saved.specs.declared.LoadAnswer.TheVariants.{Good, Refused as NotLoaded}
+use Rattle.wing_node.specs.declared.refusal.Refusal.TheVariants.{StateUnsound}
 
 -- ---- the form
 
@@ -36,14 +33,14 @@ abbrev pub flag : Bool → ℕ
 flag b = if b 1 0
 
 -- whether a byte is pending
-unfoldable pub pending_flag : Pending → ℕ
+unfoldable pub pending_flag : Option ℕ → ℕ
 pending_flag None = 0
-pending_flag (Byte b) = 1
+pending_flag (Some b) = 1
 
 -- the pending byte, 0 where none is
-unfoldable pub pending_byte_of : Pending → ℕ
+unfoldable pub pending_byte_of : Option ℕ → ℕ
 pending_byte_of None = 0
-pending_byte_of (Byte b) = b
+pending_byte_of (Some b) = b
 
 -- a token by numbers: its kind (0 between, 1 number, 2 string, 3 body), the class of a number, the units wanted and left, the bytes stored,
 -- the value so far
@@ -83,8 +80,8 @@ saved_size = 4123
 -- ---- what bytes say by the form
 
 -- the pending byte
-unfoldable pub pending_in : ℕ → ℕ → Pending
-pending_in mark b = if (eqb mark 1) (Byte b) None
+unfoldable pub pending_in : ℕ → ℕ → Option ℕ
+pending_in mark b = if (eqb mark 1) (Some b) None
 
 -- the class of that number
 unfoldable pub class_in : ℕ → Class
@@ -115,12 +112,12 @@ begins (a ∷ front) (b ∷ s) = and (eqb b a) (begins front s)
 
 -- a state if it is sound, else 8
 unfoldable pub sound_only : State → Result State
-sound_only s = if (sound_state s) (ok s) (refused (alone 8))
+sound_only s = if (sound_state s) (ok s) (refused StateUnsound)
 
 -- the control that bytes say, if they are as many as a state's and begin with its fields under that version; else 8
 unfoldable pub head_from_under : ℕ → List ℕ → Result Control
 head_from_under v bytes =
-    if (eqb (length bytes) saved_size) (if (begins (head_under v (control_in bytes)) bytes) (ok (control_in bytes)) (refused (alone 8))) (refused (alone 8))
+    if (eqb (length bytes) saved_size) (if (begins (head_under v (control_in bytes)) bytes) (ok (control_in bytes)) (refused StateUnsound)) (refused StateUnsound)
 
 -- under the form's own version
 abbrev pub head_from : List ℕ → Result Control
@@ -139,7 +136,7 @@ state_from bytes = state_with (head_from bytes) bytes
 
 -- 8 for a state that is not sound; else its bytes, or 9
 unfoldable pub save_of : State → List ℕ → WriteEffect
-save_of s out = if (sound_state s) (write_of (state_bytes s) out) (write_effect (Refused (alone 8)) out)
+save_of s out = if (sound_state s) (write_of (state_bytes s) out) (write_effect (Err StateUnsound) out)
 
 -- the answer with the control, or with a fresh one beside a refusal
 unfoldable pub head_as : Result Control → HeadRead
@@ -201,12 +198,12 @@ pub record SavedLaws : Type 0 where
   -- bytes that read as a state are its bytes
   pub again : (bytes : List ℕ) (s : State) → AreBytes bytes → state_from bytes ≡ ok s → Saves bytes s
   -- no other number than 8
-  pub refusal : (bytes : List ℕ) (why : Refusal) → state_from bytes ≡ refused why → why ≡ alone 8
+  pub refusal : (bytes : List ℕ) (why : Refusal) → state_from bytes ≡ refused why → why ≡ StateUnsound
   -- whatever numbers they are, what reads as a state reads as a sound one
   pub loaded : (bytes : List ℕ) (s : State) → state_from bytes ≡ ok s → LoadedSound bytes s
   -- a sound state fills an output of the size, whatever stood in it
   pub kept : (s : State) (out : List ℕ) → sound_state s ≡ true → length s.store ≡ body_limit → length out ≡ saved_size →
-      save_of s out ≡ write_effect (Bytes saved_size) (state_bytes s)
+      save_of s out ≡ write_effect (Ok saved_size) (state_bytes s)
   -- the head of bytes, whether or not the state is sound
   pub head : (bytes : List ℕ) (c : Control) → head_from bytes ≡ ok c → HeadOf bytes c
   -- bytes without a head are no state's

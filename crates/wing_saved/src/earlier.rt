@@ -6,10 +6,9 @@ ghost use Rattle.wing_wire.specs.Earlier.{earlier_control, earlier_state, carry_
 ghost use Rattle.wing_saved.specs.Saved.{loaded_as};
 ghost use Rattle.wing_saved.specs.Earlier.{is_narrow, narrowed, load_earlier_of};
 
-use crate::{HEAD, LoadAnswer, Loaded, head_under, lay, low_16, refuse};
+use crate::{HEAD, Loaded, head_under, lay, low_16, refuse};
 use wing_node::refusal::Refusal;
 use wing_wire::earlier;
-use wing_wire::earlier::{Carried, CarryAnswer};
 use wing_wire::state::{Control, State, Token};
 
 // The version of that form.
@@ -76,7 +75,7 @@ fn loaded(r: Carried) -> Loaded
                 state: state,
             }
         }
-        CarryAnswer::Refused(why) => refuse(why),
+        Err(why) => refuse(why),
     }
 }
 
@@ -115,8 +114,8 @@ pub fn load_earlier(bytes: &[u8]) -> Loaded
             if is_narrow(token) {
                 return carry(c, &bytes[HEAD..]);
             }
-            refuse(Refusal::Number(8))
+            refuse(Refusal::StateUnsound)
         }
-        LoadAnswer::Refused(why) => refuse(why),
+        Err(why) => refuse(why),
     }
 }

@@ -4,19 +4,18 @@
 ghost use Rattle.std.specs.Prelude.{◌≡◌, ◌+◌, ◌%◌, ◌≤◌, length};
 ghost use Rattle.std.proofs.lemmas.List.Edits.{sets};
 ghost use Rattle.wing_node.specs.Signed.{signed, unsigned};
-ghost use Rattle.wing_node.specs.Refusal.{alone};
 ghost use Rattle.wing_node.specs.Result.{refused};
 ghost use Rattle.wing_wire.specs.Token.{class_number};
 ghost use Rattle.wing_wire.specs.State.{body_limit, state_of};
 ghost use Rattle.wing_wire.specs.Write.{write_effect, write_of};
 ghost use Rattle.wing_saved.specs.Saved.{saved_size, flag as flag_of, pending_flag, pending_byte_of, fields_of, head_under, head_bytes, state_bytes};
 ghost use Rattle.wing_saved.specs.Saved.{pending_in, class_in, token_in, fields_in, control_in, begins, sound_only, head_from_under, head_from, head_as, loaded_as, save_of, load_of};
+ghost use Rattle.wing_node.specs.declared.refusal.Refusal.TheVariants.{StateUnsound};
 
 use wing_node::field::{i32_at, put_i32, put_u32, u16_at, u32_at};
 use wing_node::refusal::Refusal;
-use wing_wire::state::{Control, Escape, Pending, State, Token, is_sound};
+use wing_wire::state::{Control, Escape, State, Token, is_sound};
 use wing_wire::token::Class;
-use wing_wire::write::Written;
 
 pub mod earlier;
 
@@ -85,21 +84,21 @@ fn flag(b: bool) -> u8
     if b { 1 } else { 0 }
 }
 
-fn pending_flag(p: Pending) -> u8
+fn pending_flag(p: Option<u8>) -> u8
     ensures { result ≡ pending_flag p }
 {
     match p {
-        Pending::None => 0,
-        Pending::Byte(_) => 1,
+        None => 0,
+        Some(_) => 1,
     }
 }
 
-fn pending_byte(p: Pending) -> u8
+fn pending_byte(p: Option<u8>) -> u8
     ensures { result ≡ pending_byte_of p }
 {
     match p {
-        Pending::None => 0,
-        Pending::Byte(b) => b,
+        None => 0,
+        Some(b) => b,
     }
 }
 
@@ -197,47 +196,47 @@ fn lay(out: &mut [u8], at: usize, src: &[u8])
 }
 
 // The bytes of a control's fields to the front of the output: with the store after them, a state's bytes. 9.
-pub fn lay_head(out: &mut [u8], c: Control) -> Written
+pub fn lay_head(out: &mut [u8], c: Control) -> Result<usize, Refusal>
     ensures { write_effect result out.new ≡ write_of (head_bytes c) out.old }
 {
     if out.len() < HEAD {
-        return Written::Refused(Refusal::Number(9));
+        return Err(Refusal::OutputShort);
     }
     let head = head_of(VERSION, c);
     lay(out, 0, &head);
-    Written::Bytes(HEAD)
+    Ok(HEAD)
 }
 
-fn lay_state(out: &mut [u8], s: State) -> Written
+fn lay_state(out: &mut [u8], s: State) -> Result<usize, Refusal>
     ensures { write_effect result out.new ≡ write_of (state_bytes s) out.old }
 {
     if out.len() < SIZE {
-        return Written::Refused(Refusal::Number(9));
+        return Err(Refusal::OutputShort);
     }
     let c = s.control;
     let head = head_of(VERSION, c);
     lay(out, 0, &head);
     lay(out, HEAD, &s.store);
-    Written::Bytes(SIZE)
+    Ok(SIZE)
 }
 
 // The state's bytes to the front of the output. 8 for a state that is not sound, then 9.
-pub fn save(out: &mut [u8], s: State) -> Written
+pub fn save(out: &mut [u8], s: State) -> Result<usize, Refusal>
     ensures { write_effect result out.new ≡ save_of s out.old }
 {
     if is_sound(s) {
         return lay_state(out, s);
     }
-    Written::Refused(Refusal::Number(8))
+    Err(Refusal::StateUnsound)
 }
 
-fn pending_in(mark: u8, byte: u8) -> Pending
+fn pending_in(mark: u8, byte: u8) -> Option<u8>
     ensures { result ≡ pending_in mark byte }
 {
     if mark == 1 {
-        return Pending::Byte(byte);
+        return Some(byte);
     }
-    Pending::None
+    None
 }
 
 fn class_in(n: u8) -> Class
@@ -341,10 +340,10 @@ fn begins_with(s: &[u8], front: &[u8]) -> bool
 }
 
 fn no_head() -> HeadRead
-    ensures { result ≡ head_as (refused (alone 8)) }
+    ensures { result ≡ head_as (refused StateUnsound) }
 {
     HeadRead {
-        answer: LoadAnswer::Refused(Refusal::Number(8)),
+        answer: Err(Refusal::StateUnsound),
         control: Control::fresh(),
     }
 }
@@ -379,7 +378,7 @@ fn refuse(why: Refusal) -> Loaded
     ensures { result ≡ loaded_as (refused why) }
 {
     Loaded {
-        answer: LoadAnswer::Refused(why),
+        answer: Err(why),
         state: State::fresh(),
     }
 }
@@ -400,7 +399,7 @@ fn load_sound(c: Control, bytes: &[u8]) -> Loaded
             state: s,
         };
     }
-    refuse(Refusal::Number(8))
+    refuse(Refusal::StateUnsound)
 }
 
 // The state whose bytes these are; 8 if they are no sound state's.
@@ -414,6 +413,6 @@ pub fn load(bytes: &[u8]) -> Loaded
             let c = h.control;
             load_sound(c, &bytes[HEAD..])
         }
-        LoadAnswer::Refused(why) => refuse(why),
+        Err(why) => refuse(why),
     }
 }

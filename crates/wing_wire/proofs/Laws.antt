@@ -10,7 +10,6 @@ use Rattle.wing_wire.specs.State.{sound_escape, sound_token, sound_state}
 use Rattle.wing_wire.specs.Stream.{Fed, fed_from, feed_of}
 use Rattle.wing_wire.specs.DecoderLaws.{Handler, state_in, NextLaws, FeedLaws, SoundLaws, DecoderLaws}
 use Rattle.wing_wire.specs.WriterLaws.{WriterLaws}
-use Rattle.wing_wire.specs.declared.state.Pending.TheVariants.{None}
 use Rattle.wing_wire.proofs.Reading.Overs.{length_over}
 use Rattle.wing_wire.proofs.Reading.Pieces.{pending-same, feed-pieces}
 use Rattle.wing_wire.proofs.Reading.Steps.{next-in, next_more, next-takes, feed-ends, feed-again}
@@ -25,6 +24,7 @@ use Rattle.wing_wire.proofs.Writing.Lays.{written, short, goes_on, in-part}
 use Rattle.wing_wire.proofs.Writing.Choices.{string-good}
 use Rattle.wing_wire.proofs.Writing.Sizes.{set-int-le, set-float-le, set-string-le}
 use Rattle.wing_wire.proofs.BothWays.RoundTrip.{round-trip-pieces}
+use Rattle.std.specs.Prelude.{None}
 
 next-laws : NextLaws
 next-laws = record { within = next-in; more = next_more; takes = next-takes; bounded = advance-bounded; sound = sound-within }

@@ -1,22 +1,17 @@
 -- What each answer of the wire comes to in 01's words: what a call that is taken gives, or the number with which it is sent back.
-use Rattle.std.specs.Prelude.{ℕ, List, ℤ, take}
+use Rattle.std.specs.Prelude.{ℕ, List, ℤ, take, Ok, Err}
 use Rattle.wing_node.specs.Result.{Result, ok, refused}
 use Rattle.wing_node.specs.Value.{NodeValue}
-use Rattle.wing_node.specs.Refusal.{alone}
 use Rattle.wing_wire.specs.Reader.{Event, more, value, body, end, refused as refusal, event_of}
-use Rattle.wing_wire.specs.declared.write.Written.{Written}
-use Rattle.wing_wire.specs.declared.write.Written.TheVariants.{Bytes, Refused}
 use Rattle.wing_wire.specs.declared.meter.Requested.{Requested}
-use Rattle.wing_wire.specs.declared.meter.Requested.TheVariants.{Bytes as RequestWritten, Refused as RequestRefused}
 use Rattle.wing_wire.specs.declared.meter.MetersRead.{MetersRead}
-use Rattle.wing_wire.specs.declared.meter.MetersRead.TheVariants.{Readings, Refused as ReadRefused}
 use Rattle.wing_wire.specs.declared.unit.Answer.{Answer}
 use Rattle.wing_wire.specs.declared.reader.Reply.{Reply}
 
 -- 01, Writers: the bytes written, the first n of the output after the call
-unfoldable pub written_result : Written → List ℕ → Result (List ℕ)
-written_result (Bytes n) out = ok (take n out)
-written_result (Refused why) out = refused why
+unfoldable pub written_result : Result ℕ → List ℕ → Result (List ℕ)
+written_result (Ok n) out = ok (take n out)
+written_result (Err why) out = refused why
 
 -- what a meter request that is taken gives: the bytes written and the new meter id
 pub record MeterRequest : Type 0 where
@@ -24,9 +19,9 @@ pub record MeterRequest : Type 0 where
   pub id : ℕ
 
 -- 01, Meters and requests: the bytes, the first n of the output after the call, and id = last id + 1
-unfoldable pub requested_result : Requested → List ℕ → Result MeterRequest
-requested_result (RequestWritten n id) out = ok (record { bytes = take n out; id = id })
-requested_result (RequestRefused n) out = refused (alone n)
+unfoldable pub requested_result : Result Requested → List ℕ → Result MeterRequest
+requested_result (Ok r) out = Ok (record { bytes = take r.len out; id = r.id })
+requested_result (Err why) out = Err why
 
 -- what a meter packet that is taken gives: its meter id and its readings
 pub record MeterPacket : Type 0 where
@@ -34,9 +29,9 @@ pub record MeterPacket : Type 0 where
   pub readings : List ℤ
 
 -- 01: packet: id, readings. The readings are the first n of the lent 16-bit output after the call
-unfoldable pub meters_result : MetersRead → List ℤ → Result MeterPacket
-meters_result (Readings id n) out = ok (record { id = id; readings = take n out })
-meters_result (ReadRefused n) out = refused (alone n)
+unfoldable pub meters_result : Result MetersRead → List ℤ → Result MeterPacket
+meters_result (Ok r) out = Ok (record { id = r.id; readings = take r.count out })
+meters_result (Err why) out = Err why
 
 -- 01's events. A value belongs to the current node
 pub data NodeEvent : Type 0 where

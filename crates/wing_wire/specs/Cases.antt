@@ -1,10 +1,9 @@
 -- 01, Bytes and their outcomes: the cases marked #, one table; and 02's counts. A fresh state reads each that is read.
 -- Then boundaries of 01's rules for states, escapes, requests and meters, each read by a fresh state where no other is named.
-use Rattle.std.specs.Prelude.{ℕ, Bool, true, false, List, [], ◌∷◌, ◌++◌, ℤ, pos, negsuc, length, drop, replicate}
+use Rattle.std.specs.Prelude.{ℕ, Bool, true, false, List, [], ◌∷◌, ◌++◌, ℤ, pos, negsuc, length, drop, replicate, Option, None, Some, Ok}
 use Rattle.wing_node.specs.Result.{Result, ok}
 use Rattle.wing_node.specs.Value.{NodeValue, integer, string}
-use Rattle.wing_node.specs.Refusal.{alone}
-use Rattle.wing_node.specs.declared.refusal.Refusal.TheVariants.{StringNotUtf8}
+use Rattle.wing_node.specs.declared.refusal.Refusal.TheVariants.{StringNotUtf8, BodyEmpty, BodyLong}
 use Rattle.wing_wire.specs.State.{body_limit, escape, control, state_of, fresh_control, fresh_state, sound_state}
 use Rattle.wing_wire.specs.Reader.{Event, more, value, body, refused, event_of, next_of}
 use Rattle.wing_wire.specs.Units.{StreamUnit, stream_unit, units_of}
@@ -12,13 +11,10 @@ use Rattle.wing_wire.specs.Answers.{NodeEvent, value_at, reply_result}
 use Rattle.wing_wire.specs.Command.{set_bytes, request_bytes}
 use Rattle.wing_wire.specs.Meter.{meters_bytes, meter_request, keep_alive, keep_alives, PacketEffect, packet_effect, packet_of}
 use Rattle.wing_wire.specs.declared.token.Class.TheVariants.{Int16, LongCount}
-use Rattle.wing_wire.specs.declared.state.Pending.{Pending}
-use Rattle.wing_wire.specs.declared.state.Pending.TheVariants.{None, Byte}
 use Rattle.wing_wire.specs.declared.state.Escape.{Escape}
 use Rattle.wing_wire.specs.declared.state.Token.{Token}
 use Rattle.wing_wire.specs.declared.state.Token.TheVariants.{Between, Number, String, Body}
 use Rattle.wing_wire.specs.declared.meter.Meter.TheVariants.{Channel, Aux, Bus, Main, Matrix, Dca, Fx, Source, Output, Monitor, Rta, Channel2, Aux2, Bus2, Main2, Matrix2}
-use Rattle.wing_wire.specs.declared.meter.MetersRead.TheVariants.{Readings}
 
 -- what a case gives: units, a channel, the event of a next call, the bytes of a command, or what a packet leaves
 -- and the event at its node, or whether a state is sound
@@ -77,7 +73,7 @@ unfoldable pub state_is : Escape → Token → List ℕ → Bool → Case
 state_is e t store b = case (sound (sound_state (state_of (control e (pos 0) t) store))) (sound b)
 
 -- by the escapes: whether escaped, the channel, what is pending
-abbrev pub escapes_are : Bool → ℤ → Pending → Bool → Case
+abbrev pub escapes_are : Bool → ℤ → Option ℕ → Bool → Case
 escapes_are x c p b = state_is (escape x c p) Between [] b
 
 -- by the token and the store
@@ -98,7 +94,7 @@ set_ends x bs = case (written (drop 5 (set_bytes (pos 7) (integer x)))) (written
 
 -- the id and the readings of a packet, in an output of two readings
 unfoldable pub packet_reads : List ℕ → ℕ → List ℤ → Case
-packet_reads p id rs = case (packet (packet_of p (pos 0 ∷ pos 0 ∷ []))) (packet (packet_effect (Readings id (length rs)) rs))
+packet_reads p id rs = case (packet (packet_of p (pos 0 ∷ pos 0 ∷ []))) (packet (packet_effect (Ok (record { id = id; count = length rs })) rs))
 
 -- 01's cases, a comment line each in 01's words
 unfoldable pub cases : List Case
@@ -138,15 +134,15 @@ cases =
     -- 02: count 0, then the 32-bit count 1, its unit 41 → body 41
     reads (0xdf ∷ 0xde ∷ 0x00 ∷ 0x00 ∷ 0x00 ∷ 0x00 ∷ 0x00 ∷ 0x01 ∷ 0x41 ∷ []) (body (0x41 ∷ [])) ∷
     -- 02: both counts 0 → 3
-    reads (0xdf ∷ 0xde ∷ 0x00 ∷ 0x00 ∷ 0x00 ∷ 0x00 ∷ 0x00 ∷ 0x00 ∷ []) (refused (alone 3)) ∷
+    reads (0xdf ∷ 0xde ∷ 0x00 ∷ 0x00 ∷ 0x00 ∷ 0x00 ∷ 0x00 ∷ 0x00 ∷ []) (refused BodyEmpty) ∷
     -- 02: count 0, then a 32-bit count over 4,096 → none while its units have not come
     reads (0xdf ∷ 0xde ∷ 0x00 ∷ 0x00 ∷ 0x00 ∷ 0x01 ∷ 0x00 ∷ 0x00 ∷ 0x41 ∷ []) more ∷
     -- 02: the count has 32 bits: after 01000000 a unit gives none
     reads (0xdf ∷ 0xde ∷ 0x00 ∷ 0x00 ∷ 0x01 ∷ 0x00 ∷ 0x00 ∷ 0x00 ∷ 0x41 ∷ []) more ∷
     -- the last unit of a count of 4,096 → the body; of 4,097 and of ffffffff → 2
     reads_in (Body 0 4096 1) (0x41 ∷ []) (body (0x41 ∷ [])) ∷
-    reads_in (Body 0 4097 1) (0x41 ∷ []) (refused (alone 2)) ∷
-    reads_in (Body 0 0xffffffff 1) (0x41 ∷ []) (refused (alone 2)) ∷
+    reads_in (Body 0 4097 1) (0x41 ∷ []) (refused BodyLong) ∷
+    reads_in (Body 0 0xffffffff 1) (0x41 ∷ []) (refused BodyLong) ∷
     -- channel 0 is a channel: df d0 df 41 → df, 41
     units_are (0xdf ∷ 0xd0 ∷ 0xdf ∷ 0x41 ∷ []) (appended_unit 0xdf ∷ appended_unit 0x41 ∷ []) ∷
     -- fresh: current node 0; d7 ff ff ff fe: node −2
@@ -158,9 +154,9 @@ cases =
     escapes_are true (pos 13) None true ∷
     escapes_are false (pos 14) None false ∷
     -- a pending byte, whichever it is, only when unescaped with channel at least 0
-    escapes_are false (pos 0) (Byte 0xde) true ∷
-    escapes_are false (negsuc 0) (Byte 0x05) false ∷
-    escapes_are true (pos 0) (Byte 0x05) false ∷
+    escapes_are false (pos 0) (Some 0xde) true ∷
+    escapes_are false (negsuc 0) (Some 0x05) false ∷
+    escapes_are true (pos 0) (Some 0x05) false ∷
     -- between tokens nothing is stored, to the last of 4,096 bytes
     token_is Between (replicate 4096 0) true ∷
     token_is Between (replicate 4095 0 ++ (1 ∷ [])) false ∷

@@ -1,15 +1,13 @@
 -- 01, Writers: the bytes of each command.
-use Rattle.std.specs.Prelude.{ℕ, ◌+◌, ◌-◌, Bool, false, List, [], ◌∷◌, ◌++◌, leb, eqb, ℤ, pos, negsuc, nat_abs, length}
+use Rattle.std.specs.Prelude.{ℕ, ◌+◌, ◌-◌, Bool, false, List, [], ◌∷◌, ◌++◌, leb, eqb, ℤ, pos, negsuc, nat_abs, length, Err, Option, None, Some}
 use Rattle.std.specs.Int.Signed.{le_z}
 use Rattle.wing_node.specs.Bool.{if}
 use Rattle.wing_node.specs.Signed.{unsigned}
 use Rattle.wing_node.specs.Utf8.{utf8}
 use Rattle.wing_node.specs.Value.{NodeValue, integer, float, string}
-use Rattle.wing_node.specs.Refusal.{alone, string_not_utf8}
+use Rattle.wing_node.specs.Refusal.{string_not_utf8}
 use Rattle.wing_wire.specs.Write.{escaped, field, WriteEffect, write_effect, write_of}
-use Rattle.wing_wire.specs.declared.set.Suffix.{Suffix}
-use Rattle.wing_wire.specs.declared.set.Suffix.TheVariants.{None, Byte}
-use Rattle.wing_wire.specs.declared.write.Written.TheVariants.{Refused}
+use Rattle.wing_node.specs.declared.refusal.Refusal.TheVariants.{StringLong}
 
 -- whether x is from a to b
 abbrev pub from◌to◌ : ℤ → ℤ → ℤ → Bool
@@ -48,9 +46,9 @@ unfoldable pub id_bytes : ℕ → ℤ → List ℕ → List ℕ
 id_bytes prefix id suffix = prefix ∷ (field 4 (unsigned 31 id) ++ suffix)
 
 -- format_id's suffix: none, or one byte
-unfoldable pub suffix_bytes : Suffix → List ℕ
+unfoldable pub suffix_bytes : Option ℕ → List ℕ
 suffix_bytes None = []
-suffix_bytes (Byte b) = b ∷ []
+suffix_bytes (Some b) = b ∷ []
 
 -- 01: set: d7, id, value
 unfoldable pub set_bytes : ℤ → NodeValue → List ℕ
@@ -59,7 +57,7 @@ set_bytes id v = id_bytes 0xd7 id (value_bytes v)
 -- 01: a string over 256 is 10, then one that is not UTF-8 is 1, then 9
 unfoldable pub set_string : ℤ → List ℕ → List ℕ → WriteEffect
 set_string id s out =
-    if (leb (length s) 256) (if (utf8 s) (write_of (set_bytes id (string s)) out) (write_effect (Refused (string_not_utf8 s)) out)) (write_effect (Refused (alone 10)) out)
+    if (leb (length s) 256) (if (utf8 s) (write_of (set_bytes id (string s)) out) (write_effect (Err (string_not_utf8 s)) out)) (write_effect (Err StringLong) out)
 
 -- 01: definition request: da dd for id 0, else d7 id dd; data request dc for dd
 unfoldable pub request_bytes : ℕ → ℤ → List ℕ

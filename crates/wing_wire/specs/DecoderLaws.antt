@@ -1,5 +1,5 @@
 -- What a user of the decoder may rely on besides the contracts: laws of a next call and of a feed, the latter for any handler of the answers.
-use Rattle.std.specs.Prelude.{ℕ, suc, ◌+◌, ◌≤◌, true, false, ◌≡◌, ◌⊎◌, List, [], ◌∷◌, ◌++◌, ℤ, pos, length, drop}
+use Rattle.std.specs.Prelude.{ℕ, suc, ◌+◌, ◌≤◌, true, false, ◌≡◌, ◌⊎◌, List, [], ◌∷◌, ◌++◌, ℤ, pos, length, drop, None}
 use Rattle.wing_node.specs.Signed.{InBits}
 use Rattle.wing_wire.specs.State.{sound_state, fresh_state}
 use Rattle.wing_wire.specs.Escape.{DecodeNextSound}
@@ -8,7 +8,6 @@ use Rattle.wing_wire.specs.Reader.{Event, filled}
 use Rattle.wing_wire.specs.Units.{pending_count}
 use Rattle.wing_wire.specs.Range.{AreBytes, Within, TokenWithin, StepEffectWithin, StoreIn, InRange, AnswerIn}
 use Rattle.wing_wire.specs.RoundTrip.{fed_rest, RoundTripPieces}
-use Rattle.wing_wire.specs.declared.state.Pending.TheVariants.{None}
 use Rattle.wing_wire.specs.declared.state.Control.{Control}
 use Rattle.wing_wire.specs.declared.state.State.{State}
 use Rattle.wing_wire.specs.declared.unit.Answer.{Answer}

@@ -1,13 +1,11 @@
 -- 02, Job 4: a decoder state as it was before, which of them were sound, and carrying one over.
-use Rattle.std.specs.Prelude.{ℕ, ◌-◌, Bool, true, false, List, ltb, ℤ, pos, negsuc, drop, replicate}
+use Rattle.std.specs.Prelude.{ℕ, ◌-◌, Bool, true, false, List, ltb, ℤ, pos, negsuc, drop, replicate, None}
 use Rattle.wing_node.specs.Bool.{if, and}
 use Rattle.wing_node.specs.Result.{Result, ok, refused}
-use Rattle.wing_node.specs.Refusal.{alone}
 use Rattle.wing_wire.specs.State.{body_limit, escape, control, state_of, fresh_state, zeros, sound_escape, sound_number, sound_string, sound_body}
 use Rattle.wing_wire.specs.declared.token.Class.{Class}
 use Rattle.wing_wire.specs.declared.token.Class.TheVariants.{NoEvent, Integer, String as AString, Length, Int16, Int32, Float, Node, End, Count, LongCount}
 use Rattle.wing_wire.specs.declared.state.Escape.{Escape}
-use Rattle.wing_wire.specs.declared.state.Pending.TheVariants.{None}
 use Rattle.wing_wire.specs.declared.state.Token.{Token}
 use Rattle.wing_wire.specs.declared.state.Token.TheVariants.{Between as between, Number as number, String as string, Body as body}
 use Rattle.wing_wire.specs.declared.state.State.{State}
@@ -15,9 +13,7 @@ use Rattle.wing_wire.specs.declared.earlier.Token.{Token as EarlierToken}
 use Rattle.wing_wire.specs.declared.earlier.Token.TheVariants.{Between, Number, String, Body}
 use Rattle.wing_wire.specs.declared.earlier.Control.{Control as EarlierControl}
 use Rattle.wing_wire.specs.declared.earlier.State.{State as EarlierState}
-use Rattle.wing_wire.specs.declared.earlier.CarryAnswer.{CarryAnswer}
-use Rattle.wing_wire.specs.declared.earlier.CarryAnswer.TheVariants.{Good, Refused}
-use Rattle.wing_wire.specs.declared.earlier.Carried.{Carried}
+use Rattle.wing_node.specs.declared.refusal.Refusal.TheVariants.{StateUnsound}
 
 -- ---- as it was
 
@@ -89,14 +85,4 @@ carried s = state_of (control s.control.escape s.control.node (carried_token s.c
 
 -- 02: an old sound state is carried over; one that has taken any of the four units after count 0, or isn't sound, gets 8
 unfoldable pub carry_of : EarlierState → Result State
-carry_of s = if (is_started s.control.token) (refused (alone 8)) (if (earlier_sound s) (ok (carried s)) (refused (alone 8)))
-
--- the answer with the state, or with a fresh one beside a refusal
-unfoldable pub carried_as : Result State → Carried
-carried_as (ok s) = record { answer = Good; state = s }
-carried_as (refused why) = record { answer = Refused why; state = fresh_state }
-
--- 01's number and value for each case of the answer, with the state beside it
-unfoldable pub carried_result : CarryAnswer → State → Result State
-carried_result Good s = ok s
-carried_result (Refused why) s = refused why
+carry_of s = if (is_started s.control.token) (refused StateUnsound) (if (earlier_sound s) (ok (carried s)) (refused StateUnsound))

@@ -1,7 +1,7 @@
 -- 02, Job 4: the decoder as it was before, unit by unit, and that a state carried over reads on as it did.
 use Rattle.std.specs.Prelude.{ℕ, ◌+◌, ◌-◌, ◌%◌, Bool, true, false, not, ◌≡◌, List, [], ◌∷◌, leb, eqb, ℤ, take, set}
 use Rattle.wing_node.specs.Bool.{if, and}
-use Rattle.wing_node.specs.Refusal.{refusal_number, alone}
+use Rattle.wing_node.specs.Refusal.{good_aside}
 use Rattle.wing_node.specs.Result.{ok, refused}
 use Rattle.wing_node.specs.Signed.{signed}
 use Rattle.wing_node.specs.Utf8.{utf8}
@@ -21,6 +21,7 @@ use Rattle.wing_wire.specs.declared.earlier.Control.{Control}
 use Rattle.wing_wire.specs.declared.earlier.State.{State}
 use Rattle.wing_wire.specs.declared.unit.Answer.{Answer}
 use Rattle.wing_wire.specs.declared.unit.Answer.TheVariants.{More, Integer as an_integer, Float as a_float, String as a_string, Body as a_body, End as an_end, Refused}
+use Rattle.wing_node.specs.declared.refusal.Refusal.TheVariants.{BodyEmpty, BodyLong, StateUnsound, StringNotUtf8}
 
 -- ---- one unit, as it was
 
@@ -61,7 +62,7 @@ earlier_number node Float v = completed node (a_float v)
 earlier_number node Node v = completed (signed 31 v) More
 earlier_number node End v = completed node More
 earlier_number node Count v = earlier_count node (v % 0x10000)
-earlier_number node LongCount v = completed node (Refused (alone 3))
+earlier_number node LongCount v = completed node (Refused BodyEmpty)
 
 -- with the store
 pub record EarlierEffect : Type 0 where
@@ -75,12 +76,12 @@ earlier_effect t s = record { taken = t; store = s }
 -- 01: strings are UTF-8, else refusal 1
 unfoldable pub earlier_text : ℤ → ℕ → List ℕ → EarlierEffect
 earlier_text node want s =
-    if (utf8 (take want s)) (earlier_effect (completed node (a_string want)) s) (earlier_effect (completed node (Refused (alone 1))) (cleared want s))
+    if (utf8 (take want s)) (earlier_effect (completed node (a_string want)) s) (earlier_effect (completed node (Refused (StringNotUtf8 0))) (cleared want s))
 
 -- 01: count over 4,096 reads all c units, then answers 2
 unfoldable pub earlier_next : ℤ → ℕ → ℕ → ℕ → EarlierTaken
 earlier_next node want left stored =
-    if (leb left 1) (if (leb want body_limit) (completed node (a_body stored)) (completed node (Refused (alone 2)))) (awaited node (InBody want (left - 1) stored))
+    if (leb left 1) (if (leb want body_limit) (completed node (a_body stored)) (completed node (Refused BodyLong))) (awaited node (InBody want (left - 1) stored))
 
 -- one unit
 unfoldable pub earlier_unit : ℤ → Token → List ℕ → ℕ → Bool → EarlierEffect
@@ -104,7 +105,7 @@ without_good (a_float bits) = a_float bits
 without_good (a_string n) = a_string n
 without_good (a_body n) = a_body n
 without_good an_end = an_end
-without_good (Refused why) = Refused (alone (refusal_number why))
+without_good (Refused why) = Refused (good_aside why)
 
 -- a handler of such answers, on today's
 abbrev pub seeing : {M : Type 0} → (ℤ → Answer → List ℕ → M → M) → ℤ → Answer → List ℕ → M → M
@@ -188,7 +189,7 @@ module _ {M : Type 0} (h : ℤ → Answer → List ℕ → M → M) where
     pub long : (t : Token) → wants_long t ≡ true → InLong t
     -- a sound state within the four units after a count 0 gets 8 as soon as one of them is taken
     pub started : (x : EarlierFed M) (g : StreamUnit) → earlier_sound (earlier_in x) ≡ true → wants_long x.control.token ≡ true →
-        wants_long (earlier_take x g).control.token ≡ true → carry_of (earlier_in (earlier_take x g)) ≡ refused (alone 8)
+        wants_long (earlier_take x g).control.token ≡ true → carry_of (earlier_in (earlier_take x g)) ≡ refused StateUnsound
     -- what bytes without a started long count leave of a fresh old decoder is carried over, and is what they leave of a fresh new one
     pub fresh : (m : M) (bytes : List ℕ) → AreBytes bytes → no_long_count (fresh_earlier m) bytes →
         carry_of (earlier_in (earlier_feed (fresh_earlier m) bytes)) ≡ ok (state_in (feed_of (seeing h) (fresh_now m) bytes))

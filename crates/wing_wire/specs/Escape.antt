@@ -1,10 +1,8 @@
 -- 01, Escapes: the decoder turns bytes into units; here the next unit, with the escapes after it.
-use Rattle.std.specs.Prelude.{ℕ, ◌+◌, ◌-◌, true, false, ◌≡◌, List, ltb, eqb, pos, length, get_or}
+use Rattle.std.specs.Prelude.{ℕ, ◌+◌, ◌-◌, true, false, ◌≡◌, List, ltb, eqb, pos, length, get_or, Option, None, Some}
 use Rattle.std.specs.Int.Signed.{lt_z}
 use Rattle.wing_node.specs.Bool.{if}
 use Rattle.wing_wire.specs.State.{escape, sound_escape}
-use Rattle.wing_wire.specs.declared.state.Pending.{Pending}
-use Rattle.wing_wire.specs.declared.state.Pending.TheVariants.{None, Byte}
 use Rattle.wing_wire.specs.declared.state.Escape.{Escape}
 use Rattle.wing_wire.specs.declared.escape.Unit.{Unit}
 use Rattle.wing_wire.specs.declared.escape.Unit.TheVariants.{Nothing, Bare, Appended}
@@ -23,7 +21,7 @@ ended e = escape false e.channel e.pending
 unfoldable pub other_of : Escape → ℕ → Decoded
 other_of e b =
     if (lt_z e.channel (pos 0)) (decoded (ended e) (Appended b))
-    (decoded (escape false e.channel (Byte b)) (Appended 0xdf))
+    (decoded (escape false e.channel (Some b)) (Appended 0xdf))
 
 -- 01: df: unit df, still escaped, nothing appended. Anything else ends escaped: de: unit df, appended; d0 to dd: channel becomes byte − d0, no unit
 unfoldable pub escaped_of : Escape → ℕ → Decoded
@@ -53,9 +51,9 @@ byte_next e bytes n =
     (next_unit e Nothing n)
 
 -- 01: a pending byte is the next unit and is appended to the body: no byte is taken, and nothing is pending after it
-abbrev pub pending_next : Pending → Escape → List ℕ → ℕ → NextUnit
+abbrev pub pending_next : Option ℕ → Escape → List ℕ → ℕ → NextUnit
 pending_next None e bytes n = byte_next e bytes n
-pending_next (Byte u) e bytes n = next_unit (escape e.escaped e.channel None) (Appended u) n
+pending_next (Some u) e bytes n = next_unit (escape e.escaped e.channel None) (Appended u) n
 
 -- 01: the decoder turns bytes into units: one step of it from the place n on
 unfoldable pub decode_next_of : Escape → List ℕ → ℕ → NextUnit

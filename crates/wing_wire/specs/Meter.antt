@@ -1,5 +1,5 @@
 -- 01, Meters and requests: what is written for meters, and what a packet holds.
-use Rattle.std.specs.Prelude.{ℕ, zero, suc, ◌+◌, List, [], ◌∷◌, ◌++◌, ltb, leb, eqb, ℤ, length, take, drop}
+use Rattle.std.specs.Prelude.{ℕ, zero, suc, ◌+◌, List, [], ◌∷◌, ◌++◌, ltb, leb, eqb, ℤ, length, take, drop, Err, Ok}
 use Rattle.wing_node.specs.Bool.{if}
 use Rattle.wing_node.specs.Field.{big}
 use Rattle.wing_node.specs.Signed.{signed}
@@ -9,9 +9,9 @@ use Rattle.wing_wire.specs.declared.meter.Meter.TheVariants.{Channel, Aux, Bus, 
 use Rattle.wing_wire.specs.declared.meter.MeterItem.{MeterItem}
 use Rattle.wing_wire.specs.declared.meter.MeterItem.TheVariants.{Alone, Indexed}
 use Rattle.wing_wire.specs.declared.meter.Requested.{Requested}
-use Rattle.wing_wire.specs.declared.meter.Requested.TheVariants.{Bytes, Refused}
 use Rattle.wing_wire.specs.declared.meter.MetersRead.{MetersRead}
-use Rattle.wing_wire.specs.declared.meter.MetersRead.TheVariants.{Readings, Refused as ReadRefused}
+use Rattle.wing_node.specs.declared.refusal.Refusal.TheVariants.{MeterIdLast, MetersOver, OutputShort, PacketSize}
+use Rattle.wing_node.specs.Result.{Result}
 
 -- 01: items a0 to a8 with index: channel, aux, bus, main, matrix, dca, fx, source, output; a9 monitor, aa rta alone;
 -- ab to af: channel2, aux2, bus2, main2, matrix2
@@ -57,25 +57,25 @@ meter_request port id ms = request_head port id ++ (meters_bytes ms ++ (0xde ∷
 
 -- what a meter request leaves: its answer and the output
 pub record RequestEffect : Type 0 where
-  pub answer : Requested
+  pub answer : Result Requested
   pub out : List ℕ
 
 -- an answer and the output
-abbrev pub request_effect : Requested → List ℕ → RequestEffect
+abbrev pub request_effect : Result Requested → List ℕ → RequestEffect
 request_effect answer out = record { answer = answer; out = out }
 
 -- 01: output too short for the whole is 9, as it was; else the bytes, and the new id
 unfoldable pub write_request_of : List ℕ → ℕ → List ℕ → RequestEffect
 write_request_of bytes id out =
-    if (ltb (length out) (length bytes)) (request_effect (Refused 9) out)
-    (request_effect (Bytes (length bytes) id) (bytes ++ drop (length bytes) out))
+    if (ltb (length out) (length bytes)) (request_effect (Err OutputShort) out)
+    (request_effect (Ok (record { len = length bytes; id = id })) (bytes ++ drop (length bytes) out))
 
 -- 01: id = last id + 1. More than 64 meters is 11, then last meter id 65,535 is 12, then 9
 unfoldable pub request_meter : ℕ → ℕ → List Meter → ℕ → List ℕ → RequestEffect
 request_meter port last ms count out =
     if (leb count 64)
-    (if (eqb last 65535) (request_effect (Refused 12) out) (write_request_of (meter_request port (last + 1) (take count ms)) (last + 1) out))
-    (request_effect (Refused 11) out)
+    (if (eqb last 65535) (request_effect (Err MeterIdLast) out) (write_request_of (meter_request port (last + 1) (take count ms)) (last + 1) out))
+    (request_effect (Err MetersOver) out)
 
 -- 01: df d3 d4 id port df d1
 unfoldable pub keep_alive : ℕ → ℕ → List ℕ
@@ -94,18 +94,18 @@ readings (a ∷ b ∷ s) = signed 15 (big (a ∷ b ∷ [])) ∷ readings s
 
 -- what reading a packet leaves: its answer and the readings' buffer
 pub record PacketEffect : Type 0 where
-  pub answer : MetersRead
+  pub answer : Result MetersRead
   pub out : List ℤ
 
 -- an answer and the buffer
-abbrev pub packet_effect : MetersRead → List ℤ → PacketEffect
+abbrev pub packet_effect : Result MetersRead → List ℤ → PacketEffect
 packet_effect answer out = record { answer = answer; out = out }
 
 -- 01: packet: id 2, two ignored, readings. Outside 4 to 8,192 bytes is 13, then output too short for the whole is 9
 unfoldable pub packet_of : List ℕ → List ℤ → PacketEffect
 packet_of p out =
     let rs = readings (drop 4 p) in
-    if (ltb (length p) 4) (packet_effect (ReadRefused 13) out)
-    (if (ltb 8192 (length p)) (packet_effect (ReadRefused 13) out)
-    (if (ltb (length out) (length rs)) (packet_effect (ReadRefused 9) out)
-    (packet_effect (Readings (big (take 2 p)) (length rs)) (rs ++ drop (length rs) out))))
+    if (ltb (length p) 4) (packet_effect (Err PacketSize) out)
+    (if (ltb 8192 (length p)) (packet_effect (Err PacketSize) out)
+    (if (ltb (length out) (length rs)) (packet_effect (Err OutputShort) out)
+    (packet_effect (Ok (record { id = big (take 2 p); count = length rs })) (rs ++ drop (length rs) out))))

@@ -1,14 +1,12 @@
 -- How the code takes bytes up to an answer: unit by unit, and fast through the plain bytes inside a number or a string.
 -- proofs/Reading/Plains.antt: this is advance_of.
-use Rattle.std.specs.Prelude.{ℕ, ◌+◌, ◌-◌, Bool, true, false, not, List, [], ◌∷◌, ltb, leb, eqb, drop, set}
+use Rattle.std.specs.Prelude.{ℕ, ◌+◌, ◌-◌, Bool, true, false, not, List, [], ◌∷◌, ltb, leb, eqb, drop, set, Option, None, Some}
 use Rattle.wing_node.specs.Bool.{if}
 use Rattle.wing_wire.specs.State.{control}
 use Rattle.wing_wire.specs.Escape.{decode_next_of}
 use Rattle.wing_wire.specs.Unit.{shift_in}
 use Rattle.wing_wire.specs.Stream.{StepEffect, step_effect, no_answer, is_more, given_of}
 use Rattle.wing_wire.specs.declared.token.Class.{Class}
-use Rattle.wing_wire.specs.declared.state.Pending.{Pending}
-use Rattle.wing_wire.specs.declared.state.Pending.TheVariants.{None, Byte}
 use Rattle.wing_wire.specs.declared.state.Escape.{Escape}
 use Rattle.wing_wire.specs.declared.state.Token.{Token}
 use Rattle.wing_wire.specs.declared.state.Token.TheVariants.{Between, Number, String, Body}
@@ -20,9 +18,9 @@ use Rattle.wing_wire.specs.declared.stream.TokenAt.{TokenAt}
 use Rattle.wing_wire.specs.declared.stream.Stepped.{Stepped}
 
 -- whether a byte is pending
-abbrev pub is_pending : Pending → Bool
+abbrev pub is_pending : Option ℕ → Bool
 is_pending None = false
-is_pending (Byte u) = true
+is_pending (Some u) = true
 
 -- whether a byte gave no unit
 abbrev pub is_nothing : Unit → Bool

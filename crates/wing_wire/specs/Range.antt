@@ -1,11 +1,9 @@
 -- What every state of the code meets by its types, as that its bytes are below 256; and what every answer meets.
-use Rattle.std.specs.Prelude.{ℕ, ◌^◌, ◌<◌, ◌≤◌, true, ◌≡◌, List, [], ◌∷◌, length, take}
+use Rattle.std.specs.Prelude.{ℕ, ◌^◌, ◌<◌, ◌≤◌, true, ◌≡◌, List, [], ◌∷◌, length, take, Option, None, Some}
 use Rattle.wing_node.specs.Signed.{InBits}
 use Rattle.wing_node.specs.Utf8.{utf8}
 use Rattle.wing_wire.specs.State.{body_limit}
 use Rattle.wing_wire.specs.Stream.{StepEffect}
-use Rattle.wing_wire.specs.declared.state.Pending.{Pending}
-use Rattle.wing_wire.specs.declared.state.Pending.TheVariants.{None, Byte}
 use Rattle.wing_wire.specs.declared.state.Token.{Token}
 use Rattle.wing_wire.specs.declared.state.Token.TheVariants.{Between, Number, String as InString, Body as InBody}
 use Rattle.wing_wire.specs.declared.state.Control.{Control}
@@ -18,9 +16,9 @@ pub data AreBytes : List ℕ → Type 0 where
   byte_then : {b : ℕ} {bs : List ℕ} → b < 256 → AreBytes bs → AreBytes (b ∷ bs)
 
 -- a pending byte is any byte
-pub data PendingByte : Pending → Type 0 where
+pub data PendingByte : Option ℕ → Type 0 where
   no_pending : PendingByte None
-  pending_byte : {b : ℕ} → b < 256 → PendingByte (Byte b)
+  pending_byte : {b : ℕ} → b < 256 → PendingByte (Some b)
 
 -- 01: string (256 bytes) or body (4,096 bytes); strings are UTF-8
 abbrev pub Within : Answer → List ℕ → Type 0

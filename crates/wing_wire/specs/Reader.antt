@@ -2,7 +2,6 @@
 use Rattle.std.specs.Prelude.{ℕ, List, [], ◌∷◌, leb, length, take, replicate}
 use Rattle.wing_node.specs.Bool.{if}
 use Rattle.wing_node.specs.Value.{NodeValue, integer, float, string}
-use Rattle.wing_node.specs.Refusal.{alone}
 use Rattle.wing_node.specs.declared.refusal.Refusal.{Refusal}
 use Rattle.wing_wire.specs.State.{body_limit, sound_state}
 use Rattle.wing_wire.specs.Stream.{Run, advance_of, released}
@@ -10,6 +9,7 @@ use Rattle.wing_wire.specs.declared.state.State.{State}
 use Rattle.wing_wire.specs.declared.unit.Answer.{Answer}
 use Rattle.wing_wire.specs.declared.unit.Answer.TheVariants.{More, Integer, Float, String, Body, End, Refused}
 use Rattle.wing_wire.specs.declared.reader.Reply.{Reply}
+use Rattle.wing_node.specs.declared.refusal.Refusal.TheVariants.{NumberOver, StateUnsound}
 
 -- 01's events and refusals
 pub data Event : Type 0 where
@@ -60,8 +60,8 @@ body_beside End s = replicate body_limit 0
 body_beside (Refused why) s = replicate body_limit 0
 
 -- a refused call: nothing taken, the state as it was
-abbrev pub refused_next : ℕ → State → Reply
-refused_next why s = record { answer = Refused (alone why); taken = 0; state = s; string = replicate 256 0; body = replicate body_limit 0 }
+abbrev pub refused_next : Refusal → State → Reply
+refused_next why s = record { answer = Refused why; taken = 0; state = s; string = replicate 256 0; body = replicate body_limit 0 }
 
 -- the reply to a run: the store cleared of what was given out
 abbrev pub next_from : Run → Reply
@@ -79,8 +79,8 @@ next_from r =
 unfoldable pub next_of : State → List ℕ → Reply
 next_of s bytes =
     if (sound_state s)
-    (if (leb (length bytes) 65536) (next_from (advance_of s.control s.store bytes)) (refused_next 14 s))
-    (refused_next 8 s)
+    (if (leb (length bytes) 65536) (next_from (advance_of s.control s.store bytes)) (refused_next NumberOver s))
+    (refused_next StateUnsound s)
 
 -- the event or refusal that a reply says, by the answer and the arrays beside it
 abbrev pub event_in : Reply → Event
@@ -90,4 +90,4 @@ event_in r = event_of r.answer r.string r.body
 unfoldable pub next_event : State → List ℕ → Event
 next_event s bytes =
     let h = (advance_of s.control s.store bytes).effect in
-    if (sound_state s) (if (leb (length bytes) 65536) (event_of h.answered.answer h.store h.store) (refused (alone 14))) (refused (alone 8))
+    if (sound_state s) (if (leb (length bytes) 65536) (event_of h.answered.answer h.store h.store) (refused NumberOver)) (refused StateUnsound)

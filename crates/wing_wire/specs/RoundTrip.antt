@@ -1,5 +1,5 @@
 -- Demand 2: each accepted set order, read back, gives its node and value.
-use Rattle.std.specs.Prelude.{ℕ, ◌≤◌, ◌<◌, true, false, ◌≡◌, List, [], ◌∷◌, ℤ, length}
+use Rattle.std.specs.Prelude.{ℕ, ◌≤◌, ◌<◌, true, false, ◌≡◌, List, [], ◌∷◌, ℤ, length, None}
 use Rattle.wing_node.specs.Bytes.{joined}
 use Rattle.wing_node.specs.Signed.{InBits}
 use Rattle.wing_node.specs.Utf8.{utf8}
@@ -8,7 +8,6 @@ use Rattle.wing_wire.specs.Command.{set_bytes}
 use Rattle.wing_wire.specs.State.{body_limit, escape, control, sound_state}
 use Rattle.wing_wire.specs.Stream.{Fed, feed_of}
 use Rattle.wing_wire.specs.Reader.{Event, value, event_of, next_of, event_in}
-use Rattle.wing_wire.specs.declared.state.Pending.TheVariants.{None}
 use Rattle.wing_wire.specs.declared.state.Token.TheVariants.{Between}
 use Rattle.wing_wire.specs.declared.state.State.{State}
 

@@ -1,15 +1,12 @@
 -- Demand 2, on the writers' own answers: the bytes that a set order wrote, read back, give its node and value.
-use Rattle.std.specs.Prelude.{ℕ, true, false, ◌≡◌, List, ℤ, length, take}
-use Rattle.wing_node.specs.Result.{ok}
+use Rattle.std.specs.Prelude.{ℕ, true, false, ◌≡◌, List, ℤ, length, take, Ok, Err, None}
+use Rattle.wing_node.specs.Result.{ok, Result}
 use Rattle.wing_node.specs.Value.{NodeValue}
 use Rattle.wing_wire.specs.State.{body_limit, sound_state}
 use Rattle.wing_wire.specs.Reader.{next_of}
 use Rattle.wing_wire.specs.Answers.{value_at, reply_result}
-use Rattle.wing_wire.specs.declared.state.Pending.TheVariants.{None}
 use Rattle.wing_wire.specs.declared.state.Token.TheVariants.{Between}
 use Rattle.wing_wire.specs.declared.state.State.{State}
-use Rattle.wing_wire.specs.declared.write.Written.{Written}
-use Rattle.wing_wire.specs.declared.write.Written.TheVariants.{Bytes, Refused}
 
 -- a sound state that is unescaped, between tokens and with no byte pending, on any channel and at any node; a store has 4,096 bytes
 pub record AtRest (s : State) : Type 0 where
@@ -28,6 +25,6 @@ pub record ReadBack (id : ℤ) (v : NodeValue) (n : ℕ) (bytes : List ℕ) (s :
 
 -- a writer's answer and the output after it: where n bytes were written, the first n bytes of the output are read as that value at
 -- that node, in every such state. A refused order wrote nothing to read
-abbrev pub ReadsAsSet : ℤ → NodeValue → Written → List ℕ → Type 0
-ReadsAsSet id v (Bytes n) out = (s : State) → AtRest s → ReadBack id v n (take n out) s
-ReadsAsSet id v (Refused why) out = Unit {0}
+abbrev pub ReadsAsSet : ℤ → NodeValue → Result ℕ → List ℕ → Type 0
+ReadsAsSet id v (Ok n) out = (s : State) → AtRest s → ReadBack id v n (take n out) s
+ReadsAsSet id v (Err why) out = Unit {0}

@@ -1,11 +1,9 @@
 -- The receiving state: the fresh one, and which are sound.
-use Rattle.std.specs.Prelude.{ℕ, ◌-◌, ◌^◌, Bool, true, false, List, [], ◌∷◌, ltb, leb, eqb, ℤ, pos, negsuc, drop, replicate}
+use Rattle.std.specs.Prelude.{ℕ, ◌-◌, ◌^◌, Bool, true, false, List, [], ◌∷◌, ltb, leb, eqb, ℤ, pos, negsuc, drop, replicate, Option, None, Some}
 use Rattle.std.specs.Int.Signed.{le_z}
 use Rattle.wing_node.specs.Bool.{if, and}
 use Rattle.wing_wire.specs.Token.{width_of}
 use Rattle.wing_wire.specs.declared.token.Class.{Class}
-use Rattle.wing_wire.specs.declared.state.Pending.{Pending}
-use Rattle.wing_wire.specs.declared.state.Pending.TheVariants.{None, Byte}
 use Rattle.wing_wire.specs.declared.state.Escape.{Escape}
 use Rattle.wing_wire.specs.declared.state.Token.{Token}
 use Rattle.wing_wire.specs.declared.state.Token.TheVariants.{Between, Number, String, Body}
@@ -17,7 +15,7 @@ abbrev pub body_limit : ℕ
 body_limit = 4096
 
 -- escapes by their parts
-abbrev pub escape : Bool → ℤ → Pending → Escape
+abbrev pub escape : Bool → ℤ → Option ℕ → Escape
 escape escaped channel pending = record { escaped = escaped; channel = channel; pending = pending }
 
 -- a control by its parts
@@ -42,9 +40,9 @@ zeros [] = true
 zeros (b ∷ s) = and (eqb b 0) (zeros s)
 
 -- 01: a pending byte only when unescaped with channel at least 0
-unfoldable pub sound_pending : Pending → Escape → Bool
+unfoldable pub sound_pending : Option ℕ → Escape → Bool
 sound_pending None e = true
-sound_pending (Byte b) e = and (if e.escaped false true) (le_z (pos 0) e.channel)
+sound_pending (Some b) e = and (if e.escaped false true) (le_z (pos 0) e.channel)
 
 -- 01: channel −1 to 13
 unfoldable pub sound_escape : Escape → Bool

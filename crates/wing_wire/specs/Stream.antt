@@ -1,11 +1,9 @@
 -- Bytes one after the other: what each makes of the control and the store, up to the first answer and through all of them.
-use Rattle.std.specs.Prelude.{ℕ, ◌+◌, Bool, true, false, List, [], ◌∷◌, ℤ}
+use Rattle.std.specs.Prelude.{ℕ, ◌+◌, Bool, true, false, List, [], ◌∷◌, ℤ, Option, None, Some}
 use Rattle.wing_node.specs.Bool.{if}
 use Rattle.wing_wire.specs.State.{escape, control}
 use Rattle.wing_wire.specs.Escape.{decode_of}
 use Rattle.wing_wire.specs.Unit.{UnitEffect, cleared, unit_of}
-use Rattle.wing_wire.specs.declared.state.Pending.{Pending}
-use Rattle.wing_wire.specs.declared.state.Pending.TheVariants.{None, Byte}
 use Rattle.wing_wire.specs.declared.state.Escape.{Escape}
 use Rattle.wing_wire.specs.declared.state.Control.{Control}
 use Rattle.wing_wire.specs.declared.escape.Unit.{Unit}
@@ -47,9 +45,9 @@ abbrev pub after_unit : Escape → UnitEffect → StepEffect
 after_unit e o = step_effect (answered o.taken.answer (control e o.taken.node o.taken.token)) o.store
 
 -- 01: a pending byte is the next unit and is appended to the body
-abbrev pub pending_of : Pending → Control → List ℕ → StepEffect
+abbrev pub pending_of : Option ℕ → Control → List ℕ → StepEffect
 pending_of None c s = no_answer c s
-pending_of (Byte u) c s = after_unit (escape c.escape.escaped c.escape.channel None) (unit_of c.node c.token s u true)
+pending_of (Some u) c s = after_unit (escape c.escape.escaped c.escape.channel None) (unit_of c.node c.token s u true)
 
 -- the same of the control's own pending byte, if it has one
 unfoldable pub settle_of : Control → List ℕ → StepEffect

@@ -6,7 +6,7 @@ use Rattle.wing_node.specs.Field.{big}
 use Rattle.wing_node.specs.Signed.{signed}
 use Rattle.wing_node.specs.Utf8.{utf8}
 use Rattle.wing_node.specs.Value.{integer, float, string}
-use Rattle.wing_node.specs.Refusal.{alone, string_not_utf8}
+use Rattle.wing_node.specs.Refusal.{string_not_utf8}
 use Rattle.wing_wire.specs.State.{body_limit, control}
 use Rattle.wing_wire.specs.Stream.{Fed, feed_of}
 use Rattle.wing_wire.specs.Reader.{Event, value, body, end, refused, event_of}
@@ -15,6 +15,7 @@ use Rattle.wing_wire.specs.Units.{StreamUnit, stream_unit, units_of, with_escape
 use Rattle.wing_wire.specs.declared.state.Escape.{Escape}
 use Rattle.wing_wire.specs.declared.state.Token.TheVariants.{Between}
 use Rattle.wing_wire.specs.declared.unit.Answer.{Answer}
+use Rattle.wing_node.specs.declared.refusal.Refusal.TheVariants.{BodyEmpty, BodyLong}
 
 -- a store with nothing in it: 4,096 zeros
 unfoldable pub empty_store : List ℕ
@@ -91,9 +92,9 @@ pub data InTable : List StreamUnit → TokenResult → Type 0 where
       InTable (stream_unit 0xdf a ∷ (c ++ us)) (event (body (appended us)))
   -- count over 4,096 reads all n units, then answers 2
   count_over : (a : Bool) (c us : List StreamUnit) (n : ℕ) → InForce c n → body_limit < n → Further n us →
-      InTable (stream_unit 0xdf a ∷ (c ++ us)) (event (refused (alone 2)))
+      InTable (stream_unit 0xdf a ∷ (c ++ us)) (event (refused BodyLong))
   -- 02: 3 means that both counts are 0
-  counts_zero : (a : Bool) (c : List StreamUnit) → InForce c 0 → InTable (stream_unit 0xdf a ∷ c) (event (refused (alone 3)))
+  counts_zero : (a : Bool) (c : List StreamUnit) → InForce c 0 → InTable (stream_unit 0xdf a ∷ c) (event (refused BodyEmpty))
   -- 40–7f, d8, da–dd, e0–ff: no event
   no_event : (t : ℕ) (a : Bool) → Rest t → InTable (stream_unit t a ∷ []) nothing
 

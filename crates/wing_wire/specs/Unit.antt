@@ -3,7 +3,7 @@ use Rattle.std.specs.Prelude.{ℕ, ◌+◌, ◌-◌, ◌*◌, ◌%◌, Bool, tru
 use Rattle.wing_node.specs.Bool.{if}
 use Rattle.wing_node.specs.Signed.{signed}
 use Rattle.wing_node.specs.Utf8.{utf8}
-use Rattle.wing_node.specs.Refusal.{alone, string_not_utf8}
+use Rattle.wing_node.specs.Refusal.{string_not_utf8}
 use Rattle.wing_wire.specs.State.{body_limit}
 use Rattle.wing_wire.specs.Token.{rule_of}
 use Rattle.wing_wire.specs.declared.token.Class.{Class}
@@ -13,6 +13,7 @@ use Rattle.wing_wire.specs.declared.state.Token.TheVariants.{Between, Number, St
 use Rattle.wing_wire.specs.declared.unit.Answer.{Answer}
 use Rattle.wing_wire.specs.declared.unit.Answer.TheVariants.{More, Integer as an_integer, Float as a_float, String as a_string, Body as a_body, End as an_end, Refused}
 use Rattle.wing_wire.specs.declared.unit.Taken.{Taken}
+use Rattle.wing_node.specs.declared.refusal.Refusal.TheVariants.{BodyEmpty, BodyLong}
 
 -- an answer, the node and the token after it
 abbrev pub taken : Answer → ℤ → Token → Taken
@@ -74,7 +75,7 @@ count_of node c = if (eqb c 0) (awaits node (Number LongCount 4 0)) (counted nod
 
 -- 02: the 32-bit count is the count; refusal 3: both counts are 0
 unfoldable pub long_count_of : ℤ → ℕ → Taken
-long_count_of node c = if (eqb c 0) (completes node (Refused (alone 3))) (counted node c)
+long_count_of node c = if (eqb c 0) (completes node (Refused BodyEmpty)) (counted node c)
 
 -- what a number gives when its last unit is there. The remainders keep each case in the width of its units
 unfoldable pub number_of : ℤ → Class → ℕ → Taken
@@ -130,7 +131,7 @@ keeps want stored appended = if appended (if (leb want body_limit) (ltb stored b
 
 -- 01: count over 4,096 reads all c units, then answers 2; 02: 2 means that the count in force is over 4,096
 unfoldable pub body_done : ℤ → ℕ → ℕ → Taken
-body_done node want stored = if (leb want body_limit) (completes node (a_body stored)) (completes node (Refused (alone 2)))
+body_done node want stored = if (leb want body_limit) (completes node (a_body stored)) (completes node (Refused BodyLong))
 
 -- one unit less is wanted; the last one gives the body
 unfoldable pub body_next : ℤ → ℕ → ℕ → ℕ → Taken

@@ -1,12 +1,10 @@
 -- 01, Escapes: the decoder turns bytes into units.
-use Rattle.std.specs.Prelude.{ℕ, ◌+◌, Bool, true, false, ◌≡◌, ℤ, drop, List, [], ◌∷◌, ◌++◌}
+use Rattle.std.specs.Prelude.{ℕ, ◌+◌, Bool, true, false, ◌≡◌, ℤ, drop, List, [], ◌∷◌, ◌++◌, Option, None, Some}
 use Rattle.wing_node.specs.Bool.{if}
 use Rattle.wing_wire.specs.State.{escape, control}
 use Rattle.wing_wire.specs.Escape.{decode_of, decode_next_of}
 use Rattle.wing_wire.specs.Unit.{unit_of}
 use Rattle.wing_wire.specs.Stream.{after_unit, Fed, handle}
-use Rattle.wing_wire.specs.declared.state.Pending.{Pending}
-use Rattle.wing_wire.specs.declared.state.Pending.TheVariants.{None, Byte}
 use Rattle.wing_wire.specs.declared.state.Escape.{Escape}
 use Rattle.wing_wire.specs.declared.escape.Unit.{Unit}
 use Rattle.wing_wire.specs.declared.escape.Unit.TheVariants.{Nothing, Bare, Appended}
@@ -31,9 +29,9 @@ abbrev pub units : List StreamUnit → Escape → Units
 units us e = record { units = us; escape = e }
 
 -- 01: a pending byte is the next unit and is appended to the body
-abbrev pub pending_units : Pending → List StreamUnit
+abbrev pub pending_units : Option ℕ → List StreamUnit
 pending_units None = []
-pending_units (Byte u) = stream_unit u true ∷ []
+pending_units (Some u) = stream_unit u true ∷ []
 
 -- the unit that a byte gives, if it gives one
 abbrev pub byte_units : Unit → List StreamUnit
@@ -62,9 +60,9 @@ UnitsByStep = (e : Escape) (bytes : List ℕ) (n : ℕ) →
     units (byte_units d.unit ++ rest.units) rest.escape)
 
 -- 1 for a pending byte
-abbrev pub pending_count : Pending → ℕ
+abbrev pub pending_count : Option ℕ → ℕ
 pending_count None = 0
-pending_count (Byte u) = 1
+pending_count (Some u) = 1
 
 -- how many units the escapes may still give without a byte of their own: 1 if escaped, 1 if a byte is pending
 abbrev pub weight : Escape → ℕ

@@ -1,11 +1,10 @@
 -- Writing: escapes, and what a command leaves in the lent output.
-use Rattle.std.specs.Prelude.{ℕ, ◌+◌, ◌≡◌, List, [], ◌∷◌, ◌++◌, ltb, eqb, length, drop}
+use Rattle.std.specs.Prelude.{ℕ, ◌+◌, ◌≡◌, List, [], ◌∷◌, ◌++◌, ltb, eqb, length, drop, Ok, Err}
 use Rattle.std.proofs.lemmas.List.Edits.{sets}
 use Rattle.wing_node.specs.Bool.{if}
 use Rattle.wing_node.specs.Field.{bytes_of}
-use Rattle.wing_node.specs.Refusal.{alone}
-use Rattle.wing_wire.specs.declared.write.Written.{Written}
-use Rattle.wing_wire.specs.declared.write.Written.TheVariants.{Bytes, Refused}
+use Rattle.wing_node.specs.declared.refusal.Refusal.TheVariants.{OutputShort}
+use Rattle.wing_node.specs.Result.{Result}
 
 -- 01: every df in a written id, value, string, length, port, meter index or meter id is followed by de
 unfoldable pub escaped : List ℕ → List ℕ
@@ -23,15 +22,15 @@ pub record Laid (s : List ℕ) (at : ℕ) (d e : List ℕ) (r : ℕ) : Type 0 wh
 
 -- what a call leaves: its answer and the output
 pub record WriteEffect : Type 0 where
-  pub answer : Written
+  pub answer : Result ℕ
   pub out : List ℕ
 
 -- an answer and the output
-abbrev pub write_effect : Written → List ℕ → WriteEffect
+abbrev pub write_effect : Result ℕ → List ℕ → WriteEffect
 write_effect answer out = record { answer = answer; out = out }
 
 -- 01: output too short for the whole is 9, as it was; bytes past what is written are not altered
 unfoldable pub write_of : List ℕ → List ℕ → WriteEffect
 write_of bytes out =
-    if (ltb (length out) (length bytes)) (write_effect (Refused (alone 9)) out)
-    (write_effect (Bytes (length bytes)) (bytes ++ drop (length bytes) out))
+    if (ltb (length out) (length bytes)) (write_effect (Err OutputShort) out)
+    (write_effect (Ok (length bytes)) (bytes ++ drop (length bytes) out))

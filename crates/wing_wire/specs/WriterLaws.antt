@@ -1,20 +1,19 @@
 -- What a user of the writers may rely on besides the contracts: how bytes are laid into a lent output, and how long a set order is.
-use Rattle.std.specs.Prelude.{ℕ, ◌+◌, ◌-◌, ◌≤◌, ◌<◌, true, ◌≡◌, List, ◌++◌, ℤ, length, take, drop}
+use Rattle.std.specs.Prelude.{ℕ, ◌+◌, ◌-◌, ◌≤◌, ◌<◌, true, ◌≡◌, List, ◌++◌, ℤ, length, take, drop, Ok, Err}
 use Rattle.std.proofs.lemmas.List.Edits.{sets}
 use borrow.Rule.Slice.PartMut.{put_mid}
 use Rattle.wing_node.specs.Utf8.{utf8}
 use Rattle.wing_node.specs.Value.{integer, float, string}
-use Rattle.wing_node.specs.Refusal.{alone}
 use Rattle.wing_wire.specs.Write.{Laid, write_effect, write_of}
 use Rattle.wing_wire.specs.Command.{set_bytes, set_string}
-use Rattle.wing_wire.specs.declared.write.Written.TheVariants.{Bytes, Refused}
+use Rattle.wing_node.specs.declared.refusal.Refusal.TheVariants.{OutputShort}
 
 -- what a user of the writers may rely on
 pub record WriterLaws : Type 0 where
   -- bytes laid from the front of an output that has room for them are what a call leaves that writes them
-  pub whole : {s d e : List ℕ} {n : ℕ} → Laid s 0 d e n → length s ≤ length d → write_effect (Bytes n) e ≡ write_of s d
+  pub whole : {s d e : List ℕ} {n : ℕ} → Laid s 0 d e n → length s ≤ length d → write_effect (Ok n) e ≡ write_of s d
   -- 01: output too short for the whole: 9, as it was
-  pub short : (s d : List ℕ) → length d < length s → write_effect (Refused (alone 9)) d ≡ write_of s d
+  pub short : (s d : List ℕ) → length d < length s → write_effect (Err OutputShort) d ≡ write_of s d
   -- bytes laid where others end are laid with them
   pub after : {s d e : List ℕ} {at n : ℕ} → Laid s at d e n → (t : List ℕ) → sets e n t ≡ sets d at (s ++ t)
   -- 01: each command goes into the part of the lent buffer after the last one: what is laid into that part is laid into the buffer at its place

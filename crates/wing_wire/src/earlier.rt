@@ -1,9 +1,7 @@
 // A decoder state of the time when a body's counts had 16 bits, and a count of 0 took four units more and was refused (02, Job 4); and how it is
 // carried over.
 ghost use Rattle.std.specs.Prelude.{◌≡◌};
-ghost use Rattle.wing_wire.specs.Earlier.{is_long_count, is_started, carried_token, carried, carried_as, carry_of};
-ghost use Rattle.wing_node.specs.Refusal.{alone};
-ghost use Rattle.wing_node.specs.Result.{refused};
+ghost use Rattle.wing_wire.specs.Earlier.{is_long_count, is_started, carried_token, carried, carry_of};
 
 use crate::state;
 use crate::state::{Escape, is_sound};
@@ -31,19 +29,6 @@ pub struct Control {
 pub struct State {
     pub control: Control,
     pub store: [u8; state::State::BODY_LIMIT],
-}
-
-#[derive(Clone, Copy)]
-pub enum CarryAnswer {
-    Good,
-    Refused(Refusal),
-}
-
-// The answer with the state; beside a refusal stands a fresh one.
-#[derive(Clone, Copy)]
-pub struct Carried {
-    pub answer: CarryAnswer,
-    pub state: state::State,
 }
 
 fn is_long_count(class: Class) -> bool
@@ -131,31 +116,17 @@ fn carried_state(s: State) -> state::State
     }
 }
 
-fn refuse() -> Carried
-    ensures { result ≡ carried_as (refused (alone 8)) }
-{
-    Carried {
-        answer: CarryAnswer::Refused(Refusal::Number(8)),
-        state: state::State::fresh(),
-    }
-}
-
 // 02: an old sound state is carried over with its units left, stored bytes and all else the same; 8 for one that is not sound or has taken
 // any of the four units after a count of 0.
-pub fn carry_over(s: State) -> Carried
-    ensures { result ≡ carried_as (carry_of s) }
+pub fn carry_over(s: State) -> Result<state::State, Refusal>
+    ensures { result ≡ carry_of s }
 {
-    let c = s.control;
-    let token = c.token;
-    if is_started(token) {
-        return refuse();
+    if is_started(s.control.token) {
+        return Err(Refusal::StateUnsound);
     }
     let over = carried_state(s);
     if is_sound(over) {
-        return Carried {
-            answer: CarryAnswer::Good,
-            state: over,
-        };
+        return Ok(over);
     }
-    refuse()
+    Err(Refusal::StateUnsound)
 }

@@ -3,7 +3,7 @@ ghost use Rattle.std.specs.Prelude.{◌≡◌};
 ghost use Rattle.wing_wire.specs.State.{escape};
 ghost use Rattle.wing_wire.specs.Escape.{decoded, ended, other_of, escaped_of, plain_of, decode_of, decode_next_of};
 
-use crate::state::{Escape, Pending};
+use crate::state::Escape;
 
 // What a byte gives: no unit, a unit that a body does not keep, one that is appended to it.
 #[derive(Clone, Copy)]
@@ -28,7 +28,7 @@ pub struct NextUnit {
     pub at: usize,
 }
 
-fn escape_of(escaped: bool, channel: i8, pending: Pending) -> Escape
+fn escape_of(escaped: bool, channel: i8, pending: Option<u8>) -> Escape
     ensures { result ≡ escape escaped channel pending }
 {
     Escape {
@@ -56,7 +56,7 @@ fn other(e: Escape, b: u8) -> Decoded
             unit: Unit::Appended(b),
         };
     }
-    let after = escape_of(false, e.channel, Pending::Byte(b));
+    let after = escape_of(false, e.channel, Some(b));
     Decoded {
         escape: after,
         unit: Unit::Appended(0xdf),
@@ -129,7 +129,7 @@ pub fn decode_next(e: Escape, bytes: &[u8], at: usize) -> NextUnit
 {
     let pending = e.pending;
     match pending {
-        Pending::None => {
+        None => {
             if at < bytes.len() {
                 let d = decode_byte(e, bytes[at]);
                 let after = d.escape;
@@ -146,8 +146,8 @@ pub fn decode_next(e: Escape, bytes: &[u8], at: usize) -> NextUnit
                 at: at,
             }
         }
-        Pending::Byte(u) => {
-            let after = escape_of(e.escaped, e.channel, Pending::None);
+        Some(u) => {
+            let after = escape_of(e.escaped, e.channel, None);
             NextUnit {
                 escape: after,
                 unit: Unit::Appended(u),

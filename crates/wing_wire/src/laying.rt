@@ -6,7 +6,6 @@ ghost use Rattle.wing_node.specs.Signed.{unsigned};
 ghost use Rattle.wing_wire.specs.Write.{escaped, field, Laid, write_effect, write_of};
 
 use crate::reader::copy_front;
-use crate::write::Written;
 use wing_node::field::{bytes_16, bytes_32, of_i32};
 use wing_node::refusal::Refusal;
 
@@ -76,14 +75,14 @@ pub(crate) fn lay_id(out: &mut [u8], prefix: u8, id: i32) -> usize
 }
 
 // The first n bytes laid, to the front of out. 01: output too short for the whole is 9, as it was.
-pub(crate) fn hand_over(out: &mut [u8], laid: &[u8], n: usize) -> Written
+pub(crate) fn hand_over(out: &mut [u8], laid: &[u8], n: usize) -> Result<usize, Refusal>
     requires { n ≤ length laid.now }
     ensures { write_effect result out.new ≡ write_of (take n laid.now) out.old }
 {
     let room = out.len();
     if room < n {
-        return Written::Refused(Refusal::Number(9));
+        return Err(Refusal::OutputShort);
     }
     copy_front(out, laid, n);
-    Written::Bytes(n)
+    Ok(n)
 }

@@ -14,4 +14,3 @@ pub mod state;
 pub mod stream;
 pub mod token;
 pub mod unit;
-pub mod write;

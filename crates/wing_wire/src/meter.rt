@@ -6,9 +6,8 @@ ghost use Rattle.wing_wire.specs.Write.{Laid, write_effect, write_of};
 ghost use Rattle.wing_wire.specs.Meter.{item_of, item_bytes, meters_bytes, request_head, meter_request, request_effect, request_meter, keep_alive, keep_alives, readings, packet_effect, packet_of};
 
 use crate::laying::{hand_over, lay, lay_8, lay_16};
-use crate::write::Written;
 use wing_node::field::{to_i16, u16_at};
-use wing_node::refusal::{Refusal, number};
+use wing_node::refusal::Refusal;
 
 #[derive(Clone, Copy)]
 pub enum Meter {
@@ -37,18 +36,18 @@ enum MeterItem {
     Indexed(u8, u8),
 }
 
-// The bytes written and the new meter id, or the number of the refusal.
+// A request that was written: how many bytes, and the new meter id.
 #[derive(Clone, Copy)]
-pub enum Requested {
-    Bytes { len: usize, id: u16 },
-    Refused(u8),
+pub struct Requested {
+    pub len: usize,
+    pub id: u16,
 }
 
-// The packet's id and how many readings it holds, or the number of the refusal.
+// A packet that was read: its meter id, and how many readings it holds.
 #[derive(Clone, Copy)]
-pub enum MetersRead {
-    Readings { id: u16, count: usize },
-    Refused(u8),
+pub struct MetersRead {
+    pub id: u16,
+    pub count: usize,
 }
 
 // 01: a0 to a8 with index, a9 and aa alone, ab to af with index.
@@ -141,27 +140,24 @@ pub fn request_meter(
     count: usize,
     port: u16,
     last_id: u16,
-) -> Requested
+) -> Result<Requested, Refusal>
     ensures { request_effect result out.new ≡ request_meter port last_id meters count out.old }
 {
     if 64 < count {
-        return Requested::Refused(11);
+        return Err(Refusal::MetersOver);
     }
     if last_id == 65535 {
-        return Requested::Refused(12);
+        return Err(Refusal::MeterIdLast);
     }
     let id = last_id + 1;
     if 212 <= out.len() {
         let len = lay_meter_request(out, port, id, meters, count);
-        return Requested::Bytes { len: len, id: id };
+        return Ok(Requested { len, id });
     }
     let mut scratch = [0u8; 212];
     let n = lay_meter_request(&mut scratch, port, id, meters, count);
-    let w = hand_over(out, &scratch, n);
-    match w {
-        Written::Bytes(len) => Requested::Bytes { len: len, id: id },
-        Written::Refused(why) => Requested::Refused(number(why)),
-    }
+    let len = hand_over(out, &scratch, n)?;
+    Ok(Requested { len, id })
 }
 
 // 01: df d3 d4 id port df d1.
@@ -208,15 +204,15 @@ fn lay_keep_alives(out: &mut [u8], last_id: u16, port: u16) -> usize
 }
 
 // 01: for ids from last to 1; with no id nothing is written. No keep-alive is longer than 13 bytes.
-pub fn keep_alive_meters(out: &mut [u8], last_id: u16, port: u16) -> Written
+pub fn keep_alive_meters(out: &mut [u8], last_id: u16, port: u16) -> Result<usize, Refusal>
     ensures { write_effect result out.new ≡ write_of (keep_alives port last_id) out.old }
 {
     if out.len() < 13 * (last_id as usize) {
         if out.len() < keep_alives_len(last_id, port) {
-            return Written::Refused(Refusal::Number(9));
+            return Err(Refusal::OutputShort);
         }
     }
-    Written::Bytes(lay_keep_alives(out, last_id, port))
+    Ok(lay_keep_alives(out, last_id, port))
 }
 
 // The two bytes of a reading the wrong way round, as the processor has them: in a function of its own this compiles to
@@ -251,22 +247,22 @@ fn fill_readings(packet: &[u8], out: &mut [i16], count: usize)
 }
 
 // 01: packet outside 4 to 8,192 bytes is 13, then 9. An odd last byte is dropped.
-pub fn read_meters(packet: &[u8], out: &mut [i16]) -> MetersRead
+pub fn read_meters(packet: &[u8], out: &mut [i16]) -> Result<MetersRead, Refusal>
     ensures { packet_effect result out.new ≡ packet_of packet.now out.old }
 {
     if packet.len() < 4 {
-        return MetersRead::Refused(13);
+        return Err(Refusal::PacketSize);
     }
     if 8192 < packet.len() {
-        return MetersRead::Refused(13);
+        return Err(Refusal::PacketSize);
     }
     let count = (packet.len() - 4) / 2;
     if out.len() < count {
-        return MetersRead::Refused(9);
+        return Err(Refusal::OutputShort);
     }
     fill_readings(packet, out, count);
-    MetersRead::Readings {
+    Ok(MetersRead {
         id: u16_at(packet, 0),
-        count: count,
-    }
+        count,
+    })
 }

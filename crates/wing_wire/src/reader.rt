@@ -78,11 +78,11 @@ fn body_beside(a: Answer, store: &[u8]) -> [u8; State::BODY_LIMIT]
 }
 
 // A refused call takes nothing and gives the state back as it was.
-fn refuse(s: State, why: u8) -> Reply
+fn refuse(s: State, why: Refusal) -> Reply
     ensures { result ≡ refused_next why s }
 {
     Reply {
-        answer: Answer::Refused(Refusal::Number(why)),
+        answer: Answer::Refused(why),
         taken: 0,
         state: s,
         string: [0u8; 256],
@@ -123,7 +123,7 @@ pub fn next(s: State, bytes: &[u8]) -> Reply
         if bytes.len() <= 65536 {
             return read_on(s, bytes);
         }
-        return refuse(s, 14);
+        return refuse(s, Refusal::NumberOver);
     }
-    refuse(s, 8)
+    refuse(s, Refusal::StateUnsound)
 }

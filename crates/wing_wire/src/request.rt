@@ -4,7 +4,7 @@ ghost use Rattle.wing_wire.specs.Write.{Laid, write_effect, write_of};
 ghost use Rattle.wing_wire.specs.Command.{request_bytes};
 
 use crate::laying::{hand_over, lay, lay_id};
-use crate::write::Written;
+use wing_node::refusal::Refusal;
 
 // 01: da and the request for id 0, else d7, id and the request.
 fn lay_request(out: &mut [u8], what: u8, id: i32) -> usize
@@ -18,11 +18,11 @@ fn lay_request(out: &mut [u8], what: u8, id: i32) -> usize
     lay(out, at, what)
 }
 
-fn write_request(out: &mut [u8], what: u8, id: i32) -> Written
+fn write_request(out: &mut [u8], what: u8, id: i32) -> Result<usize, Refusal>
     ensures { write_effect result out.new ≡ write_of (request_bytes what id) out.old }
 {
     if 10 <= out.len() {
-        return Written::Bytes(lay_request(out, what, id));
+        return Ok(lay_request(out, what, id));
     }
     let mut scratch = [0u8; 10];
     let n = lay_request(&mut scratch, what, id);
@@ -30,14 +30,14 @@ fn write_request(out: &mut [u8], what: u8, id: i32) -> Written
 }
 
 // 01: definition request: da dd for id 0, else d7 id dd. 9.
-pub fn request_node_definition(out: &mut [u8], id: i32) -> Written
+pub fn request_node_definition(out: &mut [u8], id: i32) -> Result<usize, Refusal>
     ensures { write_effect result out.new ≡ write_of (request_bytes 0xdd id) out.old }
 {
     write_request(out, 0xdd, id)
 }
 
 // 01: data request: dc for dd. 9.
-pub fn request_node_data(out: &mut [u8], id: i32) -> Written
+pub fn request_node_data(out: &mut [u8], id: i32) -> Result<usize, Refusal>
     ensures { write_effect result out.new ≡ write_of (request_bytes 0xdc id) out.old }
 {
     write_request(out, 0xdc, id)

@@ -8,33 +8,25 @@ ghost use Rattle.wing_wire.specs.Write.{Laid, write_effect, write_of};
 ghost use Rattle.wing_wire.specs.Command.{from◌to◌, integer_bytes, length_bytes, id_bytes, suffix_bytes, set_bytes, set_string};
 
 use crate::laying::{hand_over, lay, lay_8, lay_16, lay_32, lay_escaped, lay_id};
-use crate::write::Written;
 use wing_node::field::{of_i16, of_i32};
-use wing_node::refusal::{Fault, Refusal, string_fault};
+use wing_node::refusal::{Refusal, string_fault};
 
-// What follows an id.
-#[derive(Clone, Copy)]
-pub enum Suffix {
-    None,
-    Byte(u8),
-}
-
-fn lay_format(out: &mut [u8], id: i32, prefix: u8, suffix: Suffix) -> usize
+fn lay_format(out: &mut [u8], id: i32, prefix: u8, suffix: Option<u8>) -> usize
     ensures { Laid (id_bytes prefix id (suffix_bytes suffix)) 0 out.old out.new result }
 {
     let at = lay_id(out, prefix, id);
     match suffix {
-        Suffix::None => at,
-        Suffix::Byte(b) => lay(out, at, b),
+        None => at,
+        Some(b) => lay(out, at, b),
     }
 }
 
-// A prefix, an id and a suffix; only the id is escaped.
-pub fn format_id(out: &mut [u8], id: i32, prefix: u8, suffix: Suffix) -> Written
+// A prefix, an id and a suffix, if there is one; only the id is escaped.
+pub fn format_id(out: &mut [u8], id: i32, prefix: u8, suffix: Option<u8>) -> Result<usize, Refusal>
     ensures { write_effect result out.new ≡ write_of (id_bytes prefix id (suffix_bytes suffix)) out.old }
 {
     if 10 <= out.len() {
-        return Written::Bytes(lay_format(out, id, prefix, suffix));
+        return Ok(lay_format(out, id, prefix, suffix));
     }
     let mut scratch = [0u8; 10];
     let n = lay_format(&mut scratch, id, prefix, suffix);
@@ -75,11 +67,11 @@ fn lay_set_int(out: &mut [u8], id: i32, value: i32) -> usize
 }
 
 // 01: set: d7, id, value: an integer. 9.
-pub fn set_int(out: &mut [u8], id: i32, value: i32) -> Written
+pub fn set_int(out: &mut [u8], id: i32, value: i32) -> Result<usize, Refusal>
     ensures { write_effect result out.new ≡ write_of (set_bytes id (integer value)) out.old }
 {
     if 18 <= out.len() {
-        return Written::Bytes(lay_set_int(out, id, value));
+        return Ok(lay_set_int(out, id, value));
     }
     let mut scratch = [0u8; 18];
     let n = lay_set_int(&mut scratch, id, value);
@@ -95,11 +87,11 @@ fn lay_set_float(out: &mut [u8], id: i32, bits: u32) -> usize
 }
 
 // The same for a float, by its 32 bits.
-pub fn set_float(out: &mut [u8], id: i32, bits: u32) -> Written
+pub fn set_float(out: &mut [u8], id: i32, bits: u32) -> Result<usize, Refusal>
     ensures { write_effect result out.new ≡ write_of (set_bytes id (float bits)) out.old }
 {
     if 18 <= out.len() {
-        return Written::Bytes(lay_set_float(out, id, bits));
+        return Ok(lay_set_float(out, id, bits));
     }
     let mut scratch = [0u8; 18];
     let n = lay_set_float(&mut scratch, id, bits);
@@ -132,19 +124,15 @@ fn lay_set_string(out: &mut [u8], id: i32, value: &[u8]) -> usize
 }
 
 // 01: a string over 256 bytes is 10, then one that is not UTF-8 is 1 (02: with its good), then 9.
-pub fn set_string(out: &mut [u8], id: i32, value: &[u8]) -> Written
+pub fn set_string(out: &mut [u8], id: i32, value: &[u8]) -> Result<usize, Refusal>
     ensures { write_effect result out.new ≡ set_string id value.now out.old }
 {
     if 256 < value.len() {
-        return Written::Refused(Refusal::Number(10));
+        return Err(Refusal::StringLong);
     }
-    let fault = string_fault(value, 256);
-    match fault {
-        Fault::None => {}
-        Fault::Refused(why) => return Written::Refused(why),
-    }
+    string_fault(value, 256)?;
     if 395 <= out.len() {
-        return Written::Bytes(lay_set_string(out, id, value));
+        return Ok(lay_set_string(out, id, value));
     }
     let mut scratch = [0u8; 395];
     let n = lay_set_string(&mut scratch, id, value);

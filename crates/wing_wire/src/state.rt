@@ -7,19 +7,12 @@ ghost use Rattle.wing_wire.specs.State.{sound_counts, sound_token, sound_state, 
 use crate::token;
 use crate::token::Class;
 
-// A byte that waits to be the next unit.
-#[derive(Clone, Copy)]
-pub enum Pending {
-    None,
-    Byte(u8),
-}
-
-// What the escapes keep between bytes.
+// What the escapes keep between bytes; a pending byte waits to be the next unit.
 #[derive(Clone, Copy)]
 pub struct Escape {
     pub escaped: bool,
     pub channel: i8,
-    pub pending: Pending,
+    pub pending: Option<u8>,
 }
 
 // The token in progress, by the units that it still wants. A string's bytes, and those that a body's units
@@ -55,7 +48,7 @@ impl Control {
             escape: Escape {
                 escaped: false,
                 channel: -1,
-                pending: Pending::None,
+                pending: None,
             },
             node: 0,
             token: Token::Between,
@@ -85,8 +78,8 @@ fn sound_pending(e: Escape) -> bool
 {
     let pending = e.pending;
     match pending {
-        Pending::None => true,
-        Pending::Byte(_) => {
+        None => true,
+        Some(_) => {
             if e.escaped {
                 return false;
             }

@@ -5,7 +5,7 @@ ghost use Rattle.wing_wire.specs.Stream.{answered, step_effect, is_more, given_o
 ghost use Rattle.wing_wire.specs.Plain.{is_pending, is_nothing, is_appended, value_of, is_inner, number_ahead, ahead_effect, string_ahead, token_ahead, is_plain, is_free, stepped, ahead_of, once_of, is_on};
 
 use crate::escape::{Unit, decode_next};
-use crate::state::{Control, Escape, Pending, Token, collected};
+use crate::state::{Control, Escape, Token, collected};
 use crate::token::Class;
 use crate::unit::{Answer, Taken, clear, put, shift_in, take_unit};
 
@@ -76,12 +76,12 @@ pub struct Stepped {
     pub at: usize,
 }
 
-fn is_pending(p: Pending) -> bool
+fn is_pending(p: Option<u8>) -> bool
     ensures { result ≡ is_pending p }
 {
     match p {
-        Pending::None => false,
-        Pending::Byte(_) => true,
+        None => false,
+        Some(_) => true,
     }
 }
 

@@ -5,7 +5,7 @@ ghost use Rattle.wing_wire.specs.Unit.{taken, single_of, is_string, token_of, be
 use crate::state::{State, Token, collected};
 use crate::token::{Class, first_rule};
 use wing_node::field::{to_i16, to_i32};
-use wing_node::refusal::{Fault, Refusal, string_fault};
+use wing_node::refusal::{Refusal, string_fault};
 
 // What reading gives: 01's events, a refusal, or that more bytes are wanted.
 // A string's or a body's bytes stand at the front of the store, or of the array beside the answer.
@@ -151,7 +151,7 @@ fn long_count(node: i32, c: u32) -> Taken
     ensures { result ≡ long_count_of node c }
 {
     if c == 0 {
-        return refuse(Refusal::Number(3), node);
+        return refuse(Refusal::BodyEmpty, node);
     }
     body_of(node, c)
 }
@@ -231,8 +231,8 @@ fn string_done(node: i32, want: u16, store: &mut [u8]) -> Taken
 {
     let fault = string_fault(store, want);
     match fault {
-        Fault::None => taken_of(Answer::String(want), node, Token::Between),
-        Fault::Refused(why) => {
+        Ok(()) => taken_of(Answer::String(want), node, Token::Between),
+        Err(why) => {
             clear(store, want as usize);
             refuse(why, node)
         }
@@ -274,7 +274,7 @@ fn body_done(node: i32, want: u32, stored: u16) -> Taken
     if want as usize <= State::BODY_LIMIT {
         return taken_of(Answer::Body(stored), node, Token::Between);
     }
-    refuse(Refusal::Number(2), node)
+    refuse(Refusal::BodyLong, node)
 }
 
 fn body_next(node: i32, want: u32, left: u32, stored: u16) -> Taken

@@ -7,10 +7,8 @@ use native.Mathlib.Omega.{arith}
 use native.Mathlib.Numerals.{add-one}
 use lib.ListN.{length, drop, get_or, set, length-append}
 use lib.Seq.{sets, drop-cons}
-use Rattle.wing_node.specs.Refusal.{alone}
 use Rattle.wing_node.specs.Bytes.{joined}
 use Rattle.wing_wire.specs.Write.{write_effect, write_of}
-use Rattle.wing_wire.specs.declared.write.Written.TheVariants.{Refused}
 use Rattle.wing_mirror.specs.Rows.{Table, records}
 use Rattle.wing_mirror.specs.Record.{entry_in, full}
 use Rattle.wing_mirror.specs.Table.{rows, row_at, usable}
@@ -23,6 +21,8 @@ use Rattle.wing_listing.specs.Listing.{header, line_of, listing_of, printed}
 use Rattle.wing_listing.specs.Steps.{lines_of}
 use Rattle.wing_listing.specs.Calls.{print_of}
 use Rattle.wing_listing.proofs.Printing.Values.{line-le}
+use Rattle.wing_node.specs.declared.refusal.Refusal.TheVariants.{TableUnsound}
+use Rattle.std.specs.Prelude.{Err}
 
 -- a turn of a loop that lays bytes from the front on
 pub lay-next : (out s : List ℕ) (i : ℕ) → i < length s → sets (set out i (get_or s i 0)) (i + 1) (drop (i + 1) s) ≡ sets out i (drop i s)
@@ -84,6 +84,6 @@ module _ (t : Table) where
   unfolding print_of
   print-usable out u = rw u
 
-  pub print-unusable : (out : List ℕ) → usable full t ≡ false → write_effect (Refused (alone 7)) out ≡ print_of t out
+  pub print-unusable : (out : List ℕ) → usable full t ≡ false → write_effect (Err TableUnsound) out ≡ print_of t out
   unfolding print_of
   print-unusable out u = rw u

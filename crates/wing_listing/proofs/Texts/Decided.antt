@@ -10,10 +10,8 @@ use lib.Dec.{ltb, eqb}
 use lib.IntN.{ℤ}
 use lib.ListN.{length, get_or, drop, length-append, length-drop}
 use Rattle.wing_node.proofs.Refusals.{reason_of}
-use Rattle.wing_node.specs.declared.refusal.Fault.TheVariants.{None, Refused as Because}
-use Rattle.wing_node.specs.declared.refusal.Fault.{Fault}
 use Rattle.wing_node.specs.declared.refusal.Refusal.{Refusal}
-use Rattle.wing_node.specs.Refusal.{alone, no_fault, because, by_number}
+use Rattle.wing_node.specs.Refusal.{no_fault, because, Fault}
 use Rattle.wing_node.specs.Bool.{if}
 use Rattle.wing_node.specs.Bytes.{joined}
 use Rattle.wing_mirror.specs.Rows.{Found, found, nothing, All}
@@ -36,6 +34,8 @@ use Rattle.wing_listing.proofs.Texts.Said.{DigitBytes, line-again, line-id}
 use Rattle.wing_listing.proofs.Texts.Listed.{Rises, rises-all, rising-all, Listable, body, line-faultless, listing-read, listing-said}
 use Rattle.wing_listing.proofs.Texts.Shown.{digit-bytes, byte-digits, said-printable, said-listable}
 use Rattle.wing_listing.proofs.Texts.First.{printed-front, printed-long, printed-formed, printed-fault, BadFrom, why_in, line_in, bad-not, after-bad, empty, form-here, line-more}
+use Rattle.wing_node.specs.declared.refusal.Refusal.TheVariants.{LineWrong}
+use Rattle.std.specs.Prelude.{Ok, Err}
 
 body-nil : (x : List ℕ) → body [] ++ x ≡ x
 unfolding joined
@@ -45,7 +45,7 @@ last-nil : (before : Found ℤ) → before ≡ last_id before []
 unfolding last_id
 last-nil before = refl
 
-out-of-form : (before : Found ℤ) (line : List ℕ) → is_line line ≡ false → line_fault before line ≡ by_number 17
+out-of-form : (before : Found ℤ) (line : List ℕ) → is_line line ≡ false → line_fault before line ≡ because LineWrong
 unfolding line_fault
 out-of-form before line t = rw t
 
@@ -116,8 +116,8 @@ bad-from (suc m) n before text why line h e =
     go : length (part newline 0 text) < length text → (f : Fault) → line_fault before (part newline 0 text) ≡ f →
         (lines_from (suc n) (found (id_said (part newline 0 text))) (parted newline (drop (length (part newline 0 text) + 1) text)) ≡ bad why line →
         BadFrom (suc n) (found (id_said (part newline 0 text))) (drop (length (part newline 0 text) + 1) text) why line) → BadFrom n before text why line
-    go k None u ih = good-line n before text why line e k u ih
-    go k (Because w) u ih = bad-line n before text why line e k w u
+    go k (Ok u) u ih = good-line n before text why line e k u ih
+    go k (Err w) u ih = bad-line n before text why line e k w u
 
 -- ---- and the first bad line makes the reading
 
@@ -159,7 +159,7 @@ lines-on n before (x ∷ es) rest why line g u e =
     after_on (entry_said (part newline 0 t)) (lines_from (suc n) (found (id_said (part newline 0 t))) (parted newline (drop (length (part newline 0 t) + 1) t))) why line
     (ap₂ (λ j (z : List ℕ). lines_from (suc n) (found j) (parted newline z)) i d ∙ ih)
 
-form-base : (n : ℕ) (before : Found ℤ) (rest : List ℕ) → (rest ≡ [] → ⊥) → ((e : Entry) (next : List ℕ) → Printable e → ended (line_of e) ++ next ≡ rest → ⊥) → lines_from n before (parted newline rest) ≡ bad (alone 17) n
+form-base : (n : ℕ) (before : Found ℤ) (rest : List ℕ) → (rest ≡ [] → ⊥) → ((e : Entry) (next : List ℕ) → Printable e → ended (line_of e) ++ next ≡ rest → ⊥) → lines_from n before (parted newline rest) ≡ bad LineWrong n
 form-base n before rest some none =
     let p = part newline 0 rest in
     let r = drop (length p + 1) rest in
@@ -227,8 +227,8 @@ module _ (x : List ℕ) where
   head-reads : reading_of headed ≡ lines_from 2 nothing (parted newline x)
   head-reads =
       header-next headed head-long ∙
-      ap₂ (λ (l r : List ℕ). if (same_bytes l header) (lines_from 2 nothing (parted newline r)) (bad (alone 17) 1)) head-front head-rest ∙
-      ap (λ t. if t (lines_from 2 nothing (parted newline x)) (bad (alone 17) 1)) (bytes-refl header)
+      ap₂ (λ (l r : List ℕ). if (same_bytes l header) (lines_from 2 nothing (parted newline r)) (bad LineWrong 1)) head-front head-rest ∙
+      ap (λ t. if t (lines_from 2 nothing (parted newline x)) (bad LineWrong 1)) (bytes-refl header)
 
 listed-text : (es : List Entry) (rest : List ℕ) → listing_of es ++ rest ≡ ended header ++ (body es ++ rest)
 unfolding listing_of
@@ -261,7 +261,7 @@ module _ (text : List ℕ) (why : Refusal) (line : ℕ) where
         next = f.at ∙ omega arith;
       }))
 
-  no_header : ((rest : List ℕ) → ended header ++ rest ≡ text → ⊥) → bad (alone 17) 1 ≡ bad why line → FirstBad text why line
+  no_header : ((rest : List ℕ) → ended header ++ rest ≡ text → ⊥) → bad LineWrong 1 ≡ bad why line → FirstBad text why line
   no_header none e = inl (record { none = none; number = sym (ap (why_in why) e); first = sym (ap line_in e) })
 
   abbrev front : List ℕ
@@ -287,13 +287,13 @@ module _ (text : List ℕ) (why : Refusal) (line : ℕ) where
 
   header-wrong : BadHeader text why line → reading_of text ≡ bad why line
   header-wrong f =
-      let q : bad (alone 17) 1 ≡ bad why line = ap₂ (λ a b. bad a b) (sym f.number) (sym f.first) in
+      let q : bad LineWrong 1 ≡ bad why line = ap₂ (λ a b. bad a b) (sym f.number) (sym f.first) in
       by-test (ltb (length front) (length text))
       (λ t.
       let k = ltb-true (length front) (length text) t in
       by-test (same_bytes front header)
       (λ u. absurd (f.none (drop (length front + 1) text) (after_front k (bytes-true front header u))))
-      (λ u. header-next text k ∙ ap (λ b. if b (lines_from 2 nothing (parted newline (drop (length front + 1) text))) (bad (alone 17) 1)) u ∙ q))
+      (λ u. header-next text k ∙ ap (λ b. if b (lines_from 2 nothing (parted newline (drop (length front + 1) text))) (bad LineWrong 1)) u ∙ q))
       (λ t. header-none text (ltb-false (length front) (length text) t) ∙ q)
 
   lines-wrong : (es : List Entry) (rest : List ℕ) (w : Refusal) → TakenEntries es → listing_of es ++ rest ≡ text → lines_from (2 + length es) (last_id nothing es) (parted newline rest) ≡ bad w (2 + length es) → why ≡ w → line ≡ length es + 2 →
@@ -305,7 +305,7 @@ module _ (text : List ℕ) (why : Refusal) (line : ℕ) where
 
   wrong-left : FirstBad text why line → reading_of text ≡ bad why line
   wrong-left (inl f) = header-wrong f
-  wrong-left (inr (inl f)) = lines-wrong f.es f.rest (alone 17) f.taken f.begins (form-base (2 + length f.es) (last_id nothing f.es) f.rest f.more f.none) f.number f.next
+  wrong-left (inr (inl f)) = lines-wrong f.es f.rest LineWrong f.taken f.begins (form-base (2 + length f.es) (last_id nothing f.es) f.rest f.more f.none) f.number f.next
   wrong-left (inr (inr f)) =
       lines-wrong f.es (ended (line_of f.e) ++ f.after) why f.taken f.begins
       (entry-base (2 + length f.es) (last_id nothing f.es) f.e f.printable f.after why f.fault) refl f.next

@@ -8,7 +8,7 @@ use native.Mathlib.Omega.{arith}
 use lib.IntN.{ℤ}
 use lib.ListN.{length, get_or, length-append}
 use Rattle.wing_node.specs.declared.refusal.Refusal.{Refusal}
-use Rattle.wing_node.specs.Refusal.{alone, because}
+use Rattle.wing_node.specs.Refusal.{because}
 use Rattle.wing_node.specs.Bytes.{joined}
 use Rattle.wing_mirror.specs.Rows.{Found, found, All}
 use Rattle.wing_mirror.specs.Entry.{Entry}
@@ -21,6 +21,7 @@ use Rattle.wing_listing.proofs.Texts.Lines.{true-false}
 use Rattle.wing_listing.proofs.Texts.Said.{line-formed, line-id, line-says, line_plain}
 use Rattle.wing_listing.proofs.Texts.Listed.{Rises, Listable, body}
 use Rattle.wing_listing.proofs.Texts.Shown.{digit-bytes}
+use Rattle.wing_node.specs.declared.refusal.Refusal.TheVariants.{LineWrong}
 
 -- ---- a printed line at the front of a text
 
@@ -58,7 +59,7 @@ pub record FormFrom (n : ℕ) (before : Found ℤ) (text : List ℕ) (why : Refu
   pub begins : body es ++ rest ≡ text
   pub more : rest ≡ [] → ⊥
   pub none : (e : Entry) (next : List ℕ) → Printable e → ended (line_of e) ++ next ≡ rest → ⊥
-  pub number : why ≡ alone 17
+  pub number : why ≡ LineWrong
   pub at : line ≡ n + length es
 
 pub record EntryFrom (n : ℕ) (before : Found ℤ) (text : List ℕ) (why : Refusal) (line : ℕ) : Type 0 where
@@ -101,7 +102,7 @@ empty (a ∷ s) e = absurd (omega arith)
 
 -- nothing good at the front
 module _ (n : ℕ) (before : Found ℤ) (text : List ℕ) where
-  pub form-here : (why : Refusal) (line : ℕ) → 0 < length text → ((e : Entry) (next : List ℕ) → Printable e → ended (line_of e) ++ next ≡ text → ⊥) → bad (alone 17) n ≡ bad why line → BadFrom n before text why line
+  pub form-here : (why : Refusal) (line : ℕ) → 0 < length text → ((e : Entry) (next : List ℕ) → Printable e → ended (line_of e) ++ next ≡ text → ⊥) → bad LineWrong n ≡ bad why line → BadFrom n before text why line
   unfolding joined
   form-here why line h none e =
       inl (record {

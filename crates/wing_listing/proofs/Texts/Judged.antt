@@ -8,8 +8,7 @@ use mir.Syntax.{w32}
 use mir.Val.{to_z, of_z}
 use lib.IntN.{ℤ}
 use lib.ListN.{length, take, drop}
-use Rattle.wing_node.specs.declared.refusal.Fault.{Fault}
-use Rattle.wing_node.specs.Refusal.{no_fault, by_number, is_refused}
+use Rattle.wing_node.specs.Refusal.{no_fault, is_refused, because, Fault}
 use Rattle.wing_node.specs.Bool.{if}
 use Rattle.wing_mirror.specs.Rows.{Found}
 use Rattle.wing_listing.specs.Parts.{comma, part}
@@ -22,6 +21,7 @@ use Rattle.wing_listing.proofs.Texts.Numbers.{by-test}
 use Rattle.wing_listing.proofs.Texts.Lines.{formed-fields, formed-said, formed-at}
 use Rattle.wing_listing.proofs.Texts.Reads.{read-passed}
 use Rattle.wing_listing.proofs.Texts.Scans.{read-id}
+use Rattle.wing_node.specs.declared.refusal.Refusal.TheVariants.{IdNotAbove, LineWrong}
 
 -- the value's field of a line in form
 module _ (s : List ℕ) (l : Line) (says : LineSays l s) (e : is_line s ≡ true) where
@@ -38,7 +38,7 @@ module _ (s : List ℕ) (l : Line) (says : LineSays l s) (e : is_line s ≡ true
   unfolding entry_said
   value_same = ap (value_said l.kind) value-field ∙ ap (λ k. value_said k (part comma 2 s)) (says.kind e)
 
-module _ (before : Found ℤ) (s : List ℕ) (l : Line) (says : LineSays l s) (up : Bool) (why : Fault) (w : why ≡ if l.formed (if up no_fault (by_number 18)) (by_number 17))
+module _ (before : Found ℤ) (s : List ℕ) (l : Line) (says : LineSays l s) (up : Bool) (why : Fault) (w : why ≡ if l.formed (if up no_fault (because IdNotAbove)) (because LineWrong))
     (u : up ≡ above before (integer_read (part comma 0 s)).value) where
   abbrev id : ℤ
   id = to_z w32 (of_z w32 l.id)
@@ -49,8 +49,8 @@ module _ (before : Found ℤ) (s : List ℕ) (l : Line) (says : LineSays l s) (u
   up-said : is_line s ≡ true → up ≡ above before (id_said s)
   up-said e = u ∙ ap (above before) (read-id s e)
 
-  why-line : why ≡ if (is_line s) (if up no_fault (by_number 18)) (by_number 17)
-  why-line = w ∙ ap (λ t. if t (if up no_fault (by_number 18)) (by_number 17)) says.formed
+  why-line : why ≡ if (is_line s) (if up no_fault (because IdNotAbove)) (because LineWrong)
+  why-line = w ∙ ap (λ t. if t (if up no_fault (because IdNotAbove)) (because LineWrong)) says.formed
 
   pub first-line : is_refused why ≡ false → is_line s ≡ true
   first-line z = by-test (is_line s) (λ t. t) (λ t. absurd (true≢false (ap is_refused (sym (rw t at why-line)) ∙ z)))
@@ -74,5 +74,5 @@ module _ (before : Found ℤ) (s : List ℕ) (l : Line) (says : LineSays l s) (u
       by-test (is_line s)
       (λ e. by-test (above before (id_said s))
       (λ t. absurd (true≢false (sym z ∙ ap is_refused (rw (e, up-said e ∙ t) at why-line))))
-      (λ t. let q : why ≡ by_number 18 = rw (e, up-said e ∙ t) at why-line in rw (q, id-read, e, t)))
-      (λ e. let q : why ≡ by_number 17 = rw e at why-line in rw (q, id-read, e))
+      (λ t. let q : why ≡ because IdNotAbove = rw (e, up-said e ∙ t) at why-line in rw (q, id-read, e, t)))
+      (λ e. let q : why ≡ because LineWrong = rw e at why-line in rw (q, id-read, e))

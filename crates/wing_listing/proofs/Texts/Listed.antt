@@ -7,7 +7,7 @@ use native.Mathlib.Omega.{arith}
 use lib.IntN.{ℤ}
 use lib.Signed.{lt_z}
 use lib.ListN.{length, get_or, drop}
-use Rattle.wing_node.specs.Refusal.{alone, no_fault}
+use Rattle.wing_node.specs.Refusal.{no_fault}
 use Rattle.wing_node.specs.Bool.{if}
 use Rattle.wing_node.specs.Bytes.{joined}
 use Rattle.wing_node.proofs.Branches.{if-both}
@@ -25,6 +25,7 @@ use Rattle.wing_listing.specs.Reading.{id_said, entry_said, above, line_fault, R
 use Rattle.wing_listing.proofs.Texts.Parts.{parted-some, parted-ended, front-text}
 use Rattle.wing_listing.proofs.Texts.Scans.{faultless-line, faultless-id, faultless-value, Says, next-line, none_left, header-ended, header-said, header-rest}
 use Rattle.wing_listing.proofs.Texts.Said.{DigitBytes, text-faultless, line-formed, line-id, line-says, line_plain, line-again, line-valid, line-bytes}
+use Rattle.wing_node.specs.declared.refusal.Refusal.TheVariants.{LineWrong}
 
 -- 02: each id above the one before, if there is one
 abbrev pub Rises : Found ℤ → List Entry → Type 0
@@ -93,8 +94,8 @@ unfolding reading_of listing_of after_header every
 listing-read es a r =
     ap (λ (t : List ℕ). after_header (parted newline t)) (append_assoc header (newline ∷ []) (body es)) ∙
     ap after_header (parted-ended newline header (body es) refl ∙ ap (λ (ps : List (List ℕ)). header ∷ ps) (parted-some newline (body es))) ∙
-    ap (λ (ps : List (List ℕ)). if (same_bytes header header) (lines_from 2 nothing ps) (bad (alone 17) 1)) (sym (parted-some newline (body es))) ∙
-    ap (λ t. if t (lines_from 2 nothing (parted newline (body es))) (bad (alone 17) 1)) (bytes-refl header) ∙ lines-read 2 nothing es a r
+    ap (λ (ps : List (List ℕ)). if (same_bytes header header) (lines_from 2 nothing ps) (bad LineWrong 1)) (sym (parted-some newline (body es))) ∙
+    ap (λ t. if t (lines_from 2 nothing (parted newline (body es))) (bad LineWrong 1)) (bytes-refl header) ∙ lines-read 2 nothing es a r
 
 -- ---- what is read is printed
 

@@ -9,7 +9,6 @@ use lib.Dec.{leb}
 use lib.ListN.{length, take}
 use lib.Seq.{take-length}
 use Rattle.wing_node.specs.declared.refusal.Refusal.{Refusal}
-use Rattle.wing_node.specs.Refusal.{alone}
 use Rattle.wing_wire.specs.State.{fresh_state}
 use Rattle.wing_wire.specs.declared.state.State.{State}
 use Rattle.wing_mirror.specs.Rows.{laid}
@@ -25,6 +24,7 @@ use Rattle.wing_listing.specs.declared.answer.Loaded.{Loaded}
 use Rattle.wing_listing.specs.declared.answer.Loaded.TheVariants.{Records, Refused}
 use Rattle.wing_listing.specs.declared.answer.LoadReply.{LoadReply}
 use Rattle.wing_listing.proofs.Texts.Numbers.{by-test}
+use Rattle.wing_node.specs.declared.refusal.Refusal.TheVariants.{NoPlace, NumberOver, TableUnsound}
 
 -- ---- the steps
 
@@ -42,7 +42,7 @@ module _ (memory : List ℕ) where
   read-steps (good es) =
       by-test (leb (length es) (length memory / width))
       (λ t. rw t (ap (λ (fs : List Entry). load_effect (reply_of (Records (length es))) (laid width (map record_of fs) memory)) (take-length es)))
-      (λ t. rw t (ap (load_effect (reply_of (Refused (alone 6) 0))) (laid_nil width memory)))
+      (λ t. rw t (ap (load_effect (reply_of (Refused NoPlace 0))) (laid_nil width memory)))
   read-steps (bad why line) = rw (le-leb 0 (length memory / width) (omega arith)) (sent_back_lem why line [])
 
   pub load-steps : (text : List ℕ) → leaves (checked_as text (length memory / width)) (entries_in (reading_of text)) ≡ load_of text memory
@@ -51,8 +51,8 @@ module _ (memory : List ℕ) where
       by-test (places_allowed (length memory / width))
       (λ a. by-test (leb (length text) 65536)
       (λ s. rw (a, s) (read-steps (reading_of text)))
-      (λ s. rw (a, s) (sent_back_lem (alone 14) 0 (entries_in (reading_of text)))))
-      (λ a. rw a (sent_back_lem (alone 7) 0 (entries_in (reading_of text))))
+      (λ s. rw (a, s) (sent_back_lem NumberOver 0 (entries_in (reading_of text)))))
+      (λ a. rw a (sent_back_lem TableUnsound 0 (entries_in (reading_of text))))
 
 -- the records to be laid are there, and have room
 few-read : (r : Reading) (places : ℕ) → ((fitting (scanned_as r) places).count ≤ length (entries_in r)) × ((fitting (scanned_as r) places).count ≤ places)

@@ -8,10 +8,8 @@ use borrow.Author.Tests.{ltb-true, ltb-false, eqb-true, eqb-false, ne_eqb}
 use lib.Dec.{ltb, eqb}
 use lib.IntN.{ℤ}
 use lib.ListN.{length, drop}
-use Rattle.wing_node.specs.declared.refusal.Fault.TheVariants.{None, Refused as Because}
-use Rattle.wing_node.specs.declared.refusal.Fault.{Fault}
 use Rattle.wing_node.specs.declared.refusal.Refusal.{Refusal}
-use Rattle.wing_node.specs.Refusal.{alone, no_fault, is_refused}
+use Rattle.wing_node.specs.Refusal.{no_fault, is_refused, Fault}
 use Rattle.wing_node.specs.Bool.{if}
 use Rattle.wing_mirror.specs.Rows.{Found, found, nothing}
 use Rattle.wing_mirror.specs.Entry.{Entry}
@@ -25,6 +23,8 @@ use Rattle.wing_listing.specs.declared.scan.Scanned.{Scanned}
 use Rattle.wing_listing.proofs.Texts.Numbers.{by-test}
 use Rattle.wing_listing.proofs.Texts.Parts.{parted-some, parted-hit, parted-whole}
 use Rattle.wing_listing.proofs.Texts.Lines.{true-false, formed-id}
+use Rattle.wing_node.specs.declared.refusal.Refusal.TheVariants.{LineWrong}
+use Rattle.std.specs.Prelude.{Ok, Err}
 
 pub ne-zero : (n : ℕ) → (n ≡ 0 → ⊥) → 0 < n
 ne-zero zero h = absurd (h refl)
@@ -56,7 +56,7 @@ module _ (n : ℕ) (before : Found ℤ) where
   unfolding lines_from parted
   lines_end = refl
 
-  pub lines-unended : (text : List ℕ) → 0 < length text → length text ≤ length (part newline 0 text) → lines_from n before (parted newline text) ≡ bad (alone 17) n
+  pub lines-unended : (text : List ℕ) → 0 < length text → length text ≤ length (part newline 0 text) → lines_from n before (parted newline text) ≡ bad LineWrong n
   unfolding lines_from
   lines-unended text h k = ap (lines_from n before) (parted-whole newline text k) ∙ rw (ne_eqb (length text) 0 (λ e. omega arith))
 
@@ -71,18 +71,18 @@ module _ (n : ℕ) (before : Found ℤ) where
       ap (lines_from n before) (parted-hit newline text h ∙ ap (λ (ps : List (List ℕ)). p ∷ ps) (parted-some newline r)) ∙
       ap (λ (ps : List (List ℕ)). unless_bad (line_fault before p) n (after (entry_said p) (lines_from (suc n) (found (id_said p)) ps))) (sym (parted-some newline r))
 
-pub header-none : (text : List ℕ) → length text ≤ length (part newline 0 text) → reading_of text ≡ bad (alone 17) 1
+pub header-none : (text : List ℕ) → length text ≤ length (part newline 0 text) → reading_of text ≡ bad LineWrong 1
 unfolding reading_of after_header
 header-none text h = ap after_header (parted-whole newline text h)
 
 pub header-next : (text : List ℕ) → length (part newline 0 text) < length text →
-    reading_of text ≡ if (same_bytes (part newline 0 text) header) (lines_from 2 nothing (parted newline (drop (length (part newline 0 text) + 1) text))) (bad (alone 17) 1)
+    reading_of text ≡ if (same_bytes (part newline 0 text) header) (lines_from 2 nothing (parted newline (drop (length (part newline 0 text) + 1) text))) (bad LineWrong 1)
 unfolding reading_of after_header
 header-next text h =
     let p = part newline 0 text in
     let r = drop (length p + 1) text in
     ap after_header (parted-hit newline text h ∙ ap (λ (ps : List (List ℕ)). p ∷ ps) (parted-some newline r)) ∙
-    ap (λ (ps : List (List ℕ)). if (same_bytes p header) (lines_from 2 nothing ps) (bad (alone 17) 1)) (sym (parted-some newline r))
+    ap (λ (ps : List (List ℕ)). if (same_bytes p header) (lines_from 2 nothing ps) (bad LineWrong 1)) (sym (parted-some newline r))
 
 -- ---- what is counted
 
@@ -153,8 +153,8 @@ begun-text n before text es l k =
     rest = lines_from (suc n) (found (id_said (part newline 0 text))) (parted newline (drop (length (part newline 0 text) + 1) text))
 
     go : (f : Fault) → line_fault before (part newline 0 text) ≡ f → unless_bad f n (after (entry_said (part newline 0 text)) rest) ≡ good es → Next n before text es
-    go None u q = let g = after-good (entry_said (part newline 0 text)) rest es q in record { ended = k; fault = u; says = g.0; rest = g.1 }
-    go (Because why) u q = good-not q
+    go (Ok u) u q = let g = after-good (entry_said (part newline 0 text)) rest es q in record { ended = k; fault = u; says = g.0; rest = g.1 }
+    go (Err why) u q = good-not q
 
 pub next-line : (n : ℕ) (before : Found ℤ) (text : List ℕ) (es : List Entry) → Says n before text es → 0 < length es → Next n before text es
 next-line n before text es l h =
@@ -176,7 +176,7 @@ module _ (text : List ℕ) (es : List Entry) (g : reading_of text ≡ good es) w
       by-test (ltb (length (part newline 0 text)) (length text)) (ltb-true (length (part newline 0 text)) (length text))
       (λ t. good-not (sym (header-none text (ltb-false (length (part newline 0 text)) (length text) t)) ∙ g))
 
-  header_read : if (same_bytes (part newline 0 text) header) (lines_from 2 nothing (parted newline (drop (length (part newline 0 text) + 1) text))) (bad (alone 17) 1) ≡ good es
+  header_read : if (same_bytes (part newline 0 text) header) (lines_from 2 nothing (parted newline (drop (length (part newline 0 text) + 1) text))) (bad LineWrong 1) ≡ good es
   header_read = sym (header-next text header-ended) ∙ g
 
   pub header-said : part newline 0 text ≡ header

@@ -12,7 +12,7 @@ use lib.IntN.{ℤ}
 use lib.ListN.{length, take, drop, length-drop}
 use lib.Seq.{drop-drop}
 use Rattle.wing_node.specs.declared.refusal.Refusal.{Refusal}
-use Rattle.wing_node.specs.Refusal.{alone, no_fault, because}
+use Rattle.wing_node.specs.Refusal.{no_fault, because}
 use Rattle.wing_node.specs.Bool.{if}
 use Rattle.wing_mirror.specs.Rows.{Found, found, nothing}
 use Rattle.wing_mirror.specs.Query.{same_bytes}
@@ -27,6 +27,7 @@ use Rattle.wing_listing.proofs.Texts.Numbers.{by-test}
 use Rattle.wing_listing.proofs.Texts.Parts.{front-le, front-take}
 use Rattle.wing_listing.proofs.Texts.Reads.{read-passed}
 use Rattle.wing_listing.proofs.Texts.Scans.{read-id, faultless-line, lines-unended, lines_next, header-none, header-next, counted, counted_next}
+use Rattle.wing_node.specs.declared.refusal.Refusal.TheVariants.{LineWrong}
 
 pub not_equal : (a b : ℕ) → a ≤ b → (a ≡ b → ⊥) → a < b
 not_equal a b h e = by-test (ltb a b) (ltb-true a b) (λ t. absurd (e (omega (arith, ltb-false a b t))))
@@ -52,7 +53,7 @@ module _ (text : List ℕ) (at k : ℕ) (f : k ≡ length (part newline 0 (take 
       drop-drop (length line + 1) at text ∙ ap (λ n. drop n text) e
 
   -- no newline is left
-  pub turn-unended : at < length text → at + k ≡ length text → (n : ℕ) (before : Found ℤ) → lines_from n before (parted newline (drop at text)) ≡ bad (alone 17) n
+  pub turn-unended : at < length text → at + k ≡ length text → (n : ℕ) (before : Found ℤ) → lines_from n before (parted newline (drop at text)) ≡ bad LineWrong n
   turn-unended h e n before = lines-unended n before (drop at text) (omega (arith, length-drop at text)) (omega (arith, length-drop at text, line-length))
 
   module _ (h : at + k < length text) where
@@ -98,17 +99,17 @@ module _ (text : List ℕ) (n : ℕ) (f : n ≡ length (part newline 0 text)) wh
   first-line : take n text ≡ part newline 0 text
   first-line = ap (λ k. take k text) f ∙ sym (front-take newline text)
 
-  pub first-none : length text ≤ n → reading_of text ≡ bad (alone 17) 1
+  pub first-none : length text ≤ n → reading_of text ≡ bad LineWrong 1
   first-none h = header-none text (omega arith)
 
   module _ (h : n < length text) (t : Bool) (e : t ≡ same_bytes (take n text) header) where
-    read-on : reading_of text ≡ if t (lines_from 2 nothing (parted newline (drop (n + 1) text))) (bad (alone 17) 1)
+    read-on : reading_of text ≡ if t (lines_from 2 nothing (parted newline (drop (n + 1) text))) (bad LineWrong 1)
     read-on =
-        header-next text (omega arith) ∙ ap (λ (p : List ℕ). if (same_bytes p header) (lines_from 2 nothing (parted newline (drop (length (part newline 0 text) + 1) text))) (bad (alone 17) 1)) (sym first-line) ∙
-        ap₂ (λ (b : Bool) (k : ℕ). if b (lines_from 2 nothing (parted newline (drop (k + 1) text))) (bad (alone 17) 1)) (sym e) (sym f)
+        header-next text (omega arith) ∙ ap (λ (p : List ℕ). if (same_bytes p header) (lines_from 2 nothing (parted newline (drop (length (part newline 0 text) + 1) text))) (bad LineWrong 1)) (sym first-line) ∙
+        ap₂ (λ (b : Bool) (k : ℕ). if b (lines_from 2 nothing (parted newline (drop (k + 1) text))) (bad LineWrong 1)) (sym e) (sym f)
 
     pub first_good : t ≡ true → reading_of text ≡ lines_from 2 nothing (parted newline (take (length text - (n + 1)) (drop (n + 1) text)))
-    first_good y = read-on ∙ ap (λ b. if b (lines_from 2 nothing (parted newline (drop (n + 1) text))) (bad (alone 17) 1)) y ∙ ap (λ (r : List ℕ). lines_from 2 nothing (parted newline r)) (sym (rest-whole text (n + 1)))
+    first_good y = read-on ∙ ap (λ b. if b (lines_from 2 nothing (parted newline (drop (n + 1) text))) (bad LineWrong 1)) y ∙ ap (λ (r : List ℕ). lines_from 2 nothing (parted newline r)) (sym (rest-whole text (n + 1)))
 
-    pub first-bad : t ≡ false → reading_of text ≡ bad (alone 17) 1
-    first-bad y = read-on ∙ ap (λ b. if b (lines_from 2 nothing (parted newline (drop (n + 1) text))) (bad (alone 17) 1)) y
+    pub first-bad : t ≡ false → reading_of text ≡ bad LineWrong 1
+    first-bad y = read-on ∙ ap (λ b. if b (lines_from 2 nothing (parted newline (drop (n + 1) text))) (bad LineWrong 1)) y

@@ -12,7 +12,7 @@ use lib.Dec.{eqb}
 use lib.Signed.{mag}
 use lib.ListN.{length, take, drop}
 use lib.Seq.{sets, sets-eq, take-append_seam}
-use Rattle.wing_node.specs.Refusal.{string_not_utf8, no_fault, because, by_number, string_fault}
+use Rattle.wing_node.specs.Refusal.{string_not_utf8, no_fault, because, string_fault}
 use Rattle.wing_node.specs.Bool.{if}
 use Rattle.wing_node.specs.Decimal.{integer_of}
 use Rattle.wing_node.specs.Utf8.{utf8}
@@ -26,6 +26,7 @@ use Rattle.wing_listing.specs.Steps.{integer_read}
 use Rattle.wing_listing.specs.declared.integer.IntegerRead.{IntegerRead}
 use Rattle.wing_listing.proofs.Texts.Numbers.{by-test}
 use Rattle.wing_listing.proofs.Texts.Hexes.{length_from, pairs-hex}
+use Rattle.wing_node.specs.declared.refusal.Refusal.TheVariants.{StringLong}
 
 -- ---- integers
 
@@ -67,7 +68,7 @@ module _ (k : ℕ) (s : List ℕ) where
 
   module _ (e : k ≡ 0x73) (v : is_value k s ≡ true) where
     -- 02: a string over 256 bytes gets 10
-    pub fault-long : 512 < length s → by_number 10 ≡ value_fault (value_said k s)
+    pub fault-long : 512 < length s → because StringLong ≡ value_fault (value_said k s)
     unfolding value_fault too_long
     fault-long h =
         let p = (pairs-hex s (value-pairs e v)).1 in

@@ -7,14 +7,13 @@ use borrow.Author.Tests.{le-leb, lt-leb, leb-true}
 use lib.Dec.{ltb, leb}
 use lib.IntN.{ℤ}
 use lib.ListN.{length, take}
-use Rattle.wing_node.specs.Refusal.{alone, string_not_utf8}
+use Rattle.wing_node.specs.Refusal.{string_not_utf8}
 use Rattle.wing_node.specs.Bool.{if}
 use Rattle.wing_node.specs.Utf8.{utf8}
 use Rattle.wing_node.specs.Value.{NodeValue, integer, float, string}
 use Rattle.wing_node.proofs.Branches.{if-both}
 use Rattle.wing_wire.specs.Write.{WriteEffect, write_effect, write_of}
 use Rattle.wing_wire.specs.Command.{set_bytes, set_string}
-use Rattle.wing_wire.specs.declared.write.Written.{Written}
 use Rattle.wing_wire.proofs.Laws.{writer-laws}
 use Rattle.wing_mirror.specs.Rows.{Table, takes}
 use Rattle.wing_mirror.specs.Entry.{entry, storable}
@@ -27,6 +26,9 @@ use Rattle.wing_mirror.specs.Sets.{Replied, replied, kept_of}
 use Rattle.wing_mirror.specs.declared.answer.SetReply.{SetReply}
 use Rattle.wing_mirror.specs.declared.origin.Origin.TheVariants.{SetOrder}
 use Rattle.wing_mirror.proofs.Tables.Laying.{take-least}
+use Rattle.wing_node.specs.declared.refusal.Refusal.TheVariants.{NoPlace, StringLong, TableUnsound}
+use Rattle.wing_node.specs.Result.{Result}
+use Rattle.std.specs.Prelude.{ℕ}
 
 -- a value that may be stored is not refused for itself
 pub not-long : (v : NodeValue) → storable v ≡ true → too_long v ≡ false
@@ -63,7 +65,7 @@ settled k out = record { answer = k.answer; out = out; table = k.after }
 module _ (L : Layout) (id : ℤ) (v : NodeValue) (t : Table) (out : List ℕ) where
   open L use {width, key_of, record_of, keeping}
 
-  pub unusable : usable L t ≡ false → refused_set (alone 7) t out ≡ mirror_set L id v t out
+  pub unusable : usable L t ≡ false → refused_set TableUnsound t out ≡ mirror_set L id v t out
   unfolding mirror_set
   unusable u = rw u
 
@@ -72,7 +74,7 @@ module _ (L : Layout) (id : ℤ) (v : NodeValue) (t : Table) (out : List ℕ) wh
     takes-is : takes width key_of (record_of (entry id v SetOrder)) t ≡ h
     takes-is = ap (λ (r : List ℕ). takes width key_of r t) (sym er) ∙ sym eh
 
-    pub no_room : h ≡ false → refused_set (alone 6) t out ≡ mirror_set L id v t out
+    pub no_room : h ≡ false → refused_set NoPlace t out ≡ mirror_set L id v t out
     unfolding mirror_set fits
     no_room q = rw (u, o, not-long v s, is-text v s, takes-is, q)
 
@@ -85,7 +87,7 @@ module _ (L : Layout) (id : ℤ) (v : NodeValue) (t : Table) (out : List ℕ) wh
     written q true e = rw (u, o, not-long v s, is-text v s, e, takes-is, q)
     written q false e = rw (u, o, not-long v s, is-text v s, e, takes-is, q)
 
-    pub kept-so : h ≡ true → (w : Written) (o : List ℕ) → write_effect w o ≡ write_of (set_bytes id v) out →
+    pub kept-so : h ≡ true → (w : Result ℕ) (o : List ℕ) → write_effect w o ≡ write_of (set_bytes id v) out →
         (r : SetReply) (b : List ℕ) → replied r b ≡ kept_of L w rec t → set_effect r o b ≡ mirror_set L id v t out
     unfolding after
     kept-so q w o ew r b ek =
@@ -94,18 +96,18 @@ module _ (L : Layout) (id : ℤ) (v : NodeValue) (t : Table) (out : List ℕ) wh
 
 -- of a string that is refused for what it is: 7 before that
 module _ (L : Layout) (id : ℤ) (s : List ℕ) (t : Table) (out : List ℕ) (o : L.keeping (string s) ≡ kept) where
-  pub long-string : 256 < length s → refused_set (if (usable L t) (alone 10) (alone 7)) t out ≡ mirror_set L id (string s) t out
+  pub long-string : 256 < length s → refused_set (if (usable L t) StringLong TableUnsound) t out ≡ mirror_set L id (string s) t out
   unfolding mirror_set too_long
   long-string h = go (usable L t) refl
     where
-      go : (b : Bool) → usable L t ≡ b → refused_set (if b (alone 10) (alone 7)) t out ≡ mirror_set L id (string s) t out
+      go : (b : Bool) → usable L t ≡ b → refused_set (if b StringLong TableUnsound) t out ≡ mirror_set L id (string s) t out
       go true u = rw (u, o, lt-leb (length s) 256 h)
       go false u = rw u
 
-  pub bad-string : length s ≤ 256 → utf8 s ≡ false → refused_set (if (usable L t) (string_not_utf8 s) (alone 7)) t out ≡ mirror_set L id (string s) t out
+  pub bad-string : length s ≤ 256 → utf8 s ≡ false → refused_set (if (usable L t) (string_not_utf8 s) TableUnsound) t out ≡ mirror_set L id (string s) t out
   unfolding mirror_set too_long not_text
   bad-string h q = go (usable L t) refl
     where
-      go : (b : Bool) → usable L t ≡ b → refused_set (if b (string_not_utf8 s) (alone 7)) t out ≡ mirror_set L id (string s) t out
+      go : (b : Bool) → usable L t ≡ b → refused_set (if b (string_not_utf8 s) TableUnsound) t out ≡ mirror_set L id (string s) t out
       go true u = rw (u, o, le-leb (length s) 256 h, q)
       go false u = rw u

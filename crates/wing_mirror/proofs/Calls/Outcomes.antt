@@ -16,7 +16,6 @@ use Rattle.wing_node.proofs.Branches.{branch}
 use Rattle.wing_wire.specs.State.{sound_state}
 use Rattle.wing_wire.specs.Command.{set_bytes}
 use Rattle.wing_wire.specs.declared.state.State.{State}
-use Rattle.wing_wire.specs.declared.write.Written.TheVariants.{Bytes}
 use Rattle.wing_mirror.specs.Rows.{Table}
 use Rattle.wing_mirror.specs.Entry.{entry, storable}
 use Rattle.wing_mirror.specs.Layout.{kept, Layout}
@@ -28,6 +27,8 @@ use Rattle.wing_mirror.specs.Machine.{decode_all, events}
 use Rattle.wing_mirror.specs.declared.origin.Origin.TheVariants.{SetOrder}
 use Rattle.wing_mirror.proofs.Records.Choices.{keeping-cases}
 use Rattle.wing_mirror.proofs.Histories.Along.{fold_events, feed-events}
+use Rattle.wing_node.specs.declared.refusal.Refusal.TheVariants.{NoPlace, OutputShort, StringLong, TableUnsound}
+use Rattle.std.specs.Prelude.{Ok}
 
 module _ (L : Layout) (s : State) (t : Table) (bytes : List ℕ) where
   -- a feed that is not refused keeps every answer
@@ -63,13 +64,13 @@ module _ (L : Layout) (id : ℤ) (v : NodeValue) (t : Table) (out : List ℕ) wh
   -- what holds after every refusal, and after a set that is taken
   pub set_cases : (P : SetEffect → Type 0) → ((why : Refusal) → P (refused_set why t out)) →
       (keeping v ≡ kept → too_long v ≡ false → not_text v ≡ false → not (fits L (entry id v SetOrder) t) ≡ false → ltb (length out) (length (set_bytes id v)) ≡ false →
-      P (record { answer = Bytes (length (set_bytes id v)); out = set_bytes id v ++ drop (length (set_bytes id v)) out; table = put L (entry id v SetOrder) t })) →
+      P (record { answer = Ok (length (set_bytes id v)); out = set_bytes id v ++ drop (length (set_bytes id v)) out; table = put L (entry id v SetOrder) t })) →
       P (mirror_set L id v t out)
   unfolding mirror_set
   set_cases P r w =
-      branch P (not (usable L t)) _ _ (λ _. r (alone 7))
+      branch P (not (usable L t)) _ _ (λ _. r TableUnsound)
       (λ _. keeping-cases P (keeping v) _ _ (λ mark number. r (alone number))
-      (λ k. branch P (too_long v) _ _ (λ _. r (alone 10))
+      (λ k. branch P (too_long v) _ _ (λ _. r StringLong)
       (λ a. branch P (not_text v) _ _ (λ _. r (string_not_utf8 (text_in v)))
-      (λ b. branch P (not (fits L (entry id v SetOrder) t)) _ _ (λ _. r (alone 6))
-      (λ c. branch P (ltb (length out) (length (set_bytes id v))) _ _ (λ _. r (alone 9)) (w k a b c))))))
+      (λ b. branch P (not (fits L (entry id v SetOrder) t)) _ _ (λ _. r NoPlace)
+      (λ c. branch P (ltb (length out) (length (set_bytes id v))) _ _ (λ _. r OutputShort) (w k a b c))))))

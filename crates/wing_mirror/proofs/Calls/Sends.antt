@@ -8,7 +8,6 @@ use borrow.Author.Tests.{eqb-false, le-ltb, lt-leb, leb-true}
 use lib.Dec.{leb, eqb}
 use lib.ListN.{length, take, drop, get_or, length-append, length-drop}
 use lib.Seq.{sets-eq, length-take-le}
-use Rattle.wing_node.specs.Refusal.{alone}
 use Rattle.wing_node.specs.Bool.{if}
 use Rattle.wing_node.specs.Field.{big}
 use Rattle.wing_node.specs.Signed.{signed}
@@ -18,8 +17,6 @@ use Rattle.wing_node.proofs.Branches.{branch, if-both}
 use Rattle.wing_wire.specs.State.{zeros}
 use Rattle.wing_wire.specs.Write.{Laid, write_effect, write_of, WriteEffect}
 use Rattle.wing_wire.specs.Command.{set_bytes}
-use Rattle.wing_wire.specs.declared.write.Written.{Written}
-use Rattle.wing_wire.specs.declared.write.Written.TheVariants.{Bytes, Refused}
 use Rattle.wing_wire.proofs.Laws.{writer-laws}
 use Rattle.wing_node.specs.Bytes.{joined}
 use Rattle.wing_mirror.specs.Rows.{Table, records}
@@ -31,6 +28,9 @@ use Rattle.wing_mirror.proofs.Tables.Chunks.{length-records}
 use Rattle.wing_mirror.proofs.Records.Said.{row_of}
 use Rattle.wing_mirror.proofs.Tables.Tests.{from, from_all, from_next, from-none}
 use Rattle.wing_mirror.proofs.Records.Usables.{in-range, few, room, formed}
+use Rattle.wing_node.specs.declared.refusal.Refusal.TheVariants.{TableUnsound}
+use Rattle.wing_node.specs.Result.{Result}
+use Rattle.std.specs.Prelude.{ℕ, Ok, Err}
 
 -- ---- a record
 
@@ -59,11 +59,11 @@ module _ (r : List ℕ) (wide : length r ≡ 264) (form : well_formed r ≡ true
       writer-laws.string_size (id_in r) s (omega (arith, t.0, length-take-le (length_in r) (payload_in r) (omega (arith, length-drop 8 r)))) t.1))
 
 -- a writer laid the whole, where there was room for it
-pub laid-whole : (w : Written) (s d e : List ℕ) → write_effect w e ≡ write_of s d → length s ≤ length d → Laid s 0 d e (size_in w)
+pub laid-whole : (w : Result ℕ) (s d e : List ℕ) → write_effect w e ≡ write_of s d → length s ≤ length d → Laid s 0 d e (size_in w)
 unfolding write_of size_in
 laid-whole w s d e q h =
     let z : 0 + length s ≡ length s = omega arith in
-    let p : write_effect w e ≡ write_effect (Bytes (length s)) (s ++ drop (length s) d) = q ∙ rw (le-ltb (length d) (length s) h) in
+    let p : write_effect w e ≡ write_effect (Ok (length s)) (s ++ drop (length s) d) = q ∙ rw (le-ltb (length d) (length s) h) in
     record {
       bytes = ap (λ (x : WriteEffect). x.out) p ∙ sym (sets-eq s d 0 (omega arith) ∙ rw z);
       next = ap (λ (x : WriteEffect). size_in x.answer) p ∙ sym z;
@@ -131,6 +131,6 @@ module _ (t : Table) where
   unfolding recall_of
   recalled out u = rw u
 
-  pub unusable : (out : List ℕ) → usable full t ≡ false → write_effect (Refused (alone 7)) out ≡ recall_of full t out
+  pub unusable : (out : List ℕ) → usable full t ≡ false → write_effect (Err TableUnsound) out ≡ recall_of full t out
   unfolding recall_of
   unusable out u = rw u

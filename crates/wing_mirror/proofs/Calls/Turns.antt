@@ -15,8 +15,6 @@ use Rattle.wing_wire.specs.Units.{pending_count}
 use Rattle.wing_wire.specs.Range.{Within, TokenWithin, StepEffectWithin}
 use Rattle.wing_wire.specs.Reader.{value, event_of}
 use Rattle.wing_wire.specs.Stream.{is_more, Run, run, advance_of, released, Fed, feed_of}
-use Rattle.wing_wire.specs.declared.state.Pending.{Pending}
-use Rattle.wing_wire.specs.declared.state.Pending.TheVariants.{None, Byte}
 use Rattle.wing_wire.specs.declared.state.Control.{Control}
 use Rattle.wing_wire.specs.declared.stream.Advanced.{Advanced}
 use Rattle.wing_wire.specs.declared.unit.Answer.{Answer}
@@ -37,12 +35,13 @@ use Rattle.wing_mirror.proofs.Records.Choices.{keeping-cases}
 use Rattle.wing_mirror.proofs.Records.Lasting.{entry-usable}
 use Rattle.wing_mirror.proofs.Calls.Tallies.{keep-total}
 use Rattle.wing_mirror.proofs.Histories.Decodes.{string-text}
+use Rattle.std.specs.Prelude.{Option, ℕ, None, Some}
 
 -- ---- what is left: two for each byte, and one for a pending byte
 
-pending-one : (p : Pending) → pending_count p ≤ 1
+pending-one : (p : Option ℕ) → pending_count p ≤ 1
 pending-one None = omega arith
-pending-one (Byte u) = omega arith
+pending-one (Some u) = omega arith
 
 -- an answer takes a byte, or the pending byte
 pub smaller : (c : Control) (s bytes : List ℕ) → is_more (advance_of c s bytes).effect.answered.answer ≡ false →

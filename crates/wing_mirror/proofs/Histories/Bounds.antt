@@ -8,8 +8,6 @@ use lib.IntN.{ℤ}
 use lib.ListN.{length, drop, length-append, length-take, length-drop}
 use Rattle.wing_node.specs.Value.{NodeValue}
 use Rattle.wing_wire.specs.Command.{set_bytes}
-use Rattle.wing_wire.specs.declared.write.Written.{Written}
-use Rattle.wing_wire.specs.declared.write.Written.TheVariants.{Bytes, Refused}
 use Rattle.wing_mirror.specs.Rows.{Table}
 use Rattle.wing_mirror.specs.Layout.{Layout}
 use Rattle.wing_mirror.specs.Counts.{total}
@@ -20,6 +18,8 @@ use Rattle.wing_mirror.specs.declared.answer.FeedAnswer.{FeedAnswer}
 use Rattle.wing_mirror.specs.declared.answer.FeedAnswer.TheVariants.{Taken, Refused as FeedRefused}
 use Rattle.wing_mirror.proofs.Calls.Outcomes.{set_cases}
 use Rattle.wing_mirror.proofs.Calls.Feeds.{feed-counts}
+use Rattle.wing_node.specs.Result.{Result}
+use Rattle.std.specs.Prelude.{ℕ, Ok, Err}
 
 module _ (L : Layout) where
   -- a set keeps the length of its output
@@ -38,9 +38,9 @@ module _ (L : Layout) where
       go (FeedRefused n) h = tt
   step-bounded m (set id v out) = go (mirror_set L id v m.table out).answer (mirror_set L id v m.table out).out (set-length id v m.table out)
     where
-      go : (a : Written) (left : List ℕ) → length left ≡ length out → Bounded (set id v out) (set_outcome a left)
-      go (Bytes n) left h = omega (arith, length-take n left)
-      go (Refused n) left h = tt
+      go : (a : Result ℕ) (left : List ℕ) → length left ≡ length out → Bounded (set id v out) (set_outcome a left)
+      go (Ok n) left h = omega (arith, length-take n left)
+      go (Err n) left h = tt
 
   -- of every call of a history
   pub run-bounded : (m : Mirror) (cs : List Call) → Each Bounded cs (run_all (mirror_step L) m cs).outcomes

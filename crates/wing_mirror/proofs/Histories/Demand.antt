@@ -7,10 +7,8 @@ use native.Mathlib.Omega.{arith}
 use lib.Dec.{ltb}
 use lib.ListN.{length, take, drop, length-map}
 use lib.Seq.{take-append_seam}
-use Rattle.wing_node.specs.Refusal.{alone}
 use Rattle.wing_node.specs.Bool.{if}
 use Rattle.wing_wire.specs.Write.{WriteEffect, write_effect, write_of}
-use Rattle.wing_wire.specs.declared.write.Written.TheVariants.{Bytes, Refused}
 use Rattle.wing_mirror.specs.Rows.{Table, All, rising}
 use Rattle.wing_mirror.specs.Entry.{Entry, from_console}
 use Rattle.wing_mirror.specs.Layout.{Layout, ValidEntry, Lawful, origin_cleared}
@@ -25,20 +23,22 @@ use Rattle.wing_mirror.proofs.Histories.Rebuilt.{order-own, console-rises, map-r
 use Rattle.wing_mirror.proofs.Histories.Agrees.{map-valid, run-agrees, run-order, run-equal}
 use Rattle.wing_mirror.proofs.Histories.Answers.{comparing, recalling}
 use Rattle.wing_mirror.proofs.Histories.Bounds.{run-bounded}
+use Rattle.wing_node.specs.declared.refusal.Refusal.TheVariants.{OutputShort, TableUnsound}
+use Rattle.std.specs.Prelude.{Ok, Err}
 
 module _ {L : Layout} (laws : Lawful L) where
   open L use {width, record_of, entry_in}
 
   -- a recall that says that n bytes were written was of a usable table, and these are its bytes
-  recall-wrote : (t : Table) (out : List ℕ) (n : ℕ) → (recall_of L t out).answer ≡ Bytes n → (usable L t ≡ true) × (take n (recall_of L t out).out ≡ recall_bytes L t)
+  recall-wrote : (t : Table) (out : List ℕ) (n : ℕ) → (recall_of L t out).answer ≡ Ok n → (usable L t ≡ true) × (take n (recall_of L t out).out ≡ recall_bytes L t)
   unfolding recall_of write_of
   recall-wrote t out n = go (usable L t) refl (ltb (length out) (length (recall_bytes L t)))
     where
       bytes : List ℕ
       bytes = recall_bytes L t
 
-      go : (u : Bool) → usable L t ≡ u → (s : Bool) → let x : WriteEffect = if u (if s (write_effect (Refused (alone 9)) out) (write_effect (Bytes (length bytes)) (bytes ++ drop (length bytes) out))) (write_effect (Refused (alone 7)) out) in
-          x.answer ≡ Bytes n → (u ≡ true) × (take n x.out ≡ bytes)
+      go : (u : Bool) → usable L t ≡ u → (s : Bool) → let x : WriteEffect = if u (if s (write_effect (Err OutputShort) out) (write_effect (Ok (length bytes)) (bytes ++ drop (length bytes) out))) (write_effect (Err TableUnsound) out) in
+          x.answer ≡ Ok n → (u ≡ true) × (take n x.out ≡ bytes)
       go true q true e = absurd (let z : ◌≡◌ {A = ℕ} 0 1 = cc in omega arith)
       go true q false e = let k : length bytes ≡ n = cc in (refl, rw (← k) (take-append_seam bytes (drop (length bytes) out)))
       go false q s e = absurd (let z : ◌≡◌ {A = ℕ} 0 1 = cc in omega arith)

@@ -13,7 +13,6 @@ use Rattle.wing_node.proofs.Branches.{branch}
 use Rattle.wing_wire.specs.State.{sound_state}
 use Rattle.wing_wire.specs.Range.{AreBytes, InRange}
 use Rattle.wing_wire.specs.declared.state.State.{State}
-use Rattle.wing_wire.specs.declared.write.Written.TheVariants.{Bytes}
 use Rattle.wing_mirror.specs.Rows.{Table, In}
 use Rattle.wing_mirror.specs.Entry.{Entry, entry}
 use Rattle.wing_mirror.specs.Layout.{Layout, ValidEntry, Lawful}
@@ -38,6 +37,7 @@ use Rattle.wing_mirror.proofs.Histories.Starts.{own-valid, own-image}
 use Rattle.wing_mirror.proofs.Histories.Puts.{put-in, put-others, one_entry, in-has}
 use Rattle.wing_mirror.proofs.Histories.Given.{events-others, events-give, events-put}
 use Rattle.wing_mirror.proofs.Histories.Aside.{origin-bytes, compared, recalled, aside}
+use Rattle.std.specs.Prelude.{Ok}
 
 -- ---- a usable table
 
@@ -103,17 +103,17 @@ module _ {L : Layout} (laws : Lawful L) (t : Table) (b : AreBytes t.buffer) (u :
 
 module _ {L : Layout} (laws : Lawful L) where
   set_gives : (t : Table) (id : ℤ) (v : NodeValue) (out : List ℕ) (n : ℕ) → AreBytes t.buffer → TypedCall (set id v out) →
-      (mirror_set L id v t out).answer ≡ Bytes n → GivenBySet L (entries_of L t) (entries_of L (mirror_set L id v t out).table) id v
+      (mirror_set L id v t out).answer ≡ Ok n → GivenBySet L (entries_of L t) (entries_of L (mirror_set L id v t out).table) id v
   set_gives t id v out n b typed e =
       set_cases L id v t out P (λ why z. absurd (let w : ◌≡◌ {A = ℕ} 0 1 = cc in omega arith))
       (λ k p q f d z. put-gives laws t b (of-usable e) id v (set-valid id v typed.0 typed.1 k p q) (passed (fits L (entry id v SetOrder) t) f)) e
     where
       P : SetEffect → Type 0
-      P x = x.answer ≡ Bytes n → GivenBySet L (entries_of L t) (entries_of L x.table) id v
+      P x = x.answer ≡ Ok n → GivenBySet L (entries_of L t) (entries_of L x.table) id v
 
       -- what is accepted was of a usable table
-      of-usable : (mirror_set L id v t out).answer ≡ Bytes n → usable L t ≡ true
-      of-usable = unfold mirror_set in branch (λ (x : SetEffect). x.answer ≡ Bytes n → usable L t ≡ true) (not (usable L t)) _ _
+      of-usable : (mirror_set L id v t out).answer ≡ Ok n → usable L t ≡ true
+      of-usable = unfold mirror_set in branch (λ (x : SetEffect). x.answer ≡ Ok n → usable L t ≡ true) (not (usable L t)) _ _
           (λ _ z. absurd (let w : ◌≡◌ {A = ℕ} 0 1 = cc in omega arith)) (λ q z. passed (usable L t) q)
 
   feed-gives : (s : State) (t : Table) (bytes : List ℕ) → AreBytes t.buffer → InRange s.control s.store → TypedCall (feed bytes) →

@@ -10,7 +10,6 @@ use lib.Dec.{ltb, leb}
 use lib.IntN.{ℤ}
 use lib.ListN.{length, get_or, replicate, length-replicate}
 use Rattle.wing_node.specs.declared.refusal.Refusal.{Refusal}
-use Rattle.wing_node.specs.Refusal.{alone}
 use Rattle.wing_node.specs.Bool.{if}
 use Rattle.wing_node.specs.Result.{Result, ok, refused}
 use Rattle.wing_node.specs.Signed.{InBits}
@@ -32,6 +31,7 @@ use Rattle.wing_mirror.proofs.Records.Ids.{same_id_lem, same_rank}
 use Rattle.wing_mirror.proofs.Records.Usables.{up}
 use Rattle.wing_mirror.proofs.Records.Formed.{take-over}
 use Rattle.wing_mirror.proofs.Records.Entries.{row-stands, each}
+use Rattle.wing_node.specs.declared.refusal.Refusal.TheVariants.{NumberOver, TableUnsound}
 
 -- ids that stand at one place are one
 rank-one : (i j : ℤ) → InBits 31 i → InBits 31 j → rank_of i ≡ rank_of j → i ≡ j
@@ -59,11 +59,11 @@ no_value why a e = let z : ◌≡◌ {A = ℕ} 0 1 = cc in omega arith
 module _ {L : Layout} (laws : Lawful L) where
   open L use {width, key_of, entry_in}
 
-  lookup-refused : (t : Table) (id : ℤ) → usable L t ≡ false → lookup_result (lookup_answer L t id) ≡ refused (alone 7)
+  lookup-refused : (t : Table) (id : ℤ) → usable L t ≡ false → lookup_result (lookup_answer L t id) ≡ refused TableUnsound
   unfolding lookup_answer lookup_result
   lookup-refused t id q = rw q
 
-  record-refused : (t : Table) (n : ℕ) → usable L t ≡ false → record_result (record_answer L t n) ≡ refused (alone 7)
+  record-refused : (t : Table) (n : ℕ) → usable L t ≡ false → record_result (record_answer L t n) ≡ refused TableUnsound
   unfolding record_answer entry_result
   record-refused t n q = rw q
 
@@ -88,7 +88,7 @@ module _ {L : Layout} (laws : Lawful L) where
     key_row n l = sym (row-stands laws (row n) (formed n l))
 
     -- a number that is not below the count
-    past : (n : ℕ) → ltb n t.count ≡ false → record_result (record_answer L t n) ≡ refused (alone 14)
+    past : (n : ℕ) → ltb n t.count ≡ false → record_result (record_answer L t n) ≡ refused NumberOver
     unfolding record_answer entry_result
     past n q = rw (u, q)
 
@@ -123,7 +123,7 @@ module _ {L : Layout} (laws : Lawful L) where
               let w : ◌≡◌ {A = Entry} (entry_in (row n)) (entry id r.value r.origin) = cc in
               let e : (entry_in (row n)).id ≡ id = ap (λ (x : Entry). x.id) w in
               found_at key_of [] (rank_of id) n (rows L t) (up L t u) (omega (arith, l, counted)) (key_row n l ∙ ap rank_of e)
-          go false q = absurd (no_value (alone 14) (entry id r.value r.origin) (sym (past n q) ∙ r.read))
+          go false q = absurd (no_value NumberOver (entry id r.value r.origin) (sym (past n q) ∙ r.read))
 
       -- lookup and record read, both ways
       pub at_row : (n : ℕ) → (lookup_result (lookup_answer L t id) ≡ ok (found n) ↔ RecordOf L t n id)
@@ -146,12 +146,12 @@ module _ {L : Layout} (laws : Lawful L) where
 
   -- a table that is not usable is refused by both
   unusable : (t : Table) (id : ℤ) (n : ℕ) → usable L t ≡ false → (lookup_result (lookup_answer L t id) ≡ ok (found n) ↔ RecordOf L t n id)
-  unusable t id n q = (λ e. absurd (no_value (alone 7) (found n) (sym looks ∙ e)), λ r. absurd (no_value (alone 7) (entry id r.value r.origin) (sym reads ∙ r.read)))
+  unusable t id n q = (λ e. absurd (no_value TableUnsound (found n) (sym looks ∙ e)), λ r. absurd (no_value TableUnsound (entry id r.value r.origin) (sym reads ∙ r.read)))
     where
-      looks : lookup_result (lookup_answer L t id) ≡ refused (alone 7)
+      looks : lookup_result (lookup_answer L t id) ≡ refused TableUnsound
       looks = lookup-refused t id q
 
-      reads : record_result (record_answer L t n) ≡ refused (alone 7)
+      reads : record_result (record_answer L t n) ≡ refused TableUnsound
       reads = record-refused t n q
 
   pub lookups : Lookups L

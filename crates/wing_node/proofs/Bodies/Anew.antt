@@ -9,7 +9,7 @@ use lib.Dec.{eqb}
 use lib.ListN.{length, take, drop, length-append, length-drop, drop_of_length-le}
 use lib.Seq.{take-append_seam, drop-append_seam, drop-append-add, take_at, drop_at}
 use borrow.Author.Tests.{eq-eqb, lt-ltb, le-ltb}
-use Rattle.wing_node.specs.Refusal.{no_fault, by_number}
+use Rattle.wing_node.specs.Refusal.{no_fault, because, Fault}
 use Rattle.wing_node.specs.Bool.{if, or}
 use Rattle.wing_node.specs.Result.{Result, ok, refused}
 use Rattle.wing_node.specs.Field.{big, bytes_of}
@@ -24,8 +24,7 @@ use Rattle.wing_node.specs.Written.{laid_by}
 use Rattle.wing_node.specs.Writer.{Lent, lent, type_given, holds, body_given, exact_items, texts, room_fault, fault_of, body_of_fields}
 use Rattle.wing_node.specs.Anew.{fields_by, fields_of, item_bytes, lent_from}
 use Rattle.wing_node.specs.BothWays.{BothWays, Canonical, flags_in, Ends, flags_at, flags_anew, WrittenAnew, gives, Reading}
-use Rattle.wing_node.specs.declared.refusal.Refusal.TheVariants.{Number}
-use Rattle.wing_node.specs.declared.refusal.Fault.{Fault}
+use Rattle.wing_node.specs.declared.refusal.Refusal.TheVariants.{BodyLong, OutputShort}
 use Rattle.wing_node.specs.declared.node_type.NodeType.{NodeType}
 use Rattle.wing_node.specs.declared.node_type.NodeType.TheVariants.{Node, LinearFloat, LogarithmicFloat, FaderLevel, Integer, StringEnum, FloatEnum, String}
 use Rattle.wing_node.specs.declared.definition.Span.{Span}
@@ -417,9 +416,9 @@ module _ (body out : List ℕ) (d : Definition) (reading : Reading body d) where
   long-is : length anew ≡ extent (all_fields body) body
   long-is = anew-length body reading.bytes body-stands
 
-  pub written-long : 4096 < extent (all_fields body) body → gives (body_of_fields (fields_of d) (lent_from body d) out) ≡ refused (Number 2)
+  pub written-long : 4096 < extent (all_fields body) body → gives (body_of_fields (fields_of d) (lent_from body d) out) ≡ refused BodyLong
   unfolding room_fault
-  written-long h = came (by_number 2) (rw (long-is, lt-ltb 4096 (extent (all_fields body) body) h))
+  written-long h = came (because BodyLong) (rw (long-is, lt-ltb 4096 (extent (all_fields body) body) h))
 
   module _ (fits : extent (all_fields body) body ≤ 4096) where
     pub written-anew : extent (all_fields body) body ≤ length out → WrittenAnew body (gives (body_of_fields (fields_of d) (lent_from body d) out))
@@ -434,9 +433,9 @@ module _ (body out : List ℕ) (d : Definition) (reading : Reading body d) where
           rest = anew-rest body reading.bytes body-stands;
         }
 
-    pub written-short : length out < extent (all_fields body) body → gives (body_of_fields (fields_of d) (lent_from body d) out) ≡ refused (Number 9)
+    pub written-short : length out < extent (all_fields body) body → gives (body_of_fields (fields_of d) (lent_from body d) out) ≡ refused OutputShort
     unfolding room_fault
-    written-short h = came (by_number 9) (rw (long-is, le-ltb 4096 (extent (all_fields body) body) fits, lt-ltb (length out) (extent (all_fields body) body) h))
+    written-short h = came (because OutputShort) (rw (long-is, le-ltb 4096 (extent (all_fields body) body) fits, lt-ltb (length out) (extent (all_fields body) body) h))
 
 pub both_ways : BothWays
 both_ways = record { back = written_back; anew = written-anew; long = written-long; short = written-short }

@@ -11,7 +11,7 @@ use lib.ListN.{length, take, drop, length-append, length-drop}
 use lib.Seq.{drop-drop, take-append_seam}
 use borrow.Author.Tests.{eqb-true, le-ltb, ltb-false}
 use Rattle.wing_node.specs.Bool.{if, or}
-use Rattle.wing_node.specs.Refusal.{no_fault, because, by_number, is_refused, first_fault, text_fault}
+use Rattle.wing_node.specs.Refusal.{no_fault, because, is_refused, first_fault, text_fault, Fault}
 use Rattle.wing_node.specs.Result.{Result, ok, refused}
 use Rattle.wing_node.specs.Signed.{signed, unsigned, InBits}
 use Rattle.wing_node.specs.Bytes.{placed}
@@ -28,9 +28,7 @@ use Rattle.wing_node.specs.Parsing.{number_says, step_says, walked, Walking}
 use Rattle.wing_node.specs.Written.{laid_by, numbers_of, kind_of, names_of, front_of, count_of}
 use Rattle.wing_node.specs.Writer.{Lent, type_given, flags_of, limit, holds, body_given, too_long, exact_items, Exactly, field, texts, texts_fault, all_texts_fault, lent_fault, room_fault, fault_of, body_put, body_of_fields}
 use Rattle.wing_node.specs.BothWays.{details_given, values_given, InWidth, item_given, Canonical, flags_in, Ends, ReadsAsGiven, gives}
-use Rattle.wing_node.specs.declared.refusal.Refusal.TheVariants.{DefinitionNotUtf8}
-use Rattle.wing_node.specs.declared.refusal.Fault.{Fault}
-use Rattle.wing_node.specs.declared.refusal.Fault.TheVariants.{None, Refused as Because}
+use Rattle.wing_node.specs.declared.refusal.Refusal.TheVariants.{DefinitionNotUtf8, FieldsUnfit, NameLong}
 use Rattle.wing_node.specs.declared.node_type.NodeType.{NodeType}
 use Rattle.wing_node.specs.declared.node_type.NodeType.TheVariants.{Node, LinearFloat, LogarithmicFloat, FaderLevel, Integer, StringEnum, FloatEnum, String}
 use Rattle.wing_node.specs.declared.writer.Fields.{Fields}
@@ -44,6 +42,7 @@ use Rattle.wing_node.proofs.Bodies.Checks.{exactly-takes}
 use Rattle.wing_node.proofs.Bodies.Faults.{text-passes, texts-cons, texts-parts, texts-none, all_pass}
 use Rattle.wing_node.proofs.Bodies.Standing.{fault_good, Found, find}
 use Rattle.wing_node.proofs.Bodies.Held.{stand-texts}
+use Rattle.std.specs.Prelude.{Ok, Err}
 
 -- fields that take exactly the bytes, and whose strings are UTF-8, stand
 pub exact-stand : (fs : List Field) (s : List ℕ) → extent fs s ≡ length s → texts fs s ≡ true → Stand fs s
@@ -247,12 +246,12 @@ unfolding placed
 front_read b out = take-append_seam b (drop (0 + length b) out)
 
 abbrev pub given_by : Fault → List ℕ → Result (List ℕ)
-given_by None b = ok b
-given_by (Because why) b = refused why
+given_by (Ok u) b = ok b
+given_by (Err why) b = refused why
 
 pub put-gives : (fault : Fault) (b out : List ℕ) → gives (body_put fault b out) ≡ given_by fault b
-put-gives None b out = ap ok (front_read b out)
-put-gives (Because why) b out = refl
+put-gives (Ok u) b out = ap ok (front_read b out)
+put-gives (Err why) b out = refl
 
 pub writer-gives : (d : Fields) (l : Lent) (out : List ℕ) → gives (body_of_fields d l out) ≡ given_by (fault_of d l out) (body_given d l)
 unfolding body_of_fields
@@ -264,8 +263,8 @@ bytes_in (refused why) = []
 
 -- bytes that are given are the body, and nothing was at fault
 given : (fault : Fault) (b body : List ℕ) → given_by fault b ≡ ok body → (fault ≡ no_fault) × (b ≡ body)
-given None b body e = (refl, ap (λ (r : Result (List ℕ)). bytes_in r) e)
-given (Because why) b body e = absurd (let z : ◌≡◌ {A = ℕ} 0 1 = cc in omega arith)
+given (Ok u) b body e = (refl, ap (λ (r : Result (List ℕ)). bytes_in r) e)
+given (Err why) b body e = absurd (let z : ◌≡◌ {A = ℕ} 0 1 = cc in omega arith)
 
 -- what follows from no fault
 pub record Passed (d : Fields) (l : Lent) : Type 0 where
@@ -284,7 +283,7 @@ lent-passed d l e =
     go (too_long l) (ltb 7 d.node_type) (ltb 7 d.unit) exact refl refl refl refl e
   where
     go : (a b c x : Bool) → too_long l ≡ a → ltb 7 d.node_type ≡ b → ltb 7 d.unit ≡ c → exact_items (type_given d) d.count l.items ≡ x →
-        if a (by_number 15) (if (or b (or c (not x))) (by_number 16) (all_texts_fault d l)) ≡ no_fault → Passed d l
+        if a (because NameLong) (if (or b (or c (not x))) (because FieldsUnfit) (all_texts_fault d l)) ≡ no_fault → Passed d l
     go true b c x p q r s e = absurd (true≢false (ap is_refused e))
     go false true c x p q r s e = absurd (true≢false (ap is_refused e))
     go false false true x p q r s e = absurd (true≢false (ap is_refused e))
@@ -311,8 +310,8 @@ pub lent_none : (d : Fields) (l : Lent) (out : List ℕ) → fault_of d l out �
 lent_none d l out e = go (lent_fault d l) e
   where
     go : (x : Fault) → first_fault x (room_fault (body_given d l) out) ≡ no_fault → x ≡ no_fault
-    go None h = refl
-    go (Because why) h = absurd (true≢false (ap is_refused h))
+    go (Ok u) h = refl
+    go (Err why) h = absurd (true≢false (ap is_refused h))
 
 pub written_back : (d : Fields) (l : Lent) (out : List ℕ) → InWidth d → (body : List ℕ) → gives (body_of_fields d l out) ≡ ok body → ReadsAsGiven d l body
 written_back d l out w body e =

@@ -8,10 +8,10 @@ use lib.Dec.{ltb}
 use lib.ListN.{length, take, drop, get_or, length-drop}
 use lib.Seq.{get_or-drop, drop-drop, length-take-le}
 use borrow.Author.Tests.{lt-ltb, le-ltb, eq-eqb, ne_eqb}
-use Rattle.wing_node.specs.Refusal.{no_fault, because, by_number, is_refused}
+use Rattle.wing_node.specs.Refusal.{no_fault, because, is_refused}
 use Rattle.wing_node.specs.Utf8.{good, utf8}
 use Rattle.wing_node.specs.Cursor.{Field, string, size, content, held_fault, right, fault, value_of, content_at, stopped, cursor, from, field_read, nothing, read_at}
-use Rattle.wing_node.specs.declared.refusal.Refusal.TheVariants.{DefinitionNotUtf8}
+use Rattle.wing_node.specs.declared.refusal.Refusal.TheVariants.{DefinitionNotUtf8, DefinitionShort}
 use Rattle.wing_node.specs.declared.cursor.Cursor.{Cursor}
 use Rattle.wing_node.proofs.Characters.Grammar.{good-le}
 
@@ -24,7 +24,7 @@ module _ (f : Field) (body : List ℕ) (c : Cursor) where
   read-refused h = rw h
 
   module _ (not-refused : is_refused c.fault ≡ false) where
-    pub read_short : length body - c.at < size f (from body c) → read_at f body c ≡ nothing (stopped c (by_number 4))
+    pub read_short : length body - c.at < size f (from body c) → read_at f body c ≡ nothing (stopped c (because DefinitionShort))
     unfolding read_at fault
     read_short h = rw (not-refused, length-drop, lt-ltb _ _ h)
 
@@ -35,7 +35,7 @@ module _ (f : Field) (body : List ℕ) (c : Cursor) where
 
 -- a string, by its length byte in the body
 module _ (body : List ℕ) (c : Cursor) (not-refused : is_refused c.fault ≡ false) where
-  pub string-short : length body - c.at < 1 + get_or body c.at 0 → read_at string body c ≡ nothing (stopped c (by_number 4))
+  pub string-short : length body - c.at < 1 + get_or body c.at 0 → read_at string body c ≡ nothing (stopped c (because DefinitionShort))
   unfolding size
   string-short h = read_short string body c not-refused (rw first_byte h)
 

@@ -12,19 +12,19 @@ use lib.Seq.{drop-drop}
 use borrow.Author.Tests.{eq-eqb, eqb-true, ne_eqb, le-ltb}
 use Rattle.wing_node.specs.Bool.{if, and, or}
 use Rattle.wing_node.specs.Utf8.{utf8, good_from, good, Decides}
-use Rattle.wing_node.specs.Refusal.{definition_not_utf8, no_fault, because, by_number, first_fault, text_fault}
+use Rattle.wing_node.specs.Refusal.{definition_not_utf8, no_fault, because, first_fault, text_fault, Fault}
 use Rattle.wing_node.specs.Types.{type_of, has_items}
 use Rattle.wing_node.specs.Cursor.{Field, number, string, size, content, right, held_fault}
 use Rattle.wing_node.specs.Standing.{extent}
 use Rattle.wing_node.specs.Definition.{times, item_of, items_of}
 use Rattle.wing_node.specs.Writer.{Lent, type_given, exact_items, Exactly, end, field, ExactItems, unfit, texts_fault, lent_fault}
-use Rattle.wing_node.specs.declared.refusal.Fault.{Fault}
 use Rattle.wing_node.specs.declared.node_type.NodeType.{NodeType}
 use Rattle.wing_node.specs.declared.writer.Fields.{Fields}
 use Rattle.wing_node.proofs.Branches.{and_left, and_right}
 use Rattle.wing_node.proofs.Bodies.Cases.{first_byte}
 use Rattle.wing_node.proofs.Bodies.Standing.{extent-parts}
 use Rattle.wing_node.proofs.Bodies.Faults.{first-assoc, first-none, texts-parts}
+use Rattle.wing_node.specs.declared.refusal.Refusal.TheVariants.{FieldsUnfit}
 
 pub and-true : (b : Bool) → b ≡ and b true
 and-true true = refl
@@ -124,23 +124,23 @@ module _ (type unit count : ℕ) (items : List ℕ) (names : Fault) (fits : type
   strings = first_fault names (texts_fault (items_of t count) items)
 
   abbrev fault : Fault
-  fault = if (unfit type unit count items) (by_number 16) strings
+  fault = if (unfit type unit count items) (because FieldsUnfit) strings
 
   abbrev bytes : Bool
   bytes = eqb (extent (items_of t count) items) (length items)
 
-  by-exact : (b : Bool) → exact_items t count items ≡ b → if b strings (by_number 16) ≡ fault
-  by-exact b e = sym (rw (le-ltb 7 type fits, le-ltb 7 unit suits, e) (sym (if-not b _ (by_number 16))))
+  by-exact : (b : Bool) → exact_items t count items ≡ b → if b strings (because FieldsUnfit) ≡ fault
+  by-exact b e = sym (rw (le-ltb 7 type fits, le-ltb 7 unit suits, e) (sym (if-not b _ (because FieldsUnfit))))
 
-  pub with_items : has_items t ≡ true → if bytes strings (by_number 16) ≡ fault
+  pub with_items : has_items t ≡ true → if bytes strings (because FieldsUnfit) ≡ fault
   unfolding exact_items
   with_items h = by-exact bytes (rw h (sym (and-true bytes)))
 
-  pub with-count : has_items t ≡ false → 0 < count → by_number 16 ≡ fault
+  pub with-count : has_items t ≡ false → 0 < count → because FieldsUnfit ≡ fault
   unfolding exact_items
   with-count h p = by-exact false (rw (h, ne_eqb count 0 (λ z. omega arith)) (and-false bytes))
 
-  pub with-bytes : count ≤ 0 → 0 < length items → by_number 16 ≡ fault
+  pub with-bytes : count ≤ 0 → 0 < length items → because FieldsUnfit ≡ fault
   unfolding exact_items
   with-bytes z p = by-exact false (rw (ne_eqb (extent (items_of t count) items) (length items) (λ e. omega (arith, no-extent t count items z))))
 
@@ -153,7 +153,7 @@ module _ (type unit count : ℕ) (items : List ℕ) (names : Fault) (fits : type
 
 -- what is lent, with names of at most 255 bytes, by the fault of the fields after that of the names
 pub lent-names : (d : Fields) (l : Lent) → length l.name ≤ 255 → length l.long_name ≤ 255 →
-    if (unfit d.node_type d.unit d.count l.items) (by_number 16)
+    if (unfit d.node_type d.unit d.count l.items) (because FieldsUnfit)
     (first_fault (first_fault (text_fault l.name) (text_fault l.long_name)) (texts_fault (items_of (type_given d) d.count) l.items)) ≡ lent_fault d l
 unfolding lent_fault
 lent-names d l fits suits =

@@ -7,26 +7,25 @@ use lib.ListN.{drop}
 use lib.Seq.{drop-drop}
 use Rattle.wing_node.specs.Bool.{if, and}
 use Rattle.wing_node.specs.Utf8.{utf8}
-use Rattle.wing_node.specs.Refusal.{definition_not_utf8, no_fault, because, is_refused, first_fault, text_fault}
+use Rattle.wing_node.specs.Refusal.{definition_not_utf8, no_fault, because, is_refused, first_fault, text_fault, Fault}
 use Rattle.wing_node.specs.Cursor.{Field, size, content, right, held_fault}
 use Rattle.wing_node.specs.Standing.{extent, beyond}
 use Rattle.wing_node.specs.Writer.{texts, texts_fault}
 use Rattle.wing_node.specs.declared.refusal.Refusal.{Refusal}
-use Rattle.wing_node.specs.declared.refusal.Fault.{Fault}
-use Rattle.wing_node.specs.declared.refusal.Fault.TheVariants.{None, Refused}
+use Rattle.std.specs.Prelude.{Ok, Err}
 
 pub first-assoc : (a b c : Fault) → first_fault (first_fault a b) c ≡ first_fault a (first_fault b c)
-first-assoc None b c = refl
-first-assoc (Refused why) b c = refl
+first-assoc (Ok u) b c = refl
+first-assoc (Err why) b c = refl
 
 pub first-none : (a : Fault) → first_fault a no_fault ≡ a
-first-none None = refl
-first-none (Refused why) = refl
+first-none (Ok u) = refl
+first-none (Err why) = refl
 
 -- none of two is at fault
 first_passes : (a b : Fault) → not (is_refused (first_fault a b)) ≡ and (not (is_refused a)) (not (is_refused b))
-first_passes None b = refl
-first_passes (Refused why) b = refl
+first_passes (Ok u) b = refl
+first_passes (Err why) b = refl
 
 chosen : (b : Bool) (why : Refusal) → not (is_refused (if b no_fault (because why))) ≡ b
 chosen true why = refl
@@ -55,11 +54,11 @@ pub texts-none : (fs : List Field) (s : List ℕ) → texts fs s ≡ true → te
 texts-none fs s e = go (texts_fault fs s) e
   where
     go : (x : Fault) → not (is_refused x) ≡ true → x ≡ no_fault
-    go None h = refl
-    go (Refused why) h = absurd (true≢false (sym h))
+    go (Ok u) h = refl
+    go (Err why) h = absurd (true≢false (sym h))
 
 -- all of three passes
 pub all_pass : (a b c : Fault) → first_fault a (first_fault b c) ≡ no_fault → (a ≡ no_fault) × (b ≡ no_fault) × (c ≡ no_fault)
-all_pass None None c e = (refl, refl, e)
-all_pass None (Refused why) c e = absurd (true≢false (ap is_refused e))
-all_pass (Refused why) b c e = absurd (true≢false (ap is_refused e))
+all_pass (Ok u) (Ok v) c e = (refl, refl, e)
+all_pass (Ok u) (Err why) c e = absurd (true≢false (ap is_refused e))
+all_pass (Err why) b c e = absurd (true≢false (ap is_refused e))

@@ -12,7 +12,7 @@ use Rattle.wing_node.specs.Bool.{if, or}
 use Rattle.wing_node.specs.Bytes.{placed}
 use Rattle.wing_node.specs.Signed.{unsigned}
 use Rattle.wing_node.specs.Utf8.{utf8, good_from, good}
-use Rattle.wing_node.specs.Refusal.{no_fault, because, by_number, is_refused}
+use Rattle.wing_node.specs.Refusal.{no_fault, because, is_refused}
 use Rattle.wing_node.specs.Cursor.{size}
 use Rattle.wing_node.specs.Standing.{extent}
 use Rattle.wing_node.specs.Laid.{laid, laid_all, Fits, FitsAll, empty, more}
@@ -20,14 +20,14 @@ use Rattle.wing_node.specs.Definition.{FieldName, ParentId, Id, Index, Name, Lon
 use Rattle.wing_node.specs.Written.{laid_by}
 use Rattle.wing_node.specs.Writer.{Lent, lent, type_given, flags_of, limit, holds, body_given, unfit, all_texts_fault, lent_fault, room_fault, body_effect, body_of_fields}
 use Rattle.wing_node.specs.declared.refusal.Refusal.{Refusal}
-use Rattle.wing_node.specs.declared.refusal.Refusal.TheVariants.{Number}
+use Rattle.wing_node.specs.declared.refusal.Refusal.TheVariants.{FieldsUnfit, NameLong, BodyLong, OutputShort}
 use Rattle.wing_node.specs.declared.node_type.NodeType.{NodeType}
 use Rattle.wing_node.specs.declared.node_type.NodeType.TheVariants.{Node, LinearFloat, LogarithmicFloat, FaderLevel, Integer, StringEnum, FloatEnum, String}
 use Rattle.wing_node.specs.declared.writer.Fields.{Fields}
-use Rattle.wing_node.specs.declared.writer.BodyWritten.TheVariants.{Bytes, Refused}
 use Rattle.wing_node.proofs.Numerals.Numbers.{length-digits_in}
 use Rattle.wing_node.proofs.Bodies.Laid.{laid-extent}
 use Rattle.wing_node.proofs.Bodies.Lays.{lays-then, sets-placed, laid-parts}
+use Rattle.std.specs.Prelude.{Ok, Err}
 
 -- each field fits its form, where the names are UTF-8
 pub holds_fits : (d : Fields) (l : Lent) → utf8 l.name ≡ true → utf8 l.long_name ≡ true → (k : FieldName) → Fits (form k) (holds d l k)
@@ -130,7 +130,7 @@ module _ (d : Fields) (l : Lent) where
 
 -- what the call leaves, case by case
 module _ (d : Fields) (l : Lent) (out : List ℕ) where
-  pub effect-refused : (why : Refusal) → because why ≡ lent_fault d l → body_effect (Refused why) out ≡ body_of_fields d l out
+  pub effect-refused : (why : Refusal) → because why ≡ lent_fault d l → body_effect (Err why) out ≡ body_of_fields d l out
   unfolding body_of_fields
   effect-refused why e = rw (← e)
 
@@ -140,20 +140,20 @@ module _ (d : Fields) (l : Lent) (out : List ℕ) where
     names-short = go (ltb 255 (length l.name)) (ltb 255 (length l.long_name)) refl refl none
       where
         go : (a b : Bool) → ltb 255 (length l.name) ≡ a → ltb 255 (length l.long_name) ≡ b →
-            no_fault ≡ if (or a b) (by_number 15) (if (unfit d.node_type d.unit d.count l.items) (by_number 16) (all_texts_fault d l)) → (length l.name ≤ 255) × (length l.long_name ≤ 255)
+            no_fault ≡ if (or a b) (because NameLong) (if (unfit d.node_type d.unit d.count l.items) (because FieldsUnfit) (all_texts_fault d l)) → (length l.name ≤ 255) × (length l.long_name ≤ 255)
         go true b p q h = absurd (true≢false (sym (ap is_refused h)))
         go false true p q h = absurd (true≢false (sym (ap is_refused h)))
         go false false p q h = (ltb-false _ _ p, ltb-false _ _ q)
 
-    pub effect-large : 4096 < length (body_given d l) → body_effect (Refused (Number 2)) out ≡ body_of_fields d l out
+    pub effect-large : 4096 < length (body_given d l) → body_effect (Err BodyLong) out ≡ body_of_fields d l out
     unfolding body_of_fields room_fault
     effect-large h = simp (← none, lt-ltb 4096 (length (body_given d l)) h)
 
-    pub effect-short : length (body_given d l) ≤ 4096 → length out < length (body_given d l) → body_effect (Refused (Number 9)) out ≡ body_of_fields d l out
+    pub effect-short : length (body_given d l) ≤ 4096 → length out < length (body_given d l) → body_effect (Err OutputShort) out ≡ body_of_fields d l out
     unfolding body_of_fields room_fault
     effect-short h k = simp (← none, le-ltb 4096 (length (body_given d l)) h, lt-ltb (length out) (length (body_given d l)) k)
 
     pub effect-written : length (body_given d l) ≤ 4096 → length (body_given d l) ≤ length out →
-        body_effect (Bytes (length (body_given d l))) (placed out 0 (body_given d l)) ≡ body_of_fields d l out
+        body_effect (Ok (length (body_given d l))) (placed out 0 (body_given d l)) ≡ body_of_fields d l out
     unfolding body_of_fields room_fault
     effect-written h k = simp (← none, le-ltb 4096 (length (body_given d l)) h, le-ltb (length out) (length (body_given d l)) k)

@@ -8,7 +8,7 @@ use lib.Dec.{eqb}
 use lib.ListN.{drop, get_or}
 use lib.Seq.{drop-drop}
 use borrow.Author.Tests.{eqb-true}
-use Rattle.wing_node.specs.Refusal.{no_fault, is_refused}
+use Rattle.wing_node.specs.Refusal.{no_fault, is_refused, Fault}
 use Rattle.wing_node.specs.Bool.{if}
 use Rattle.wing_node.specs.Types.{type_of}
 use Rattle.wing_node.specs.Cursor.{Field, string, size, content, value_of, content_at, cursor, start, field_read, reads, after}
@@ -16,13 +16,12 @@ use Rattle.wing_node.specs.Definition.{FieldName, ParentId, Id, Index, Name, Lon
 use Rattle.wing_node.specs.Standing.{extent, beyond, Stand, more}
 use Rattle.wing_node.specs.Answers.{bytes_at}
 use Rattle.wing_node.specs.InBody.{number_named, bytes_named, type_in, count_in, all_fields}
-use Rattle.wing_node.specs.declared.refusal.Fault.{Fault}
-use Rattle.wing_node.specs.declared.refusal.Fault.TheVariants.{None, Refused}
 use Rattle.wing_node.specs.declared.cursor.Cursor.{Cursor}
 use Rattle.wing_node.specs.declared.cursor.FieldRead.{FieldRead}
 use Rattle.wing_node.specs.declared.node_type.NodeType.{NodeType}
 use Rattle.wing_node.proofs.Bodies.Fields.{after-append, after-refused}
 use Rattle.wing_node.proofs.Bodies.Standing.{one-read, onward, passes, stands}
+use Rattle.std.specs.Prelude.{Ok, Err}
 
 -- a name by its number
 known : ℕ → FieldName
@@ -101,8 +100,8 @@ pub follow : (fs gs gs' : List Field) (body : List ℕ) (c : Cursor) →
 follow fs gs gs' body c h = after-append fs gs body c ∙ go (after fs body c).fault refl ∙ sym (after-append fs gs' body c)
   where
     go : (x : Fault) → (after fs body c).fault ≡ x → after gs body (after fs body c) ≡ after gs' body (after fs body c)
-    go None e = h e
-    go (Refused why) e = after-refused gs body (after fs body c) (ap is_refused e) ∙ sym (after-refused gs' body (after fs body c) (ap is_refused e))
+    go (Ok u) e = h e
+    go (Err why) e = after-refused gs body (after fs body c) (ap is_refused e) ∙ sym (after-refused gs' body (after fs body c) (ap is_refused e))
 
 -- the cursor after the header, where it stands
 pub past-header : (body : List ℕ) → Stand (map form header) body → past header body start ≡ cursor (extent (map form header) body) no_fault

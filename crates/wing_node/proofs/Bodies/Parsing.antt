@@ -5,7 +5,7 @@ use mathlib.Core.Logic.{◌↔◌}
 use mathlib.Core.List.{List, ◌++◌, map}
 use Prim.Native.Nat.{ℕ}
 use native.Mathlib.Omega.{arith}
-use Rattle.wing_node.specs.Refusal.{no_fault, because, is_refused}
+use Rattle.wing_node.specs.Refusal.{no_fault, because, is_refused, Fault}
 use Rattle.wing_node.specs.Result.{ok, refused}
 use Rattle.wing_node.specs.Cursor.{cursor, start, after}
 use Rattle.wing_node.specs.Definition.{FieldName, ParentId, Id, Index, Name, LongName, Flags, Min, Max, Steps, Count, MaxLen, form, named, past, header, added, items_of, kind_from, details_from, details_at, definition_from, parsed_from, definition_of}
@@ -14,28 +14,26 @@ use Rattle.wing_node.specs.Answers.{DefinitionValues, values_of, parsed_result, 
 use Rattle.wing_node.specs.InBody.{number_named, bytes_named, type_in, names_in, count_in, all_fields, first_in, definition_in}
 use Rattle.wing_node.specs.Parsing.{parser_says, Takes, Parsing}
 use Rattle.wing_node.specs.declared.refusal.Refusal.{Refusal}
-use Rattle.wing_node.specs.declared.refusal.Refusal.TheVariants.{Number, DefinitionNotUtf8}
-use Rattle.wing_node.specs.declared.refusal.Fault.{Fault}
-use Rattle.wing_node.specs.declared.refusal.Fault.TheVariants.{None, Refused as Because}
+use Rattle.wing_node.specs.declared.refusal.Refusal.TheVariants.{DefinitionNotUtf8, DefinitionShort}
 use Rattle.wing_node.specs.declared.cursor.Cursor.{Cursor}
 use Rattle.wing_node.specs.declared.cursor.FieldRead.{FieldRead}
 use Rattle.wing_node.specs.declared.node_type.NodeType.{NodeType}
 use Rattle.wing_node.specs.declared.node_type.NodeType.TheVariants.{Node, LinearFloat, LogarithmicFloat, FaderLevel, Integer, StringEnum, FloatEnum, String}
 use Rattle.wing_node.specs.declared.definition.Definition.{Definition}
-use Rattle.wing_node.specs.declared.definition.Parsed.TheVariants.{Good}
 use Rattle.wing_node.proofs.Refusals.{reason, reason_of}
 use Rattle.wing_node.proofs.Bodies.Standing.{passes, stands, ends-past, ends-wrong, ends_so, stand-parts, extent-parts}
 use Rattle.wing_node.proofs.Bodies.InBody.{has, named-number, named-bytes, number-later, past-header, same-type, end_of, same_end}
+use Rattle.std.specs.Prelude.{Ok, Err}
 
 -- the reason of a fault is that of the refusal
 module _ (body : List ℕ) (d : Definition) where
   refused-with : (x : Fault) (why : Refusal) → (parsed_result body (parsed_from x d) ≡ refused why) ↔ (x ≡ because why)
-  refused-with None why = (λ e. absurd (let z : ◌≡◌ {A = ℕ} 0 1 = cc in omega arith), λ e. absurd (true≢false (sym (ap is_refused e))))
-  refused-with (Because other) why = (λ e. ap because (ap (reason other) e), λ e. ap refused (ap (reason_of other) e))
+  refused-with (Ok u) why = (λ e. absurd (let z : ◌≡◌ {A = ℕ} 0 1 = cc in omega arith), λ e. absurd (true≢false (sym (ap is_refused e))))
+  refused-with (Err other) why = (λ e. ap because (ap (reason other) e), λ e. ap refused (ap (reason_of other) e))
 
   good-with : (x : Fault) (v : DefinitionValues) → parsed_result body (parsed_from x d) ≡ ok v → x ≡ no_fault
-  good-with None v h = refl
-  good-with (Because why) v h = absurd (let z : ◌≡◌ {A = ℕ} 0 1 = cc in omega arith)
+  good-with (Ok u) v h = refl
+  good-with (Err why) v h = absurd (let z : ◌≡◌ {A = ℕ} 0 1 = cc in omega arith)
 
 -- what a type adds, by the numbers of its fields
 same-details : (t : NodeType) (f : FieldName → FieldRead) (v : FieldName → ℕ) (first : ℕ) → ((k : FieldName) → has header k ≡ false → (f k).value ≡ v k) →
@@ -63,7 +61,7 @@ module _ (body : List ℕ) where
   unfolding definition_of
   parsed = ap (λ (c : Cursor). parsed_from c.fault found) (sym (end_of body) ∙ same_end body)
 
-  pub parsed-good : Stand (all_fields body) body → definition_of body ≡ Good found
+  pub parsed-good : Stand (all_fields body) body → definition_of body ≡ Ok found
   parsed-good h = parsed ∙ ap (λ x. parsed_from x found) ((stands (all_fields body) body 0).1 h)
 
   -- the header and what the type adds stand, if all fields do
@@ -116,7 +114,7 @@ module _ (body : List ℕ) where
       let from : (why : Refusal) → parser_says body ≡ refused why → end ≡ because why = λ why e. (refused-with body found end why).0 (sym says ∙ e) in
       let to : (why : Refusal) → end ≡ because why → parser_says body ≡ refused why = λ why e. says ∙ (refused-with body found end why).1 e in
       record {
-        past_end = (λ e. (ends-past (all_fields body) body 0).0 (from (Number 4) e), λ h. to (Number 4) ((ends-past (all_fields body) body 0).1 h));
+        past_end = (λ e. (ends-past (all_fields body) body 0).0 (from DefinitionShort e), λ h. to DefinitionShort ((ends-past (all_fields body) body 0).1 h));
         not_utf8 = λ g. (λ e. (ends-wrong (all_fields body) body 0 g).0 (from (DefinitionNotUtf8 g) e), λ h. to (DefinitionNotUtf8 g) ((ends-wrong (all_fields body) body 0 g).1 h));
         others = λ why e. ends_so (all_fields body) body 0 why (from why e);
         taken = taken;

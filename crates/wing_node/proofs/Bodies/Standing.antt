@@ -10,29 +10,28 @@ use lib.ListN.{length, drop, length-drop}
 use lib.Seq.{drop-drop}
 use borrow.Author.Tests.{le-ltb, ltb-true, ltb-false}
 use Rattle.wing_node.specs.Utf8.{good}
-use Rattle.wing_node.specs.Refusal.{refusal_number, good_beside, no_fault, because, by_number, is_refused}
+use Rattle.wing_node.specs.Refusal.{refusal_number, good_beside, no_fault, because, is_refused, Fault}
 use Rattle.wing_node.specs.Bool.{if}
 use Rattle.wing_node.specs.Cursor.{Field, size, content, held_fault, right, fault, value_of, content_at, cursor, from, field_read, read_at, after}
 use Rattle.wing_node.specs.Definition.{times}
 use Rattle.wing_node.specs.Standing.{Whole, PastEnd, NotUtf8, extent, beyond, Stand, empty, more, StopsAt}
 use Rattle.wing_node.specs.Parsing.{FourOrFive}
 use Rattle.wing_node.specs.declared.refusal.Refusal.{Refusal}
-use Rattle.wing_node.specs.declared.refusal.Refusal.TheVariants.{Number, DefinitionNotUtf8}
-use Rattle.wing_node.specs.declared.refusal.Fault.{Fault}
-use Rattle.wing_node.specs.declared.refusal.Fault.TheVariants.{None, Refused}
+use Rattle.wing_node.specs.declared.refusal.Refusal.TheVariants.{DefinitionNotUtf8, DefinitionShort}
 use Rattle.wing_node.specs.declared.cursor.Cursor.{Cursor}
 use Rattle.wing_node.proofs.Refusals.{reason_of}
 use Rattle.wing_node.proofs.Bodies.Cases.{read-there}
 use Rattle.wing_node.proofs.Bodies.Fields.{after-append, after-refused}
+use Rattle.std.specs.Prelude.{Ok, Err}
 
 -- a fault apart from the others: its number, its good
 abbrev fault_number : Fault → ℕ
-fault_number None = 0
-fault_number (Refused why) = refusal_number why
+fault_number (Ok u) = 0
+fault_number (Err why) = refusal_number why
 
 abbrev pub fault_good : Fault → ℕ
-fault_good None = 0
-fault_good (Refused why) = good_beside why
+fault_good (Ok u) = 0
+fault_good (Err why) = good_beside why
 
 -- a field that stands is read, and the cursor goes past it
 pub one-read : (f : Field) (body : List ℕ) (at : ℕ) → Whole f (drop at body) → right f (drop at body) ≡ true →
@@ -76,11 +75,11 @@ module _ (Fails : Field → List ℕ → Type 0) (why : Refusal) (reason : (f : 
       after-refused h.others body (read_at h.next body (cursor here no_fault)).next (ap is_refused r) in
       rw (h.row, after-append, past, end) r
 
-pub past_end : (f : Field) (s : List ℕ) → PastEnd f s → fault f s ≡ by_number 4
+pub past_end : (f : Field) (s : List ℕ) → PastEnd f s → fault f s ≡ because DefinitionShort
 unfolding fault
 past_end f s h = go (ltb (length s) (size f s)) refl
   where
-    go : (b : Bool) → ltb (length s) (size f s) ≡ b → if b (by_number 4) (held_fault f s) ≡ by_number 4
+    go : (b : Bool) → ltb (length s) (size f s) ≡ b → if b (because DefinitionShort) (held_fault f s) ≡ because DefinitionShort
     go true e = refl
     go false e = absurd (h (ltb-false _ _ e))
 
@@ -133,8 +132,8 @@ module _ (fs : List Field) (body : List ℕ) (at : ℕ) where
   all : Stand fs (drop at body) → came ≡ no_fault
   all h = ap (λ (c : Cursor). c.fault) (passes fs body at h)
 
-  short-stops : StopsAt PastEnd fs (drop at body) → came ≡ by_number 4
-  short-stops = stops PastEnd (Number 4) past_end fs body at
+  short-stops : StopsAt PastEnd fs (drop at body) → came ≡ because DefinitionShort
+  short-stops = stops PastEnd DefinitionShort past_end fs body at
 
   wrong-stops : (g : ℕ) → StopsAt (NotUtf8 g) fs (drop at body) → came ≡ because (DefinitionNotUtf8 g)
   wrong-stops g = stops (NotUtf8 g) (DefinitionNotUtf8 g) (not_utf8 g) fs body at
@@ -147,10 +146,10 @@ module _ (fs : List Field) (body : List ℕ) (at : ℕ) where
       go e (inr (inl h)) = absurd (true≢false (ap is_refused (sym (short-stops h) ∙ e)))
       go e (inr (inr (g, h))) = absurd (true≢false (ap is_refused (sym (wrong-stops g h) ∙ e)))
 
-  pub ends-past : (came ≡ by_number 4) ↔ StopsAt PastEnd fs (drop at body)
+  pub ends-past : (came ≡ because DefinitionShort) ↔ StopsAt PastEnd fs (drop at body)
   ends-past = (λ e. go e (find fs (drop at body)), short-stops)
     where
-      go : came ≡ by_number 4 → Found fs (drop at body) → StopsAt PastEnd fs (drop at body)
+      go : came ≡ because DefinitionShort → Found fs (drop at body) → StopsAt PastEnd fs (drop at body)
       go e (inl h) = absurd (true≢false (ap is_refused (sym e ∙ all h)))
       go e (inr (inl h)) = h
       go e (inr (inr (g, h))) = absurd (let z : ◌≡◌ {A = ℕ} 5 4 = ap fault_number (sym (wrong-stops g h) ∙ e) in omega arith)
@@ -171,7 +170,7 @@ module _ (fs : List Field) (body : List ℕ) (at : ℕ) where
 
       go : Found fs (drop at body) → FourOrFive why
       go (inl h) = absurd (true≢false (ap is_refused (sym e ∙ all h)))
-      go (inr (inl h)) = inl (same (Number 4) (short-stops h))
+      go (inr (inl h)) = inl (same DefinitionShort (short-stops h))
       go (inr (inr (g, h))) = let s = same (DefinitionNotUtf8 g) (wrong-stops g h) in inr (rw s)
 
 -- a row in two parts

@@ -9,7 +9,7 @@ use lib.Dec.{eqb}
 use lib.ListN.{drop}
 use lib.Seq.{drop-drop}
 use borrow.Author.Tests.{eq-eqb, ne_eqb}
-use Rattle.wing_node.specs.Refusal.{no_fault, because}
+use Rattle.wing_node.specs.Refusal.{no_fault, because, Fault}
 use Rattle.wing_node.specs.Bool.{if}
 use Rattle.wing_node.specs.Result.{Result, ok, refused}
 use Rattle.wing_node.specs.Types.{has_items}
@@ -21,18 +21,16 @@ use Rattle.wing_node.specs.Answers.{bytes_at, ItemValues, none as no_item, strin
 use Rattle.wing_node.specs.InBody.{item_in}
 use Rattle.wing_node.specs.Parsing.{step_of, step_says, Left, IsItem, Stepping}
 use Rattle.wing_node.specs.declared.refusal.Refusal.{Refusal}
-use Rattle.wing_node.specs.declared.refusal.Refusal.TheVariants.{Number, DefinitionNotUtf8}
-use Rattle.wing_node.specs.declared.refusal.Fault.{Fault}
-use Rattle.wing_node.specs.declared.refusal.Fault.TheVariants.{None as no_fault_met, Refused as Because}
+use Rattle.wing_node.specs.declared.refusal.Refusal.TheVariants.{DefinitionNotUtf8, DefinitionShort}
 use Rattle.wing_node.specs.declared.node_type.NodeType.{NodeType}
 use Rattle.wing_node.specs.declared.node_type.NodeType.TheVariants.{Node, LinearFloat, LogarithmicFloat, FaderLevel, Integer, StringEnum, FloatEnum, String}
 use Rattle.wing_node.specs.declared.definition.Item.{Item}
-use Rattle.wing_node.specs.declared.definition.Item.TheVariants.{None, Refused}
 use Rattle.wing_node.specs.declared.items.Walk.{Walk}
 use Rattle.wing_node.specs.declared.items.Step.{Step}
 use Rattle.wing_node.proofs.Bodies.Standing.{one-read, onward, passes, stands, ends-past, ends-wrong, ends_so}
 use Rattle.wing_node.proofs.Bodies.InBody.{string_bytes}
 use Rattle.wing_node.proofs.Refusals.{reason}
+use Rattle.std.specs.Prelude.{Ok, Err, Option, None}
 
 -- the two fields of an item: what the second holds stands after the first
 alone : (f : Field) (s : List ℕ) → Stand (f ∷ []) s → Whole f s × (right f s ≡ true)
@@ -49,7 +47,7 @@ second-bytes f body at (more w r h) =
 
 -- an item that stands says what its fields hold
 pub item-said : (t : NodeType) (body : List ℕ) (at : ℕ) → Stand (item_of t) (drop at body) →
-    item_result body (item_from t (reads (item_of t) body (cursor at no_fault))) ≡ ok (item_in t (drop at body))
+    item_result body (Ok (item_from t (reads (item_of t) body (cursor at no_fault)))) ≡ ok (item_in t (drop at body))
 unfolding reads
 item-said Node body at h = refl
 item-said LinearFloat body at h = refl
@@ -65,7 +63,7 @@ item-said FloatEnum body at (more w r h) =
 item-said String body at h = refl
 
 -- a type with items gives one
-is-item : (t : NodeType) (body : List ℕ) (at : ℕ) → has_items t ≡ true → IsItem (item_result body (item_from t (reads (item_of t) body (cursor at no_fault))))
+is-item : (t : NodeType) (body : List ℕ) (at : ℕ) → has_items t ≡ true → IsItem (item_result body (Ok (item_from t (reads (item_of t) body (cursor at no_fault)))))
 is-item Node body at h = absurd (let z : ◌≡◌ {A = ℕ} 0 1 = cc in omega arith)
 is-item LinearFloat body at h = absurd (let z : ◌≡◌ {A = ℕ} 0 1 = cc in omega arith)
 is-item LogarithmicFloat body at h = absurd (let z : ◌≡◌ {A = ℕ} 0 1 = cc in omega arith)
@@ -95,7 +93,7 @@ module _ (body : List ℕ) (w : Walk) where
   abbrev came : Fault
   came = (after (item_of w.kind) body (cursor w.at no_fault)).fault
 
-  abbrev read : Item
+  abbrev read : Option Item
   read = item_from w.kind (reads (item_of w.kind) body (cursor w.at no_fault))
 
   abbrev Ended : Type 0
@@ -107,7 +105,7 @@ module _ (body : List ℕ) (w : Walk) where
   none_left (suc n) false e h = inl (inr h)
   none_left (suc n) true e h = inr (λ z. omega arith, h)
 
-  ended : Ended → step_of body w ≡ stayed None w.at w.left w.kind
+  ended : Ended → step_of body w ≡ stayed (Ok None) w.at w.left w.kind
   unfolding step_at
   ended (inl e) = simp (eq-eqb _ _ e)
   ended (inr h) = simp h (same (eqb w.left 0) _)
@@ -116,11 +114,11 @@ module _ (body : List ℕ) (w : Walk) where
       same true x = refl
       same false x = refl
 
-  stopped : (why : Refusal) → Left w → came ≡ because why → step_of body w ≡ stayed (Refused why) w.at w.left w.kind
+  stopped : (why : Refusal) → Left w → came ≡ because why → step_of body w ≡ stayed (Err why) w.at w.left w.kind
   unfolding step_at item_at
   stopped why l e = simp (ne_eqb _ _ l.0, l.1, e)
 
-  pub moves : Left w → Stand (item_of w.kind) there → step_of body w ≡ stayed read (w.at + extent (item_of w.kind) there) (w.left - 1) w.kind
+  pub moves : Left w → Stand (item_of w.kind) there → step_of body w ≡ stayed (Ok read) (w.at + extent (item_of w.kind) there) (w.left - 1) w.kind
   unfolding step_at item_at
   moves l h = simp (ne_eqb _ _ l.0, l.1, passes (item_of w.kind) body w.at h)
 
@@ -129,22 +127,22 @@ module _ (body : List ℕ) (w : Walk) where
 
   -- what a step comes to
   data Outcome : Type 0 where
-    nothing : Ended → step_of body w ≡ stayed None w.at w.left w.kind → Outcome
+    nothing : Ended → step_of body w ≡ stayed (Ok None) w.at w.left w.kind → Outcome
     item : Left w → Stand (item_of w.kind) there → IsItem (step_says body w) → Outcome
-    stop : (why : Refusal) → Left w → came ≡ because why → step_of body w ≡ stayed (Refused why) w.at w.left w.kind → Outcome
+    stop : (why : Refusal) → Left w → came ≡ because why → step_of body w ≡ stayed (Err why) w.at w.left w.kind → Outcome
 
   outcome : Outcome
   outcome = go (none_left w.left (has_items w.kind) refl refl) came refl
     where
       go : Ended ⊎ Left w → (x : Fault) → came ≡ x → Outcome
       go (inl e) x c = nothing e (ended e)
-      go (inr l) no_fault_met c = let h = (stands (item_of w.kind) body w.at).0 c in item l h (gives-item l h)
-      go (inr l) (Because why) c = stop why l c (stopped why l c)
+      go (inr l) (Ok u) c = let h = (stands (item_of w.kind) body w.at).0 c in item l h (gives-item l h)
+      go (inr l) (Err why) c = stop why l c (stopped why l c)
 
   abbrev marked : ℕ
   marked = mark (step_says body w)
 
-  mark-by : (x : Item) (at left : ℕ) (kind : NodeType) → step_of body w ≡ stayed x at left kind → marked ≡ mark (item_result body x)
+  mark-by : (x : Result (Option Item)) (at left : ℕ) (kind : NodeType) → step_of body w ≡ stayed x at left kind → marked ≡ mark (item_result body x)
   mark-by x at left kind e = ap (λ (s : Step). mark (item_result body s.item)) e
 
   only_none : marked ≡ 0 → Outcome → Ended
@@ -175,7 +173,7 @@ module _ (body : List ℕ) (w : Walk) where
       let both : IsItem (step_says body w) → Left w × Stand K there = λ i. only_item i outcome in
       record {
         nothing = (λ e. only_none (ap mark e) outcome, λ h. ap says (ended h));
-        past_end = (λ e. ((part (Number 4) e).0, (ends-past K body w.at).0 (part (Number 4) e).1), λ h. ap says (stopped (Number 4) h.0 ((ends-past K body w.at).1 h.1)));
+        past_end = (λ e. ((part DefinitionShort e).0, (ends-past K body w.at).0 (part DefinitionShort e).1), λ h. ap says (stopped DefinitionShort h.0 ((ends-past K body w.at).1 h.1)));
         not_utf8 = λ g.
             (λ e. ((part (DefinitionNotUtf8 g) e).0, (ends-wrong K body w.at g).0 (part (DefinitionNotUtf8 g) e).1), λ h. ap says (stopped (DefinitionNotUtf8 g) h.0 ((ends-wrong K body w.at g).1 h.1)));
         others = λ why e. ends_so K body w.at why (part why e).1;

@@ -15,28 +15,26 @@ use Rattle.wing_node.specs.Types.{has_items}
 use Rattle.wing_node.specs.Definition.{FieldName, Count, form, header, added, times, item_of, items_of, definition_of}
 use Rattle.wing_node.specs.Items.{walk, walk_from, begin_from, begin_of, numbered_from, numbered_in, item_numbered}
 use Rattle.wing_node.specs.Standing.{extent, beyond, Stand}
-use Rattle.wing_node.specs.Answers.{DefinitionValues, none, details_by, parsed_result, begun_result, item_result}
+use Rattle.wing_node.specs.Answers.{DefinitionValues, none, details_by, parsed_result, item_result}
 use Rattle.wing_node.specs.InBody.{number_named, type_in, names_in, count_in, all_fields, first_in, walk_in, item_in, item_in_body}
 use Rattle.wing_node.specs.Parsing.{parser_says, Takes, Beginning, step_of, step_says, number_says, Left, IsItem, ByNumber, walked, Walking, Definitions}
 use Rattle.wing_node.specs.declared.refusal.Refusal.{Refusal}
-use Rattle.wing_node.specs.declared.refusal.Refusal.TheVariants.{Number}
+use Rattle.wing_node.specs.declared.refusal.Refusal.TheVariants.{NumberOver}
 use Rattle.wing_node.specs.declared.node_type.NodeType.{NodeType}
 use Rattle.wing_node.specs.declared.node_type.NodeType.TheVariants.{Node, LinearFloat, LogarithmicFloat, FaderLevel, Integer, StringEnum, FloatEnum, String}
-use Rattle.wing_node.specs.declared.definition.Item.TheVariants.{Refused}
-use Rattle.wing_node.specs.declared.definition.Parsed.{Parsed}
-use Rattle.wing_node.specs.declared.definition.Parsed.TheVariants.{Good as Parsed-as-Good, Refused as Parsed-as-Refused}
 use Rattle.wing_node.specs.declared.items.Walk.{Walk}
 use Rattle.wing_node.specs.declared.items.Step.{Step}
-use Rattle.wing_node.specs.declared.items.Begun.TheVariants.{Good as Begun-as-Good}
 use Rattle.wing_node.proofs.Refusals.{reason}
 use Rattle.wing_node.proofs.Bodies.Standing.{passes, stand-parts, extent-parts, times-stand}
 use Rattle.wing_node.proofs.Bodies.InBody.{number-later, same-type}
 use Rattle.wing_node.proofs.Bodies.Parsing.{taken, parsing, header-stands, details-said, parsed-good}
 use Rattle.wing_node.proofs.Bodies.Steps.{moves, stepping, mark, item-mark}
+use Rattle.wing_node.specs.declared.definition.Definition.{Definition}
+use Rattle.std.specs.Prelude.{Ok, Err}
 
-begun-refused : (body : List ℕ) (p : Parsed) (why : Refusal) → (begun_result (begin_from p) ≡ refused why) ↔ (parsed_result body p ≡ refused why)
-begun-refused body (Parsed-as-Good d) why = (λ e. absurd (let z : ◌≡◌ {A = ℕ} 0 1 = cc in omega arith), λ e. absurd (let z : ◌≡◌ {A = ℕ} 0 1 = cc in omega arith))
-begun-refused body (Parsed-as-Refused other) why = (λ e. ap refused (ap (reason other) e), λ e. ap refused (ap (reason other) e))
+begun-refused : (body : List ℕ) (p : Result Definition) (why : Refusal) → (begin_from p ≡ refused why) ↔ (parsed_result body p ≡ refused why)
+begun-refused body (Ok d) why = (λ e. absurd (let z : ◌≡◌ {A = ℕ} 0 1 = cc in omega arith), λ e. absurd (let z : ◌≡◌ {A = ℕ} 0 1 = cc in omega arith))
+begun-refused body (Err other) why = (λ e. ap refused (ap (reason other) e), λ e. ap refused (ap (reason other) e))
 
 -- a walk by what the type adds
 walk-by : (t : NodeType) (v : FieldName → ℕ) (first : ℕ) → walk_from t (details_by t v first) ≡ if (has_items t) (walk first (v Count) t) (walk 0 0 t)
@@ -65,15 +63,15 @@ module _ (body : List ℕ) where
   count_none : has_items (type_in body) ≡ false → count_in body ≡ 0
   count_none h = number-later header (added (type_in body)) Count body refl ∙ no-count (type_in body) (beyond (map form header) body) h
 
-  begun-at : Takes body → begin_of body ≡ Begun-as-Good (walk_in body)
+  begun-at : Takes body → begin_of body ≡ Ok (walk_in body)
   unfolding begin_of
   begun-at k =
       let h = (taken body).0 k in
-      rw (parsed-good body h, details-said body h, same-type body (header-stands body h)) (ap Begun-as-Good (walk-by (type_in body) (λ n. number_named (names_in body) n body) (first_in body)))
+      rw (parsed-good body h, details-said body h, same-type body (header-stands body h)) (ap Ok (walk-by (type_in body) (λ n. number_named (names_in body) n body) (first_in body)))
 
   pub beginning : Beginning body
   unfolding begin_of
-  beginning = record { refusals = λ why. begun-refused body (definition_of body) why; begun = λ k. ap begun_result (begun-at k) }
+  beginning = record { refusals = λ why. begun-refused body (definition_of body) why; begun = λ k. begun-at k }
 
   -- a body without a count has nothing to walk
   with_items : (n : ℕ) → n < count_in body → has_items (type_in body) ≡ true
@@ -155,13 +153,13 @@ module _ (body : List ℕ) (h : Stand (all_fields body) body) (n : ℕ) (l : n <
   numbered-said = ap (item_result body) numbered-at ∙ (stepping body there).said gives-item ∙ ap (λ s. ok (item_in (type_in body) s)) (sym same_place)
 
 module _ (body : List ℕ) where
-  numbered-past : (n : ℕ) → Takes body → count_in body ≤ n → item_numbered body n ≡ Refused (Number 14)
+  numbered-past : (n : ℕ) → Takes body → count_in body ≤ n → item_numbered body n ≡ Err NumberOver
   unfolding item_numbered numbered_from
   numbered-past n k l = rw (begun-at body k, le-leb (walk_in body).left n (omega (arith, begins-with body)))
 
-  refused-first : (n : ℕ) (why : Refusal) (p : Parsed) → parsed_result body p ≡ refused why → item_result body (numbered_in body n (begin_from p)) ≡ refused why
-  refused-first n why (Parsed-as-Good d) e = absurd (let z : ◌≡◌ {A = ℕ} 0 1 = cc in omega arith)
-  refused-first n why (Parsed-as-Refused other) e = ap refused (ap (reason other) e)
+  refused-first : (n : ℕ) (why : Refusal) (p : Result Definition) → parsed_result body p ≡ refused why → item_result body (numbered_in body n (begin_from p)) ≡ refused why
+  refused-first n why (Ok d) e = absurd (let z : ◌≡◌ {A = ℕ} 0 1 = cc in omega arith)
+  refused-first n why (Err other) e = ap refused (ap (reason other) e)
 
   numbered-refused : (n : ℕ) (why : Refusal) → parser_says body ≡ refused why → number_says body n ≡ refused why
   unfolding item_numbered begin_of
@@ -169,7 +167,7 @@ module _ (body : List ℕ) where
 
   -- why a number is refused
   abbrev Why : ℕ → Refusal → Type 0
-  Why n why = (parser_says body ≡ refused why) ⊎ (Takes body × (count_in body ≤ n) × (why ≡ Number 14))
+  Why n why = (parser_says body ≡ refused why) ⊎ (Takes body × (count_in body ≤ n) × (why ≡ NumberOver))
 
   numbered-refusals : (n : ℕ) (why : Refusal) → number_says body n ≡ refused why → Why n why
   numbered-refusals n why e = go (parser_says body) refl

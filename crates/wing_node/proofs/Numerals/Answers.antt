@@ -15,14 +15,14 @@ use Rattle.wing_node.specs.Bytes.{placed}
 use Rattle.wing_node.specs.Field.{put_at}
 use Rattle.wing_node.specs.Decimal.{digits, decimal, last_digits}
 use Rattle.wing_node.specs.Value.{answer_of, some}
-use Rattle.wing_node.specs.declared.value.StringAnswer.TheVariants.{String as found}
 use Rattle.wing_node.specs.declared.value.StringRead.{StringRead}
 use Rattle.wing_node.proofs.Numerals.Spelled.{length_digits, last_digits-all}
 use Rattle.wing_node.proofs.Numerals.Signs.{magnitude-fits}
 use Rattle.wing_node.proofs.Arrays.{placed-zeros}
+use Rattle.std.specs.Prelude.{Option, Some}
 
 -- a string's answer has its length and its bytes, with zeros after them
-pub answered : (s out : List ℕ) (k : ℕ) → k ≡ length s → out ≡ s ++ replicate (256 - length s) 0 → ◌≡◌ {A = StringRead} (record { answer = found k; bytes = out }) (answer_of (some s))
+pub answered : (s out : List ℕ) (k : ℕ) → k ≡ length s → out ≡ s ++ replicate (256 - length s) 0 → ◌≡◌ {A = Option StringRead} (Some (record { len = k; bytes = out })) (answer_of (some s))
 unfolding answer_of
 answered s out k e f = rw (e, f)
 

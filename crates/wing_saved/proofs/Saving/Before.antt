@@ -8,7 +8,6 @@ use borrow.Author.Tests.{lt-ltb, ltb-true}
 use lib.Dec.{eqb, ltb}
 use lib.ListN.{length, drop}
 use Rattle.wing_node.specs.declared.refusal.Refusal.{Refusal}
-use Rattle.wing_node.specs.Refusal.{alone}
 use Rattle.wing_node.specs.Result.{Result, ok, refused}
 use Rattle.wing_node.proofs.Branches.{branch, and_left, and_right}
 use Rattle.wing_node.proofs.Refusals.{reason}
@@ -30,6 +29,7 @@ use Rattle.wing_saved.specs.declared.HeadRead.{HeadRead}
 use Rattle.wing_saved.specs.declared.LoadAnswer.TheVariants.{Good, Refused as NotLoaded}
 use Rattle.wing_saved.proofs.Saving.Heads.{after-head, low_same}
 use Rattle.wing_saved.proofs.Saving.Trips.{head-back, begun, laid-under, range-in, said-good, said-refused}
+use Rattle.wing_node.specs.declared.refusal.Refusal.TheVariants.{StateUnsound}
 
 -- ---- counts of 16 bits
 
@@ -130,7 +130,7 @@ module _ (bytes : List ℕ) (t : State) (are : AreBytes bytes) where
       none why e = absurd (let z : ◌≡◌ {A = ℕ} 0 1 = cc in omega arith)
 
       go : (r : Result Control) → head_from_under earlier_version bytes ≡ r → P (earlier_with r bytes)
-      go (ok c) q = branch P (is_narrow c.token) _ _ (λ n e. saved c q n e) (λ _. none (alone 8))
+      go (ok c) q = branch P (is_narrow c.token) _ _ (λ n e. saved c q n e) (λ _. none StateUnsound)
       go (refused why) q = none why
 
 -- what an old state was carried over as is in the range of its types, and sound
@@ -146,7 +146,7 @@ module _ (bytes : List ℕ) (t : State) (k : CarriedSaves bytes t) where
       let o = carry-taken s t k.over in
       subst (λ (x : State). sound_state x ≡ true) o.same (sound-carried s ∙ o.sound)
 
-refusal : (bytes : List ℕ) (why : Refusal) → carried_from (earlier_from bytes) ≡ refused why → why ≡ alone 8
+refusal : (bytes : List ℕ) (why : Refusal) → carried_from (earlier_from bytes) ≡ refused why → why ≡ StateUnsound
 unfolding earlier_from earlier_with carried_from head_from_under
 refusal bytes why =
     branch Head (eqb (length bytes) saved_size) _ _
@@ -155,12 +155,12 @@ refusal bytes why =
     (λ _. eight)
   where
     P : Result EarlierState → Type 0
-    P r = carried_from r ≡ refused why → why ≡ alone 8
+    P r = carried_from r ≡ refused why → why ≡ StateUnsound
 
     Head : Result Control → Type 0
     Head r = P (earlier_with r bytes)
 
-    eight : P (refused (alone 8))
+    eight : P (refused StateUnsound)
     eight e = sym (ap (reason why) e)
 
 -- what a user of the call may rely on

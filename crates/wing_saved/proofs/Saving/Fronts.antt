@@ -12,9 +12,9 @@ use lib.Seq.{drop-cons, sets, sets-eq}
 use Rattle.wing_node.specs.Bool.{and}
 use Rattle.wing_node.proofs.Branches.{and_left, and_right}
 use Rattle.wing_wire.specs.Write.{Laid, write_effect, write_of}
-use Rattle.wing_wire.specs.declared.write.Written.TheVariants.{Bytes}
 use Rattle.wing_wire.proofs.Laws.{writer-laws}
 use Rattle.wing_saved.specs.Saved.{begins}
+use Rattle.std.specs.Prelude.{Ok}
 
 -- what is joined begins with its first part
 pub begins-joined : (front s : List ℕ) → begins front (front ++ s) ≡ true
@@ -52,7 +52,7 @@ laid_same s d l =
 
 -- two parts laid one after the other are written as one
 pub parts-written : (a b d : List ℕ) {n m : ℕ} → length a ≡ n → length (a ++ b) ≡ m → m ≤ length d →
-    write_effect (Bytes m) (sets (sets d 0 a) n b) ≡ write_of (a ++ b) d
+    write_effect (Ok m) (sets (sets d 0 a) n b) ≡ write_of (a ++ b) d
 parts-written a b d {n} {m} la lab h =
     let one : Laid a 0 d (sets d 0 a) n = record { bytes = refl; next = omega arith } in
     let both : Laid (a ++ b) 0 d (sets (sets d 0 a) n b) m = record { bytes = writer-laws.after one b; next = omega arith } in

@@ -21,12 +21,11 @@ use Rattle.wing_wire.specs.State.{escape}
 use Rattle.wing_saved.specs.Saved.{flag, pending_flag, pending_byte_of, fields_of, head_under, pending_in, class_in, token_in, fields_in, control_in}
 use Rattle.wing_wire.specs.declared.token.Class.{Class}
 use Rattle.wing_wire.specs.declared.token.Class.TheVariants.{NoEvent, Integer, String, Length, Int16, Int32, Float, Node, End, Count, LongCount}
-use Rattle.wing_wire.specs.declared.state.Pending.{Pending}
-use Rattle.wing_wire.specs.declared.state.Pending.TheVariants.{None, Byte}
 use Rattle.wing_wire.specs.declared.state.Token.{Token}
 use Rattle.wing_wire.specs.declared.state.Token.TheVariants.{Between, Number, String as InString, Body as InBody}
 use Rattle.wing_wire.specs.declared.state.Control.{Control}
 use Rattle.wing_saved.specs.declared.TokenFields.{TokenFields}
+use Rattle.std.specs.Prelude.{Option, ℕ, None, Some}
 
 -- ---- laid
 
@@ -68,10 +67,10 @@ flag-back : (b : Bool) → eqb (flag b) 1 ≡ b
 flag-back true = refl
 flag-back false = refl
 
-pending-back : (p : Pending) → pending_in (pending_flag p) (pending_byte_of p) ≡ p
+pending-back : (p : Option ℕ) → pending_in (pending_flag p) (pending_byte_of p) ≡ p
 unfolding pending_in pending_flag pending_byte_of
 pending-back None = refl
-pending-back (Byte b) = refl
+pending-back (Some b) = refl
 
 class_back : (c : Class) → class_in (class_number c) ≡ c
 unfolding class_in class_number

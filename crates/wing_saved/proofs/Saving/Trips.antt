@@ -9,7 +9,6 @@ use lib.Dec.{eqb, ltb}
 use lib.ListN.{length, take, drop, get_or, replicate, length-append, length-drop, drop_of_length-le}
 use lib.Seq.{length-take-le}
 use Rattle.wing_node.specs.declared.refusal.Refusal.{Refusal}
-use Rattle.wing_node.specs.Refusal.{alone}
 use Rattle.wing_node.specs.Result.{Result, ok, refused}
 use Rattle.wing_node.specs.Digits.{digits_in}
 use Rattle.wing_node.specs.Field.{field_at}
@@ -27,7 +26,6 @@ use Rattle.wing_wire.specs.declared.state.Token.{Token}
 use Rattle.wing_wire.specs.declared.state.Token.TheVariants.{Between, Number, String as InString, Body as InBody}
 use Rattle.wing_wire.specs.declared.state.Control.{Control}
 use Rattle.wing_wire.specs.declared.state.State.{State}
-use Rattle.wing_wire.specs.declared.write.Written.TheVariants.{Bytes}
 use Rattle.wing_wire.proofs.Reading.Ranges.{bytes_drop}
 use Rattle.wing_wire.proofs.Reading.Sound.{Sound, state-parts, sound-within}
 use Rattle.wing_saved.specs.Saved.{version, saved_size, pending_flag, pending_byte_of, fields_of, head_under, head_bytes, state_bytes, pending_in, token_in, fields_in, control_in, begins, sound_only, head_from_under, head_from, state_with, state_from}
@@ -38,6 +36,8 @@ use Rattle.wing_saved.specs.declared.LoadAnswer.{LoadAnswer}
 use Rattle.wing_saved.specs.declared.LoadAnswer.TheVariants.{Good, Refused as NotLoaded}
 use Rattle.wing_saved.proofs.Saving.Fronts.{begins-joined, begins-parts}
 use Rattle.wing_saved.proofs.Saving.Heads.{Fits, head-size, after-head, channel-fits, control-back}
+use Rattle.wing_node.specs.declared.refusal.Refusal.TheVariants.{StateUnsound}
+use Rattle.std.specs.Prelude.{Ok}
 
 -- ---- a state's bytes read back
 
@@ -116,7 +116,7 @@ begun v bytes c =
     P : Result Control → Type 0
     P r = r ≡ ok c → Begun v bytes c
 
-    none : P (refused (alone 8))
+    none : P (refused StateUnsound)
     none e = absurd (let z : ◌≡◌ {A = ℕ} 0 1 = cc in omega arith)
 
 pub laid-under : (v : ℕ) (bytes : List ℕ) → begins (head_under v (control_in bytes)) bytes ≡ true → head_under v (control_in bytes) ++ drop 27 bytes ≡ bytes
@@ -184,7 +184,7 @@ passed bytes s =
     P : Result State → Type 0
     P r = r ≡ ok s → Passed bytes s
 
-    none : P (refused (alone 8))
+    none : P (refused StateUnsound)
     none e = absurd (let z : ◌≡◌ {A = ℕ} 0 1 = cc in omega arith)
 
 -- bytes as digits of base 256
@@ -242,7 +242,7 @@ module _ (bytes : List ℕ) (are : AreBytes bytes) where
       subst (Saves bytes) p.same (record { typed = record { range = range-in p.size; count = counts-in }; sound = p.sound; laid = laid-again bytes p.front })
 
 -- no other number than 8
-refusal : (bytes : List ℕ) (why : Refusal) → state_from bytes ≡ refused why → why ≡ alone 8
+refusal : (bytes : List ℕ) (why : Refusal) → state_from bytes ≡ refused why → why ≡ StateUnsound
 unfolding state_from state_with head_from_under sound_only
 refusal bytes =
     branch Head (eqb (length bytes) saved_size) _ _
@@ -250,12 +250,12 @@ refusal bytes =
     (λ _. eight)
   where
     Eight : Result State → Type 0
-    Eight r = (why : Refusal) → r ≡ refused why → why ≡ alone 8
+    Eight r = (why : Refusal) → r ≡ refused why → why ≡ StateUnsound
 
     Head : Result Control → Type 0
     Head r = Eight (state_with r bytes)
 
-    eight : Eight (refused (alone 8))
+    eight : Eight (refused StateUnsound)
     eight why e = sym (ap (reason why) e)
 
     taken : Eight (ok (said-by bytes))
@@ -269,7 +269,7 @@ loaded-sound bytes s e =
 
 -- a sound state fills an output of the size
 kept : (s : State) (out : List ℕ) → sound_state s ≡ true → length s.store ≡ body_limit → length out ≡ saved_size →
-    save_of s out ≡ write_effect (Bytes saved_size) (state_bytes s)
+    save_of s out ≡ write_effect (Ok saved_size) (state_bytes s)
 unfolding save_of write_of
 kept s out e l n =
     let m : length (state_bytes s) ≡ saved_size = state-size s l in

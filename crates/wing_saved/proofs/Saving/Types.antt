@@ -13,8 +13,6 @@ use Rattle.wing_node.specs.Signed.{InBits}
 use Rattle.wing_wire.specs.State.{body_limit, state_of}
 use Rattle.wing_wire.specs.Range.{AreBytes, no_bytes, byte_then, PendingByte, no_pending, pending_byte, NumberIn}
 use Rattle.wing_saved.specs.Saved.{CountIn, Typed}
-use Rattle.wing_wire.specs.declared.state.Pending.{Pending}
-use Rattle.wing_wire.specs.declared.state.Pending.TheVariants.{None, Byte}
 use Rattle.wing_wire.specs.declared.state.Token.{Token}
 use Rattle.wing_wire.specs.declared.state.Token.TheVariants.{Between, Number, String, Body}
 use Rattle.wing_wire.specs.declared.state.Control.{Control}
@@ -23,10 +21,11 @@ use Rattle.wing_wire.specs.contracts.state.Pending as pendings
 use Rattle.wing_wire.specs.contracts.state.Token as tokens
 use Rattle.wing_wire.specs.contracts.state.Control as controls
 use Rattle.wing_wire.specs.contracts.state.State as states
+use Rattle.std.specs.Prelude.{Option, ℕ, None, Some}
 
-pending-typed : (p : Pending) (vs : List Val) → Is (rowᵉ pendings.the_type) p vs → PendingByte p
+pending-typed : (p : Option ℕ) (vs : List Val) → Is (rowᵉ pendings.the_type) p vs → PendingByte p
 pending-typed None vs r = no_pending
-pending-typed (Byte b) vs r = pending_byte r.1.1.1.1.0.1
+pending-typed (Some b) vs r = pending_byte r.1.1.1.1.0.1
 
 number-typed : (t : Token) (vs : List Val) → Is (rowᵉ tokens.the_type) t vs → NumberIn t
 number-typed Between vs r = tt

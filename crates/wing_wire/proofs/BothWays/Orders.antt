@@ -20,8 +20,9 @@ use Rattle.wing_wire.specs.Answers.{event_at, answer_result, reply_result}
 use Rattle.wing_wire.specs.RoundTrip.{Settable, rest_state}
 use Rattle.wing_wire.specs.SetOrders.{AtRest, ReadBack, ReadsAsSet}
 use Rattle.wing_wire.specs.declared.state.State.{State}
-use Rattle.wing_wire.specs.declared.write.Written.{Written}
 use Rattle.wing_wire.proofs.BothWays.RoundTrip.{round_trip}
+use Rattle.wing_node.specs.Result.{Result}
+use Rattle.std.specs.Prelude.{ℕ}
 
 -- a state at rest by its parts
 by_parts : (s : State) → AtRest s → s ≡ rest_state s.control.escape.channel s.control.node s.store
@@ -62,11 +63,11 @@ module _ (id : ℤ) (v : NodeValue) (i : InBits 31 id) (h : Settable v) where
       (λ _ s a. rw (take-append_seam bytes (drop (length bytes) out)) (read_back s a))
 
   -- what set_int and set_float promise of their answer r and the output after it gives this
-  pub reads-as-set : (out : List ℕ) (r : Written) (after : List ℕ) → write_effect r after ≡ write_of (set_bytes id v) out → ReadsAsSet id v r after
+  pub reads-as-set : (out : List ℕ) (r : Result ℕ) (after : List ℕ) → write_effect r after ≡ write_of (set_bytes id v) out → ReadsAsSet id v r after
   reads-as-set out r after e = subst (λ (w : WriteEffect). ReadsAsSet id v w.answer w.out) (sym e) (order-read out)
 
 -- and what set_string promises, whatever its string: one that is not settable is refused
-pub reads-as-string : (id : ℤ) (s out : List ℕ) (r : Written) (after : List ℕ) → InBits 31 id → write_effect r after ≡ set_string id s out → ReadsAsSet id (string s) r after
+pub reads-as-string : (id : ℤ) (s out : List ℕ) (r : Result ℕ) (after : List ℕ) → InBits 31 id → write_effect r after ≡ set_string id s out → ReadsAsSet id (string s) r after
 unfolding set_string
 reads-as-string id s out r after i e =
     let P : WriteEffect → Type 0 = λ w. ReadsAsSet id (string s) w.answer w.out in

@@ -30,7 +30,6 @@ use Rattle.wing_wire.specs.Range.{Within}
 use Rattle.wing_wire.specs.RoundTrip.{Settable, RoundTrip, feeds, fed_rest, RoundTripPieces}
 use Rattle.wing_wire.specs.declared.token.Class.{Class}
 use Rattle.wing_wire.specs.declared.token.Class.TheVariants.{Integer as an_integer, String as a_string, Length, Int16, Int32, Float as a_float, Node}
-use Rattle.wing_wire.specs.declared.state.Pending.TheVariants.{None}
 use Rattle.wing_wire.specs.declared.state.Token.TheVariants.{Between, String as InString}
 use Rattle.wing_wire.specs.declared.unit.Answer.{Answer}
 use Rattle.wing_wire.specs.declared.unit.Answer.TheVariants.{Integer, Float, String}
@@ -41,6 +40,7 @@ use Rattle.wing_wire.proofs.Reading.Pieces.{at, pending-same, feed-not-pending, 
 use Rattle.wing_wire.proofs.Reading.Steps.{fed, feed-again}
 use Rattle.wing_wire.proofs.Reading.Beside.{event-beside}
 use Rattle.wing_wire.proofs.BothWays.Trips.{width, width-append, ready, waits, number-whole, string-whole, begin-run, single-run}
+use Rattle.std.specs.Prelude.{None}
 
 -- the answer for a value, and the store that holds its string
 abbrev pub answer_to : NodeValue → Answer

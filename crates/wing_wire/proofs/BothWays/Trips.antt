@@ -21,7 +21,6 @@ use Rattle.wing_wire.specs.Escape.{decode_of, plain_of, escaped_of}
 use Rattle.wing_wire.specs.Unit.{completes, single_of, token_of, begin_of, number_of, shift_in, number_unit, unit_effect, string_unit, string_done, unit_of}
 use Rattle.wing_wire.specs.Stream.{answered, StepEffect, step_effect, no_answer, after_unit, settle_of, first_of, follow_of, step_of, run_of}
 use Rattle.wing_wire.specs.declared.token.Class.{Class}
-use Rattle.wing_wire.specs.declared.state.Pending.TheVariants.{None}
 use Rattle.wing_wire.specs.declared.state.Escape.{Escape}
 use Rattle.wing_wire.specs.declared.state.Token.{Token}
 use Rattle.wing_wire.specs.declared.state.Token.TheVariants.{Between, Number, String as InString}
@@ -29,6 +28,7 @@ use Rattle.wing_wire.specs.declared.unit.Answer.{Answer}
 use Rattle.wing_wire.specs.declared.unit.Answer.TheVariants.{More, Integer, Float, String, Body, End, Refused}
 use Rattle.wing_wire.proofs.Reading.Pieces.{at, run_on}
 use Rattle.wing_wire.proofs.Writing.Lays.{escaped-append}
+use Rattle.std.specs.Prelude.{None}
 
 -- how many bytes units take
 abbrev pub width : List ℕ → ℕ

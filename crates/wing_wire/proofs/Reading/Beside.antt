@@ -10,7 +10,6 @@ use lib.ListN.{length, take, replicate, length-replicate}
 use lib.Seq.{length-take-le}
 use Rattle.wing_node.specs.Value.{string}
 use Rattle.wing_node.specs.Bool.{if}
-use Rattle.wing_node.specs.Refusal.{alone}
 use Rattle.wing_wire.specs.State.{body_limit, sound_state}
 use Rattle.wing_wire.specs.Stream.{Run, advance_of}
 use Rattle.wing_wire.specs.Reader.{value, body, refused, event_of, over, filled, string_beside, body_beside, refused_next, next_from, next_of, event_in, next_event}
@@ -21,6 +20,7 @@ use Rattle.wing_wire.proofs.Reading.Bounds.{advance-bounded}
 use Rattle.wing_wire.proofs.Reading.Sound.{sound-within}
 use Rattle.wing_wire.specs.declared.unit.Answer.{Answer}
 use Rattle.wing_wire.specs.declared.unit.Answer.TheVariants.{More, Integer, Float, String, Body, End, Refused}
+use Rattle.wing_node.specs.declared.refusal.Refusal.TheVariants.{NumberOver, StateUnsound}
 
 -- the bytes before the zeros
 over-front : (n : ℕ) (t d : List ℕ) → length t ≡ n → n ≤ length d → take n (over t d) ≡ t
@@ -53,8 +53,8 @@ next-event s bytes l = go (sound_state s) (leb (length bytes) 65536) refl
     r = advance_of s.control s.store bytes
 
     go : (q k : Bool) → sound_state s ≡ q →
-        event_in (if q (if k (next_from r) (refused_next 14 s)) (refused_next 8 s)) ≡
-        if q (if k (event_of r.effect.answered.answer r.effect.store r.effect.store) (refused (alone 14))) (refused (alone 8))
+        event_in (if q (if k (next_from r) (refused_next NumberOver s)) (refused_next StateUnsound s)) ≡
+        if q (if k (event_of r.effect.answered.answer r.effect.store r.effect.store) (refused NumberOver)) (refused StateUnsound)
     go true true e =
         let b = advance-bounded s.control s.store bytes (sound-within s e) in
         event-beside r.effect.answered.answer r.effect.store (b.size ∙ l) b.within

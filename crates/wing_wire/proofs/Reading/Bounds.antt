@@ -21,8 +21,6 @@ use Rattle.wing_wire.specs.Range.{Within, TokenWithin, StepEffectWithin}
 use Rattle.wing_wire.specs.declared.token.Class.{Class}
 use Rattle.wing_wire.specs.declared.token.Class.TheVariants.{NoEvent, Integer, String, Length, Int16, Int32, Float, Node, End, Count, LongCount}
 use Rattle.wing_wire.specs.declared.token.Rule.{Rule}
-use Rattle.wing_wire.specs.declared.state.Pending.{Pending}
-use Rattle.wing_wire.specs.declared.state.Pending.TheVariants.{None, Byte}
 use Rattle.wing_wire.specs.declared.state.Escape.{Escape}
 use Rattle.wing_wire.specs.declared.state.Token.{Token}
 use Rattle.wing_wire.specs.declared.state.Token.TheVariants.{Between, Number, String as InString, Body as InBody}
@@ -31,6 +29,7 @@ use Rattle.wing_wire.specs.declared.escape.Unit.{Unit as Unitʷ}
 use Rattle.wing_wire.specs.declared.escape.Unit.TheVariants.{Nothing, Bare, Appended}
 use Rattle.wing_wire.specs.declared.unit.Taken.{Taken}
 use Rattle.wing_wire.proofs.Reading.Pieces.{at, stays, run_on}
+use Rattle.std.specs.Prelude.{Option, ℕ, None, Some}
 
 -- ---- the table: no string wants more than 256 units, no number more than its width
 
@@ -172,9 +171,9 @@ settle-bounded : (c : Control) (s : List ℕ) → TokenWithin c.token → StepEf
 unfolding settle_of
 settle-bounded c s h = go c.escape.pending
   where
-    go : (p : Pending) → StepEffectWithin (length s) (pending_of p c s)
+    go : (p : Option ℕ) → StepEffectWithin (length s) (pending_of p c s)
     go None = record { token = h; within = tt; size = refl }
-    go (Byte u) = let o = unit-bounded c.node c.token s u true h in record { token = o.taken.token; within = o.taken.within; size = o.size }
+    go (Some u) = let o = unit-bounded c.node c.token s u true h in record { token = o.taken.token; within = o.taken.within; size = o.size }
 
 first-bounded : (c : Control) (s : List ℕ) (b : ℕ) → TokenWithin c.token → StepEffectWithin (length s) (first_of c s b)
 unfolding first_of

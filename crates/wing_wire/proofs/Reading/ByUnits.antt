@@ -7,12 +7,11 @@ use Rattle.wing_wire.specs.Escape.{decode_of}
 use Rattle.wing_wire.specs.Stream.{pending_of, settle_of, given_of, first_of, Fed, handle, fed_pending, fed_byte, fed_from, feed_of}
 use Rattle.wing_wire.specs.Units.{StreamUnit, pending_units, byte_units, settled, units_of, with_escape, unit_taken, units_taken}
 use Rattle.wing_wire.specs.Tokens.{TakesUnits}
-use Rattle.wing_wire.specs.declared.state.Pending.{Pending}
-use Rattle.wing_wire.specs.declared.state.Pending.TheVariants.{None, Byte}
 use Rattle.wing_wire.specs.declared.state.Escape.{Escape}
 use Rattle.wing_wire.specs.declared.escape.Unit.{Unit}
 use Rattle.wing_wire.specs.declared.escape.Unit.TheVariants.{Nothing, Bare, Appended}
 use Rattle.wing_wire.specs.declared.unit.Answer.{Answer}
+use Rattle.std.specs.Prelude.{Option, ℕ, None, Some}
 
 module _ {M : Type 0} (h : ℤ → Answer → List ℕ → M → M) where
   -- units in two lists
@@ -25,13 +24,13 @@ module _ {M : Type 0} (h : ℤ → Answer → List ℕ → M → M) where
   unfolding settle_of units_taken
   pending-units e x = go e.pending refl
     where
-      go : (p : Pending) → e.pending ≡ p →
+      go : (p : Option ℕ) → e.pending ≡ p →
           handle h (pending_of p (with_escape e x).control x.store) x.memo ≡ with_escape (settled e) (units_taken h x (pending_units p))
       go None q = ap (λ (i : Escape). with_escape i x) (same q)
         where
           same : e.pending ≡ None → e ≡ settled e
           same q = rw q
-      go (Byte u) q = refl
+      go (Some u) q = refl
 
   first-units : (e : Escape) (x : Fed M) (b : ℕ) →
       handle h (first_of (with_escape e x).control x.store b) x.memo ≡ with_escape (decode_of e b).escape (units_taken h x (byte_units (decode_of e b).unit))

@@ -9,7 +9,7 @@ use lib.Dec.{ltb, leb, eqb}
 use lib.IntN.{ℤ}
 use lib.ListN.{take, drop, set}
 use Rattle.wing_node.specs.Bool.{if, and}
-use Rattle.wing_node.specs.Refusal.{alone, string_not_utf8}
+use Rattle.wing_node.specs.Refusal.{string_not_utf8}
 use Rattle.wing_node.specs.Result.{Result, ok, refused}
 use Rattle.wing_node.specs.declared.refusal.Refusal.{Refusal}
 use Rattle.wing_node.specs.Utf8.{utf8}
@@ -22,7 +22,7 @@ use Rattle.wing_wire.specs.Stream.{is_more, released, after_unit, Fed, handle, f
 use Rattle.wing_wire.specs.Units.{StreamUnit, units_of, with_escape, unit_taken, units_taken}
 use Rattle.wing_wire.specs.Range.{AreBytes}
 use Rattle.wing_wire.specs.DecoderLaws.{state_in}
-use Rattle.wing_wire.specs.Earlier.{earlier_counts, earlier_stored, earlier_sound, is_long_count, is_started, carried_token, carried, carry_of, carried_as, carried_result}
+use Rattle.wing_wire.specs.Earlier.{earlier_counts, earlier_stored, earlier_sound, is_long_count, is_started, carried_token, carried, carry_of}
 use Rattle.wing_wire.specs.EarlierReading.{EarlierTaken, completed, awaited, earlier_begin, earlier_count, earlier_number, EarlierEffect, earlier_effect, earlier_text, earlier_next, earlier_unit, without_good, seeing, EarlierFed, wants_long, InLong, in_long, earlier_in, carried_fed, earlier_take, earlier_units, earlier_feed, unstarted, no_long_count, fresh_earlier, fresh_now, CarriesOver}
 use Rattle.wing_wire.specs.declared.token.Class.{Class}
 use Rattle.wing_wire.specs.declared.token.Class.TheVariants.{NoEvent, Integer, String, Length, Int16, Int32, Float, Node, End, Count, LongCount}
@@ -40,6 +40,7 @@ use Rattle.wing_wire.proofs.Reading.Underway.{underway-le}
 use Rattle.wing_wire.proofs.Reading.Pieces.{clash}
 use Rattle.wing_wire.proofs.Reading.ByUnits.{feed-units}
 use Rattle.wing_wire.proofs.Laws.{decoder-laws}
+use Rattle.wing_node.specs.declared.refusal.Refusal.TheVariants.{BodyLong, StateUnsound, StringNotUtf8}
 
 -- ---- sound
 
@@ -72,26 +73,20 @@ carry-taken s t =
     P : Result State → Type 0
     P r = r ≡ ok t → TakenOver s t
 
-    none : P (refused (alone 8))
+    none : P (refused StateUnsound)
     none e = absurd (let z : ◌≡◌ {A = ℕ} 0 1 = cc in omega arith)
 
 -- no other number than 8
-pub carry-refused : (s : EarlierState) (why : Refusal) → carry_of s ≡ refused why → why ≡ alone 8
+pub carry-refused : (s : EarlierState) (why : Refusal) → carry_of s ≡ refused why → why ≡ StateUnsound
 unfolding carry_of
 carry-refused s why =
     branch P (is_started s.control.token) _ _ (λ _. eight) (λ _. branch P (earlier_sound s) _ _ (λ _ e. absurd (let z : ◌≡◌ {A = ℕ} 0 1 = cc in omega arith)) (λ _. eight))
   where
     P : Result State → Type 0
-    P r = r ≡ refused why → why ≡ alone 8
+    P r = r ≡ refused why → why ≡ StateUnsound
 
-    eight : P (refused (alone 8))
+    eight : P (refused StateUnsound)
     eight e = sym (ap (reason why) e)
-
--- what was answered, in 01's words
-pub carried-result : (r : Result State) → carried_result (carried_as r).answer (carried_as r).state ≡ r
-unfolding carried_as carried_result
-carried-result (ok s) = refl
-carried-result (refused why) = refl
 
 -- ---- a unit
 
@@ -168,7 +163,7 @@ unfolding string_done earlier_text carried_token without_good
 text-over node want s = go (utf8 (take want s))
   where
     go : (q : Bool) → plain_effect (if q (unit_effect (completes node (a_string want)) s) (unit_effect (completes node (Refused (string_not_utf8 (take want s)))) (cleared want s))) ≡
-        over_effect (if q (earlier_effect (completed node (a_string want)) s) (earlier_effect (completed node (Refused (alone 1))) (cleared want s)))
+        over_effect (if q (earlier_effect (completed node (a_string want)) s) (earlier_effect (completed node (Refused (StringNotUtf8 0))) (cleared want s)))
     go true = refl
     go false = refl
 
@@ -176,8 +171,8 @@ next-over : (node : ℤ) (want left stored : ℕ) → plainly (body_next node wa
 unfolding body_next body_done earlier_next carried_token without_good
 next-over node want left stored = go (leb left 1) (leb want body_limit)
   where
-    go : (p q : Bool) → plainly (if p (if q (completes node (a_body stored)) (completes node (Refused (alone 2)))) (awaits node (body stored want (left - 1)))) ≡
-        over (if p (if q (completed node (a_body stored)) (completed node (Refused (alone 2)))) (awaited node (InBody want (left - 1) stored)))
+    go : (p q : Bool) → plainly (if p (if q (completes node (a_body stored)) (completes node (Refused BodyLong))) (awaits node (body stored want (left - 1)))) ≡
+        over (if p (if q (completed node (a_body stored)) (completed node (Refused BodyLong))) (awaited node (InBody want (left - 1) stored)))
     go true true = refl
     go true false = refl
     go false q = refl
@@ -374,7 +369,7 @@ module _ {M : Type 0} (h : ℤ → Answer → List ℕ → M → M) where
       units-fine (earlier_take h x g) gs (then-none x g gs e) (unit-fine x.control.node x.control.token x.store g.unit g.appended (wants-none x g gs e))
 
   started : (x : EarlierFed M) (g : StreamUnit) → earlier_sound (earlier_in x) ≡ true → wants_long x.control.token ≡ true →
-      wants_long (earlier_take h x g).control.token ≡ true → carry_of (earlier_in (earlier_take h x g)) ≡ refused (alone 8)
+      wants_long (earlier_take h x g).control.token ≡ true → carry_of (earlier_in (earlier_take h x g)) ≡ refused StateUnsound
   unfolding carry_of earlier_sound
   started x g s w l =
       let t = x.control.token in

@@ -16,7 +16,6 @@ use Rattle.wing_node.specs.Digits.{number_from, number_in}
 use Rattle.wing_node.specs.Field.{big}
 use Rattle.wing_node.specs.Signed.{signed}
 use Rattle.wing_node.specs.Value.{integer, float, string}
-use Rattle.wing_node.specs.Refusal.{alone}
 use Rattle.wing_wire.specs.State.{body_limit}
 use Rattle.wing_wire.specs.Escape.{decode_of, escaped_of, plain_of, other_of}
 use Rattle.wing_wire.specs.Stream.{Fed}
@@ -25,11 +24,11 @@ use Rattle.wing_wire.specs.Range.{AreBytes, no_bytes, byte_then, PendingByte, no
 use Rattle.wing_wire.specs.Units.{StreamUnit, stream_unit, pending_units, byte_units, settled, units_of}
 use Rattle.wing_wire.specs.Tokens.{values, appended, Further, TokenResult, event, nothing, new_node, string_of, InForce, short, long, InTable, integer_t, string_80, string_c0, string_d0, string_d1, integer_16, integer_32, float_bits, new_node_d7, skips_two, skips_one, end_unit, bodies, count_over, counts_zero, no_event, Cut, token, waits, CutOf, node_after, through, between, after, Holds, handed_on, Read, Tokens, UnitsAreBytes}
 use Rattle.wing_wire.specs.declared.state.Escape.{Escape}
-use Rattle.wing_wire.specs.declared.state.Pending.{Pending}
-use Rattle.wing_wire.specs.declared.state.Pending.TheVariants.{None, Byte}
 use Rattle.wing_wire.specs.declared.escape.Decoded.{Decoded}
 use Rattle.wing_wire.proofs.Reading.ByUnits.{taken-append, feed-units}
 use Rattle.wing_wire.proofs.Reading.WholeTokens.{row}
+use Rattle.wing_node.specs.declared.refusal.Refusal.TheVariants.{BodyEmpty, BodyLong}
+use Rattle.std.specs.Prelude.{Option, ℕ, None, Some}
 
 -- ---- units that are bytes
 
@@ -157,15 +156,15 @@ wants-df a c n force =
     upto n 0
     (λ l.
     let z : n ≡ 0 = omega arith in
-    let r : InTable (stream_unit 0xdf a ∷ c) (event (refused (alone 3))) = counts_zero a c (subst (InForce c) z force) in
+    let r : InTable (stream_unit 0xdf a ∷ c) (event (refused BodyEmpty)) = counts_zero a c (subst (InForce c) z force) in
     record {
       number = 0;
-      result = λ us. event (refused (alone 3));
-      token = λ us k. subst (λ (l : List StreamUnit). InTable (stream_unit 0xdf a ∷ (c ++ l)) (event (refused (alone 3)))) (sym (nil us k)) (rw (append-nil c) r);
+      result = λ us. event (refused BodyEmpty);
+      token = λ us k. subst (λ (l : List StreamUnit). InTable (stream_unit 0xdf a ∷ (c ++ l)) (event (refused BodyEmpty))) (sym (nil us k)) (rw (append-nil c) r);
     })
     (λ l.
     upto n body_limit (λ most. record { number = n; result = λ us. event (body (appended us)); token = λ us k. bodies a c us n force (omega arith) most k })
-    (λ over. record { number = n; result = λ us. event (refused (alone 2)); token = λ us k. count_over a c us n force over k }))
+    (λ over. record { number = n; result = λ us. event (refused BodyLong); token = λ us k. count_over a c us n force over k }))
 
 -- df and a 16-bit count that is not 0
 wants-count : (a : Bool) (c d : StreamUnit) → c.unit < 256 → d.unit < 256 → 1 ≤ d.unit → Wants (stream_unit 0xdf a ∷ c ∷ d ∷ [])
@@ -312,9 +311,9 @@ module _ (e : Escape) (b : ℕ) (l : b < 256) (p : PendingByte e.pending) where
       (λ _. branch DecodedBytes (ltb b 0xde) _ _ (λ _. record { pending = p; units = no_bytes }) (λ _. other-bytes)))))
       (λ _. branch DecodedBytes (eqb b 0xdf) _ _ (λ _. record { pending = p; units = no_bytes }) (λ _. record { pending = p; units = a_byte l }))
 
-pending-bytes : (p : Pending) → PendingByte p → AreBytes (values (pending_units p))
+pending-bytes : (p : Option ℕ) → PendingByte p → AreBytes (values (pending_units p))
 pending-bytes None no_pending = no_bytes
-pending-bytes (Byte u) (pending_byte l) = byte_then l no_bytes
+pending-bytes (Some u) (pending_byte l) = byte_then l no_bytes
 
 pub units-are-bytes : UnitsAreBytes
 unfolding units_of

@@ -15,8 +15,6 @@ use Rattle.wing_wire.specs.Escape.{decode_of, escaped_of, plain_of, other_of}
 use Rattle.wing_wire.specs.Units.{pending_units, byte_units, settled, units_of, pending_count, weight}
 use Rattle.wing_wire.specs.Stream.{StepEffect, is_more, pending_of, settle_of, given_of, first_of, Fed, handle, fed_pending, fed_byte, fed_from, feed_of}
 use Rattle.wing_wire.specs.DecoderLaws.{count}
-use Rattle.wing_wire.specs.declared.state.Pending.{Pending}
-use Rattle.wing_wire.specs.declared.state.Pending.TheVariants.{None, Byte}
 use Rattle.wing_wire.specs.declared.state.Escape.{Escape}
 use Rattle.wing_wire.specs.declared.state.Control.{Control}
 use Rattle.wing_wire.specs.declared.escape.Unit.{Unit}
@@ -24,6 +22,7 @@ use Rattle.wing_wire.specs.declared.escape.Unit.TheVariants.{Nothing, Bare, Appe
 use Rattle.wing_wire.specs.declared.escape.Decoded.{Decoded}
 use Rattle.wing_wire.proofs.Reading.Pieces.{clash, settle-not-pending}
 use Rattle.wing_wire.proofs.Reading.Sound.{escape-parts}
+use Rattle.std.specs.Prelude.{Option, ℕ, None, Some}
 
 -- what a byte gives and leaves weighs at most one more than what stood before it
 abbrev WeighsAtMost : ℕ → Decoded → Type 0
@@ -58,9 +57,9 @@ decode-weight e b = go e.escaped
     go true = escaped-weight e.channel b
     go false = plain-weight e.channel b
 
-pending-weight : (p : Pending) → length (pending_units p) ≡ pending_count p
+pending-weight : (p : Option ℕ) → length (pending_units p) ≡ pending_count p
 pending-weight None = refl
-pending-weight (Byte u) = refl
+pending-weight (Some u) = refl
 
 -- bytes give at most as many units as there are bytes, and what the escapes still held
 pub units-few : (e : Escape) (bytes : List ℕ) → length (units_of e bytes).units + weight (units_of e bytes).escape ≤ length bytes + weight e
@@ -76,11 +75,11 @@ pub sound-weight : (e : Escape) → sound_escape e ≡ true → weight e ≤ 1
 unfolding sound_pending
 sound-weight e s = go e.pending e.escaped refl (escape-parts e s).pending
   where
-    go : (p : Pending) (t : Bool) → e.escaped ≡ t → sound_pending p e ≡ true → (if t 1 0) + pending_count p ≤ 1
+    go : (p : Option ℕ) (t : Bool) → e.escaped ≡ t → sound_pending p e ≡ true → (if t 1 0) + pending_count p ≤ 1
     go None true q g = omega arith
     go None false q g = omega arith
-    go (Byte u) true q g = absurd (clash (rw q at g) refl)
-    go (Byte u) false q g = omega arith
+    go (Some u) true q g = absurd (clash (rw q at g) refl)
+    go (Some u) false q g = omega arith
 
 -- for sound escapes at most one unit more than there are bytes
 pub units-sound : (e : Escape) (bytes : List ℕ) → sound_escape e ≡ true → length (units_of e bytes).units ≤ length bytes + 1
@@ -99,10 +98,10 @@ pending-few : (x : Fed ℕ) → (fed_pending count x).memo + weight (fed_pending
 unfolding settle_of
 pending-few x = go x.control.escape.pending refl
   where
-    go : (p : Pending) → x.control.escape.pending ≡ p →
+    go : (p : Option ℕ) → x.control.escape.pending ≡ p →
         (handle count (pending_of p x.control x.store) x.memo).memo + weight (pending_of p x.control x.store).answered.control.escape ≤ x.memo + ((if x.control.escape.escaped 1 0) + pending_count p)
     go None e = rw e (omega arith)
-    go (Byte u) e = omega (arith, handle-one (pending_of (Byte u) x.control x.store) x.memo)
+    go (Some u) e = omega (arith, handle-one (pending_of (Some u) x.control x.store) x.memo)
 
 first-few : (c : Control) (s : List ℕ) (b m : ℕ) → c.escape.pending ≡ None →
     (handle count (first_of c s b) m).memo + weight (first_of c s b).answered.control.escape ≤ suc m + weight c.escape

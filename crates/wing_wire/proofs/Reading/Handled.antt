@@ -7,11 +7,11 @@ use Rattle.wing_node.proofs.Branches.{branch}
 use Rattle.wing_node.specs.Signed.{InBits}
 use Rattle.wing_wire.specs.Stream.{StepEffect, is_more, settle_of, first_of, Fed, handle, fed_pending, fed_byte, fed_from, feed_of}
 use Rattle.wing_wire.specs.Range.{AreBytes, no_bytes, byte_then, Within, StoreIn, InRange, AnswerIn}
-use Rattle.wing_wire.specs.declared.state.Pending.TheVariants.{None}
 use Rattle.wing_wire.specs.declared.unit.Answer.{Answer}
 use Rattle.wing_wire.proofs.Reading.Pieces.{settle-not-pending}
 use Rattle.wing_wire.proofs.Reading.Sound.{Good, Kept, settle-good, first_good}
 use Rattle.wing_wire.proofs.Reading.Ranges.{StepEffectIn, after-in, settle-in, first-in}
+use Rattle.std.specs.Prelude.{None}
 
 module _ {M : Type 0} (h : ℤ → Answer → List ℕ → M → M) (P : M → Type 0)
     (keeps : (node : ℤ) (a : Answer) (s : List ℕ) (m : M) → InBits 31 node → Within a s → AnswerIn a → StoreIn s → P m → P (h node a s m)) where

@@ -10,11 +10,10 @@ use native.Mathlib.Nat.{sub-zero}
 use lib.ListN.{drop}
 use lib.Seq.{drop-nil}
 use Rattle.wing_wire.specs.Stream.{StepEffect, is_more, pending_of, settle_of, first_of, follow_of, step_of, Run, onward, run_of, advance_of, released, Fed, handle, fed_pending, fed_byte, fed_from, feed_of}
-use Rattle.wing_wire.specs.declared.state.Pending.{Pending}
-use Rattle.wing_wire.specs.declared.state.Pending.TheVariants.{None, Byte}
 use Rattle.wing_wire.specs.declared.state.Control.{Control}
 use Rattle.wing_wire.specs.declared.unit.Answer.{Answer}
 use Rattle.wing_wire.specs.declared.unit.Answer.TheVariants.{More, Integer, Float, String, Body, End, Refused}
+use Rattle.std.specs.Prelude.{Option, ℕ, None, Some}
 
 -- what a step left after n bytes
 abbrev pub at : StepEffect → ℕ → Run
@@ -29,9 +28,9 @@ pub settle-not-pending : (c : Control) (s : List ℕ) → (settle_of c s).answer
 unfolding settle_of
 settle-not-pending c s = go c.escape.pending refl
   where
-    go : (p : Pending) → c.escape.pending ≡ p → (pending_of p c s).answered.control.escape.pending ≡ None
+    go : (p : Option ℕ) → c.escape.pending ≡ p → (pending_of p c s).answered.control.escape.pending ≡ None
     go None e = e
-    go (Byte u) e = refl
+    go (Some u) e = refl
 
 -- a run that has its answer takes no more bytes
 pub stays : (a : Run) (bs : List ℕ) → is_more a.effect.answered.answer ≡ false → run_of a bs ≡ a

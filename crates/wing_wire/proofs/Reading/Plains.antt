@@ -17,8 +17,6 @@ use Rattle.wing_wire.specs.Stream.{answered, StepEffect, step_effect, no_answer,
 use Rattle.wing_wire.specs.Plain.{is_pending, is_nothing, is_appended, value_of, is_inner, token_at, number_ahead, AheadEffect, ahead_effect, string_ahead, token_ahead, is_plain, is_free, SteppedEffect, stepped_effect, ahead_of, on_ahead, once_of, is_on}
 use Rattle.wing_wire.specs.Units.{pending_count}
 use Rattle.wing_wire.specs.declared.token.Class.{Class}
-use Rattle.wing_wire.specs.declared.state.Pending.{Pending}
-use Rattle.wing_wire.specs.declared.state.Pending.TheVariants.{None, Byte}
 use Rattle.wing_wire.specs.declared.state.Escape.{Escape}
 use Rattle.wing_wire.specs.declared.state.Token.{Token}
 use Rattle.wing_wire.specs.declared.state.Token.TheVariants.{Between, Number, String as InString, Body as InBody}
@@ -32,6 +30,7 @@ use Rattle.wing_wire.specs.declared.stream.TokenAt.{TokenAt}
 use Rattle.wing_wire.proofs.Reading.Turns.{turn, ended}
 use Rattle.wing_wire.proofs.Reading.Pieces.{at, clash, stays, run_on}
 use Rattle.wing_wire.proofs.Reading.Inners.{inner-left, inner-byte}
+use Rattle.std.specs.Prelude.{Option, ℕ, None, Some}
 
 -- ---- a unit, if there is one
 
@@ -63,10 +62,10 @@ plain-escaped e = go e.escaped
 plain-pending : (e : Escape) → is_plain e ≡ true → e.pending ≡ None
 plain-pending e = go e.escaped e.pending
   where
-    go : (t : Bool) (q : Pending) → if t false (not (is_pending q)) ≡ true → q ≡ None
+    go : (t : Bool) (q : Option ℕ) → if t false (not (is_pending q)) ≡ true → q ≡ None
     go true q p = absurd (clash p refl)
     go false None p = refl
-    go false (Byte u) p = absurd (clash p refl)
+    go false (Some u) p = absurd (clash p refl)
 
 -- where nothing is pending nothing follows
 plain-follow : (a : Answer) (c : Control) (s : List ℕ) → c.escape.pending ≡ None → follow_of (step_effect (answered a c) s) ≡ step_effect (answered a c) s
@@ -199,7 +198,7 @@ only-first : (t : Bool) → if t true false ≡ true → t ≡ true
 only-first true p = refl
 only-first false p = p
 
-settled : (c : Control) (s : List ℕ) (u : ℕ) → c.escape.pending ≡ Byte u →
+settled : (c : Control) (s : List ℕ) (u : ℕ) → c.escape.pending ≡ Some u →
     follow_of (no_answer c s) ≡ given_of (Appended u) (escape c.escape.escaped c.escape.channel None) c s
 unfolding follow_of settle_of
 settled c s u e = rw e
@@ -211,12 +210,12 @@ next-whole : (a : Answer) (c : Control) (s bytes : List ℕ) (n : ℕ) → is_on
 unfolding decode_next_of byte_next first_of
 next-whole More c s bytes n on = go c.escape.pending refl on
   where
-    go : (p : Pending) → c.escape.pending ≡ p → if (ltb n (length bytes)) true (is_pending p) ≡ true →
+    go : (p : Option ℕ) → c.escape.pending ≡ p → if (ltb n (length bytes)) true (is_pending p) ≡ true →
         whole bytes (stepped_effect (no_answer c s) n) ≡ whole bytes (stepped_effect (given_of (pending_next p c.escape bytes n).unit (pending_next p c.escape bytes n).escape c s) (pending_next p c.escape bytes n).at)
     go None e on =
         let l : ltb n (length bytes) ≡ true = only-first (ltb n (length bytes)) on in
         rw l (ap (λ (o : StepEffect). run_of (at o n) (drop n bytes)) (plain-follow More c s e) ∙ turn (at (no_answer c s) n) bytes n (ltb-true _ _ l) refl)
-    go (Byte u) e on =
+    go (Some u) e on =
         let o = unit_of c.node c.token s u true in
         let after = control (escape c.escape.escaped c.escape.channel None) o.taken.node o.taken.token in
         ap (λ (o : StepEffect). run_of (at o n) (drop n bytes)) (settled c s u e ∙ sym (plain-follow o.taken.answer after o.store refl))
@@ -246,10 +245,10 @@ whole-ends t s bytes n = by t.answer t.control
     by : (a : Answer) (c : Control) → is_on (answered a c) n (length bytes) ≡ false → whole bytes (stepped_effect (step_effect (answered a c) s) n) ≡ at (step_effect (answered a c) s) n
     by More c off = go c.escape.pending (ltb n (length bytes)) refl refl off
       where
-        go : (p : Pending) (t : Bool) → c.escape.pending ≡ p → ltb n (length bytes) ≡ t → if t true (is_pending p) ≡ false → whole bytes (stepped_effect (no_answer c s) n) ≡ at (no_answer c s) n
+        go : (p : Option ℕ) (t : Bool) → c.escape.pending ≡ p → ltb n (length bytes) ≡ t → if t true (is_pending p) ≡ false → whole bytes (stepped_effect (no_answer c s) n) ≡ at (no_answer c s) n
         go p true e l x = absurd (clash refl x)
         go None false e l x = ap (λ (o : StepEffect). run_of (at o n) (drop n bytes)) (plain-follow More c s e) ∙ ended (at (no_answer c s) n) bytes n (ltb-false _ _ l)
-        go (Byte u) false e l x = absurd (clash refl x)
+        go (Some u) false e l x = absurd (clash refl x)
     by (Integer x) c off = over (Integer x) c s bytes n refl
     by (Float x) c off = over (Float x) c s bytes n refl
     by (String x) c off = over (String x) c s bytes n refl
@@ -275,22 +274,22 @@ ahead-up h bytes n = go (is_free h.answered)
     go true = token-up h.answered.control.token h.store n (drop n bytes)
     go false = omega arith
 
-pending-few : (p : Pending) → pending_count p ≤ 1
+pending-few : (p : Option ℕ) → pending_count p ≤ 1
 pending-few None = omega arith
-pending-few (Byte u) = omega arith
+pending-few (Some u) = omega arith
 
 next-less : (e : Escape) (bytes : List ℕ) (n m : ℕ) → if (ltb n (length bytes)) true (is_pending e.pending) ≡ true → (decode_next_of e bytes n).at ≤ m →
     2 * (length bytes - m) + pending_count (decode_next_of e bytes n).escape.pending < 2 * (length bytes - n) + pending_count e.pending
 unfolding decode_next_of byte_next
 next-less e bytes n m = go e.pending
   where
-    go : (p : Pending) → if (ltb n (length bytes)) true (is_pending p) ≡ true → (pending_next p e bytes n).at ≤ m →
+    go : (p : Option ℕ) → if (ltb n (length bytes)) true (is_pending p) ≡ true → (pending_next p e bytes n).at ≤ m →
         2 * (length bytes - m) + pending_count (pending_next p e bytes n).escape.pending < 2 * (length bytes - n) + pending_count p
     go None on h =
         let l : ltb n (length bytes) ≡ true = only-first (ltb n (length bytes)) on in
         let k : n + 1 ≤ m = rw l at h in
         omega (arith, k, ltb-true n (length bytes) l, pending-few (pending_next None e bytes n).escape.pending)
-    go (Byte u) on h = omega (arith, h)
+    go (Some u) on h = omega (arith, h)
 
 more-on : (t : Answered) (n end : ℕ) → is_on t n end ≡ true → if (ltb n end) true (is_pending t.control.escape.pending) ≡ true
 more-on t n end = go (is_more t.answer)

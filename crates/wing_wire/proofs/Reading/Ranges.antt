@@ -13,7 +13,7 @@ use Rattle.wing_node.proofs.Branches.{branch}
 use Rattle.wing_node.specs.Signed.{signed, InBits}
 use Rattle.wing_node.specs.Utf8.{utf8}
 use Rattle.wing_node.proofs.Numerals.Signs.{signed-in}
-use Rattle.wing_node.specs.Refusal.{alone, string_not_utf8}
+use Rattle.wing_node.specs.Refusal.{string_not_utf8}
 use Rattle.wing_wire.specs.Token.{rule_of}
 use Rattle.wing_wire.specs.State.{body_limit, fresh_state}
 use Rattle.wing_wire.specs.Escape.{decode_of, escaped_of, plain_of, other_of}
@@ -24,8 +24,6 @@ use Rattle.wing_wire.specs.declared.token.Class.{Class}
 use Rattle.wing_wire.specs.declared.token.Class.TheVariants.{NoEvent, Integer, String, Length, Int16, Int32, Float, Node, End, Count, LongCount}
 use Rattle.wing_wire.specs.declared.state.Token.{Token}
 use Rattle.wing_wire.specs.declared.state.Token.TheVariants.{Between, Number, String as InString, Body as InBody}
-use Rattle.wing_wire.specs.declared.state.Pending.{Pending}
-use Rattle.wing_wire.specs.declared.state.Pending.TheVariants.{None, Byte}
 use Rattle.wing_wire.specs.declared.state.Escape.{Escape}
 use Rattle.wing_wire.specs.declared.state.Control.{Control}
 use Rattle.wing_wire.specs.declared.escape.Unit.{Unit as Unitʷ}
@@ -35,6 +33,8 @@ use Rattle.wing_wire.specs.declared.unit.Answer.{Answer}
 use Rattle.wing_wire.specs.declared.unit.Answer.TheVariants.{More, Integer as an_integer, Float as a_float, String as a_string, Body as a_body, End as an_end, Refused}
 use Rattle.wing_wire.specs.declared.unit.Taken.{Taken}
 use Rattle.wing_wire.proofs.Reading.Sound.{UnitByte, no_unit, bare, appended}
+use Rattle.wing_node.specs.declared.refusal.Refusal.TheVariants.{BodyEmpty, BodyLong}
+use Rattle.std.specs.Prelude.{Option, ℕ, None, Some}
 
 -- ---- lists of bytes
 
@@ -118,7 +118,7 @@ module _ (node : ℤ) (node_in : InBits 31 node) where
 
   long-count-in : (c : ℕ) → TakenIn (long_count_of node c)
   unfolding long_count_of
-  long-count-in c = branch TakenIn (eqb c 0) _ _ (λ _. plainly Between (Refused (alone 3)) tt tt) (λ _. plainly (InBody 0 c c) More tt tt)
+  long-count-in c = branch TakenIn (eqb c 0) _ _ (λ _. plainly Between (Refused BodyEmpty) tt tt) (λ _. plainly (InBody 0 c c) More tt tt)
 
   number_in : (class : Class) (v : ℕ) → v < 2 ^ 32 → TakenIn (number_of node class v)
   unfolding number_of
@@ -155,7 +155,7 @@ module _ (node : ℤ) (node_in : InBits 31 node) where
   unfolding body_next body_done
   body-next-in want left stored =
       branch TakenIn (leb left 1) _ _
-      (λ _. branch TakenIn (leb want body_limit) _ _ (λ _. plainly Between (a_body stored) tt tt) (λ _. plainly Between (Refused (alone 2)) tt tt))
+      (λ _. branch TakenIn (leb want body_limit) _ _ (λ _. plainly Between (a_body stored) tt tt) (λ _. plainly Between (Refused BodyLong) tt tt))
       (λ _. plainly (InBody stored want (left - 1)) More tt tt)
 
   body-in : (want left stored u : ℕ) (s : List ℕ) (a : Bool) → u < 256 → StoreIn s → UnitEffectIn (body_unit node want left stored s u a)
@@ -216,9 +216,9 @@ pub settle-in : (c : Control) (s : List ℕ) → InRange c s → StepEffectIn (s
 unfolding settle_of
 settle-in c s g = go c.escape.pending refl g.pending
   where
-    go : (p : Pending) → c.escape.pending ≡ p → PendingByte p → StepEffectIn (pending_of p c s)
+    go : (p : Option ℕ) → c.escape.pending ≡ p → PendingByte p → StepEffectIn (pending_of p c s)
     go None e k = record { pending = g.pending; node = g.node; number = g.number; answer = tt; store = g.store }
-    go (Byte u) e (pending_byte l) =
+    go (Some u) e (pending_byte l) =
         let o = unit-in c.node g.node c.token s u true l g.store in
         record { pending = no_pending; node = o.0.node; number = o.0.number; answer = o.0.answer; store = o.1 }
 

@@ -8,8 +8,8 @@ use native.Mathlib.Omega.{arith}
 use lib.Dec.{leb, eqb}
 use lib.IntN.{ℤ}
 use lib.ListN.{take, set}
-use Rattle.wing_node.specs.Refusal.{good_beside, alone, string_not_utf8}
-use Rattle.wing_node.specs.declared.refusal.Refusal.TheVariants.{StringNotUtf8}
+use Rattle.wing_node.specs.Refusal.{good_beside, string_not_utf8}
+use Rattle.wing_node.specs.declared.refusal.Refusal.TheVariants.{StringNotUtf8, BodyEmpty, BodyLong}
 use Rattle.wing_node.specs.declared.refusal.Refusal.{Refusal}
 use Rattle.wing_node.specs.Signed.{signed}
 use Rattle.wing_node.specs.Utf8.{utf8}
@@ -21,8 +21,6 @@ use Rattle.wing_wire.specs.Unit.{single_of, token_of, begin_of, count_of, long_c
 use Rattle.wing_wire.specs.Stream.{StepEffect, is_more, pending_of, settle_of, given_of, first_of, follow_of, step_of, advance_of}
 use Rattle.wing_wire.specs.declared.token.Class.{Class}
 use Rattle.wing_wire.specs.declared.token.Class.TheVariants.{NoEvent, Integer, String, Length, Int16, Int32, Float, Node, End, Count, LongCount}
-use Rattle.wing_wire.specs.declared.state.Pending.{Pending}
-use Rattle.wing_wire.specs.declared.state.Pending.TheVariants.{None, Byte}
 use Rattle.wing_wire.specs.declared.state.Escape.{Escape}
 use Rattle.wing_wire.specs.declared.state.Token.{Token}
 use Rattle.wing_wire.specs.declared.state.Token.TheVariants.{Between, Number, String as InString, Body as InBody}
@@ -33,10 +31,11 @@ use Rattle.wing_wire.specs.declared.unit.Answer.{Answer}
 use Rattle.wing_wire.specs.declared.unit.Answer.TheVariants.{More, Integer as an_integer, Float as a_float, String as a_string, Body as a_body, End as an_end, Refused}
 use Rattle.wing_wire.specs.declared.unit.Taken.{Taken}
 use Rattle.wing_wire.proofs.Reading.Runs.{run-keeps}
+use Rattle.std.specs.Prelude.{Option, ℕ, None, Some}
 
 -- 1 with its good, 2 and 3
 abbrev pub Own : Refusal → Type 0
-Own why = (why ≡ StringNotUtf8 (good_beside why)) ⊎ ((why ≡ alone 2) ⊎ ((why ≡ alone 3) ⊎ ⊥))
+Own why = (why ≡ StringNotUtf8 (good_beside why)) ⊎ ((why ≡ BodyLong) ⊎ ((why ≡ BodyEmpty) ⊎ ⊥))
 
 -- an answer and the token after it
 abbrev Says : Answer → Token → Type 0
@@ -105,13 +104,13 @@ number-says node Node v = not-refused More Between refl
 number-says node End v = not-refused More Between refl
 number-says node Count v =
     branch SaysTaken (eqb (v % 0x10000) 0) _ _ (λ _. not-refused More (Number LongCount 4 0) refl) (λ _. not-refused More (InBody 0 (v % 0x10000) (v % 0x10000)) refl)
-number-says node LongCount v = branch SaysTaken (eqb v 0) _ _ (λ _. refuses (alone 3) (inr (inr (inl refl)))) (λ _. not-refused More (InBody 0 v v) refl)
+number-says node LongCount v = branch SaysTaken (eqb v 0) _ _ (λ _. refuses BodyEmpty (inr (inr (inl refl)))) (λ _. not-refused More (InBody 0 v v) refl)
 
 body-says : (node : ℤ) (want left stored : ℕ) → SaysTaken (body_next node want left stored)
 unfolding body_next body_done
 body-says node want left stored =
     branch SaysTaken (leb left 1) _ _
-    (λ _. branch SaysTaken (leb want body_limit) _ _ (λ _. not-refused (a_body stored) Between refl) (λ _. refuses (alone 2) (inr (inl refl))))
+    (λ _. branch SaysTaken (leb want body_limit) _ _ (λ _. not-refused (a_body stored) Between refl) (λ _. refuses BodyLong (inr (inl refl))))
     (λ _. not-refused More (InBody stored want (left - 1)) refl)
 
 -- one unit
@@ -135,9 +134,9 @@ settle-says : (c : Control) (s : List ℕ) → SaysStepEffect (settle_of c s)
 unfolding settle_of
 settle-says c s = go c.escape.pending
   where
-    go : (p : Pending) → SaysStepEffect (pending_of p c s)
+    go : (p : Option ℕ) → SaysStepEffect (pending_of p c s)
     go None = not-refused More c.token refl
-    go (Byte u) = unit-says c.node c.token s u true
+    go (Some u) = unit-says c.node c.token s u true
 
 first_says : (c : Control) (s : List ℕ) (b : ℕ) → SaysStepEffect (first_of c s b)
 unfolding first_of

@@ -12,8 +12,6 @@ use Rattle.wing_wire.specs.Reader.{Event, event_of, next_from, next_of, event_in
 use Rattle.wing_wire.specs.Range.{AreBytes, PendingByte}
 use Rattle.wing_wire.specs.Units.{pending_count}
 use Rattle.wing_wire.specs.Repeated.{Accepted, fed_state, feed_events, Repeated, NextCalls, ends, goes_on, UntilMore, CoreIsNext}
-use Rattle.wing_wire.specs.declared.state.Pending.{Pending}
-use Rattle.wing_wire.specs.declared.state.Pending.TheVariants.{None, Byte}
 use Rattle.wing_wire.specs.declared.state.Control.{Control}
 use Rattle.wing_wire.specs.declared.state.State.{State}
 use Rattle.wing_wire.specs.declared.unit.Answer.{Answer}
@@ -24,6 +22,7 @@ use Rattle.wing_wire.proofs.Reading.Bounds.{length-cleared, advance-bounded}
 use Rattle.wing_wire.proofs.Reading.Ranges.{bytes_drop}
 use Rattle.wing_wire.proofs.Reading.Sound.{sound-within, advance-good, state-parts, sound-next}
 use Rattle.wing_wire.proofs.Reading.Beside.{event-beside}
+use Rattle.std.specs.Prelude.{Option, ℕ, None, Some}
 
 -- a next call that is not sent back is the reply to a run
 pub accepted : (s : State) (bytes : List ℕ) → Accepted s bytes → next_of s bytes ≡ next_from (advance_of s.control s.store bytes)
@@ -89,9 +88,9 @@ module _ {M : Type 0} (h : ℤ → Event → M → M) where
 abbrev to_do : State → List ℕ → ℕ
 to_do s bytes = 2 * length bytes + pending_count s.control.escape.pending
 
-pending-one : (p : Pending) → pending_count p ≤ 1
+pending-one : (p : Option ℕ) → pending_count p ≤ 1
 pending-one None = omega arith
-pending-one (Byte u) = omega arith
+pending-one (Some u) = omega arith
 
 module _ (c : Control) (s : List ℕ) where
   run-on-less : (t : Bool) → is_more (settle_of c s).answered.answer ≡ t → (bs : List ℕ) → is_more (run_of (at (settle_of c s) 0) bs).effect.answered.answer ≡ false →

@@ -26,8 +26,6 @@ use Rattle.wing_wire.specs.declared.token.Class.TheVariants.{NoEvent, Integer, S
 use Rattle.wing_wire.specs.declared.token.Rule.{Rule}
 use Rattle.wing_wire.specs.declared.state.Token.{Token}
 use Rattle.wing_wire.specs.declared.state.Token.TheVariants.{Between, Number, String as InString, Body as InBody}
-use Rattle.wing_wire.specs.declared.state.Pending.{Pending}
-use Rattle.wing_wire.specs.declared.state.Pending.TheVariants.{None, Byte}
 use Rattle.wing_wire.specs.declared.state.Escape.{Escape}
 use Rattle.wing_wire.specs.declared.state.Control.{Control}
 use Rattle.wing_wire.specs.declared.state.State.{State}
@@ -41,6 +39,7 @@ use Rattle.wing_wire.specs.declared.reader.Reply.{Reply}
 use Rattle.wing_wire.proofs.Reading.Bounds.{Fits, rule_fits, unit-bounded}
 use Rattle.wing_wire.proofs.Reading.Pieces.{at, clash, settle-not-pending, stays, run_on, released-more}
 use Rattle.wing_wire.proofs.Reading.Steps.{step-not-pending}
+use Rattle.std.specs.Prelude.{Option, ℕ, None, Some}
 
 -- ---- zeros
 
@@ -412,11 +411,11 @@ decode-next-sound e bytes n sound = go e.pending refl
     g : SoundEscape e
     g = escape-parts e sound
 
-    go : (p : Pending) → e.pending ≡ p → sound_escape (pending_next p e bytes n).escape ≡ true
+    go : (p : Option ℕ) → e.pending ≡ p → sound_escape (pending_next p e bytes n).escape ≡ true
     go None fed_pending =
         let P : NextUnit → Type 0 = λ u. sound_escape u.escape ≡ true in
         branch P (ltb n (length bytes)) _ _ (λ _. escape-tested _ (decode-good e (get_or bytes n 0) g fed_pending).escape) (λ _. sound)
-    go (Byte u) waits = escape-tested _ (record { low = g.low; high = g.high; pending = refl })
+    go (Some u) waits = escape-tested _ (record { low = g.low; high = g.high; pending = refl })
 
 -- ---- runs and feeds
 
@@ -435,9 +434,9 @@ pub settle-good : (c : Control) (s : List ℕ) → Good c s → Kept (settle_of 
 unfolding settle_of sound_pending
 settle-good c s g = go c.escape.pending refl g.byte
   where
-    go : (p : Pending) → c.escape.pending ≡ p → PendingByte p → Kept (pending_of p c s)
+    go : (p : Option ℕ) → c.escape.pending ≡ p → PendingByte p → Kept (pending_of p c s)
     go None e k = (g, tt)
-    go (Byte u) e (pending_byte l) =
+    go (Some u) e (pending_byte l) =
         (record { escape = record { low = g.escape.low; high = g.escape.high; pending = refl }; byte = no_pending; token = unit-sound c.node c.token s u true l g.token }, unit-within c.node c.token s u true g.token)
 
 -- the unit that a byte gives

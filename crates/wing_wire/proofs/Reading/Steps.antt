@@ -9,11 +9,10 @@ use native.Mathlib.Omega.{arith}
 use lib.ListN.{length, drop, drop_of_length-le}
 use Rattle.wing_wire.specs.Stream.{StepEffect, is_more, pending_of, settle_of, first_of, follow_of, step_of, Run, run_of, advance_of, released, Fed, handle, fed_from, feed_of}
 use Rattle.wing_wire.specs.Units.{pending_count}
-use Rattle.wing_wire.specs.declared.state.Pending.{Pending}
-use Rattle.wing_wire.specs.declared.state.Pending.TheVariants.{None, Byte}
 use Rattle.wing_wire.specs.declared.state.Control.{Control}
 use Rattle.wing_wire.specs.declared.unit.Answer.{Answer}
 use Rattle.wing_wire.proofs.Reading.Pieces.{at, clash, settle-not-pending, stays, run_on, run_up, pending-same, handle-more, feed-next}
+use Rattle.std.specs.Prelude.{Option, ℕ, None, Some}
 
 -- a run takes no more bytes than there are
 run_in : (o : StepEffect) (n : ℕ) (bs : List ℕ) → (run_of (at o n) bs).taken ≤ n + length bs
@@ -88,9 +87,9 @@ pub settle-pending : (c : Control) (s : List ℕ) → is_more (settle_of c s).an
 unfolding settle_of
 settle-pending c s = go c.escape.pending
   where
-    go : (p : Pending) → is_more (pending_of p c s).answered.answer ≡ false → pending_count p ≡ 1
+    go : (p : Option ℕ) → is_more (pending_of p c s).answered.answer ≡ false → pending_count p ≡ 1
     go None q = absurd (clash refl q)
-    go (Byte u) q = refl
+    go (Some u) q = refl
 
 -- an answer other than more has taken a byte, or the pending byte, and then nothing is pending
 pub next-takes : (c : Control) (s bytes : List ℕ) → is_more (advance_of c s bytes).effect.answered.answer ≡ false →

@@ -18,7 +18,7 @@ use Rattle.wing_node.specs.Field.{big}
 use Rattle.wing_node.specs.Signed.{signed}
 use Rattle.wing_node.specs.Utf8.{utf8}
 use Rattle.wing_node.specs.Value.{integer, float, string}
-use Rattle.wing_node.specs.Refusal.{alone, string_not_utf8}
+use Rattle.wing_node.specs.Refusal.{string_not_utf8}
 use Rattle.wing_wire.specs.Token.{Row, rule, table, rule_in, rule_of}
 use Rattle.wing_wire.specs.State.{body_limit, control, zeros}
 use Rattle.wing_wire.specs.Unit.{completes, awaits, single_of, is_string, token_of, begin_of, count_of, long_count_of, number_of, shift_in, number_unit, UnitEffect, unit_effect, cleared, string_done, string_unit, keeps, body_done, body_next, body_unit, unit_of}
@@ -36,6 +36,7 @@ use Rattle.wing_wire.specs.declared.unit.Answer.{Answer}
 use Rattle.wing_wire.specs.declared.unit.Answer.TheVariants.{String as a_string, Refused}
 use Rattle.wing_wire.proofs.Reading.Clears.{front_read, front-cleared}
 use Rattle.wing_wire.proofs.Reading.ByUnits.{taken-append}
+use Rattle.wing_node.specs.declared.refusal.Refusal.TheVariants.{BodyEmpty, BodyLong}
 
 -- ---- the store
 
@@ -295,7 +296,7 @@ module _ {M : Type 0} (h : ℤ → Event → M → M) where
 
     -- the body, or 2
     abbrev body_of : ℕ → List StreamUnit → TokenResult
-    body_of c us = if (leb c body_limit) (event (body (appended us))) (event (refused (alone 2)))
+    body_of c us = if (leb c body_limit) (event (body (appended us))) (event (refused BodyLong))
 
     body-ends : (us : List StreamUnit) → 1 ≤ length us → units_taken handed (stands (InBody 0 (length us) (length us)) empty_store) us ≡ after h e node m (body_of (length us) us)
     unfolding body_done event_of
@@ -305,7 +306,7 @@ module _ {M : Type 0} (h : ℤ → Event → M → M) where
         t = appended us
 
         go : (q : Bool) → leb (length us) body_limit ≡ q →
-            units_taken handed (stands (InBody 0 (length us) (length us)) empty_store) us ≡ after h e node m (if q (event (body t)) (event (refused (alone 2))))
+            units_taken handed (stands (InBody 0 (length us) (length us)) empty_store) us ≡ after h e node m (if q (event (body t)) (event (refused BodyLong)))
         go true q =
             let l : length us ≤ body_limit = leb-true (length us) body_limit q in
             let few : length t ≤ body_limit = omega (arith, appended-few us) in
@@ -463,16 +464,16 @@ module _ {M : Type 0} (h : ℤ → Event → M → M) where
   force-leads e node m a c n (long z d f none k) l = rw (ne_eqb n 0 (λ z. omega arith)) at (long-leads e node m a z d f none k)
 
   body-token : (a : Bool) (c us : List StreamUnit) (n : ℕ) → InForce c n → 1 ≤ n → Further n us →
-      Token h (stream_unit 0xdf a ∷ (c ++ us)) (if (leb n body_limit) (event (body (appended us))) (event (refused (alone 2))))
+      Token h (stream_unit 0xdf a ∷ (c ++ us)) (if (leb n body_limit) (event (body (appended us))) (event (refused BodyLong)))
   body-token a c us n force some k =
-      whole (stream_unit 0xdf a ∷ (c ++ us)) (if (leb n body_limit) (event (body (appended us))) (event (refused (alone 2))))
+      whole (stream_unit 0xdf a ∷ (c ++ us)) (if (leb n body_limit) (event (body (appended us))) (event (refused BodyLong)))
       (λ e node m. leads-on h e node m (force-leads e node m a c n force some) (body-leads h e node m n us k some))
 
-  zero-token : (a : Bool) (c : List StreamUnit) (n : ℕ) → InForce c n → n ≡ 0 → Token h (stream_unit 0xdf a ∷ c) (event (refused (alone 3)))
+  zero-token : (a : Bool) (c : List StreamUnit) (n : ℕ) → InForce c n → n ≡ 0 → Token h (stream_unit 0xdf a ∷ c) (event (refused BodyEmpty))
   unfolding long_count_of event_of
   zero-token a c n (short d f some) z = absurd (omega arith)
   zero-token a c n (long y d f none k) z =
-      whole (stream_unit 0xdf a ∷ c) (event (refused (alone 3))) (λ e node m. rw (eq-eqb (big (values d)) 0 z) at (long-leads e node m a y d f none k))
+      whole (stream_unit 0xdf a ∷ c) (event (refused BodyEmpty)) (λ e node m. rw (eq-eqb (big (values d)) 0 z) at (long-leads e node m a y d f none k))
 
   -- a string from a row of first units
   row-token : (t low : ℕ) (a : Bool) (us : List StreamUnit) → rule_of t ≡ rule String (t - low + 1) → t - low + 1 ≤ 256 → Further (t - low + 1) us → Token h (stream_unit t a ∷ us) (string_of (values us))

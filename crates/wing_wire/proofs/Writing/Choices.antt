@@ -13,10 +13,11 @@ use Rattle.wing_node.proofs.Branches.{if-both}
 use Rattle.wing_node.specs.Signed.{unsigned}
 use Rattle.wing_node.specs.Utf8.{utf8}
 use Rattle.wing_node.specs.Value.{string}
-use Rattle.wing_node.specs.Refusal.{alone, string_not_utf8}
-use Rattle.wing_wire.specs.declared.write.Written.TheVariants.{Refused}
+use Rattle.wing_node.specs.Refusal.{string_not_utf8}
 use Rattle.wing_wire.specs.Write.{field, write_effect, write_of}
 use Rattle.wing_wire.specs.Command.{from◌to◌, integer_bytes, id_bytes, set_bytes, set_string, request_bytes}
+use Rattle.wing_node.specs.declared.refusal.Refusal.TheVariants.{StringLong}
+use Rattle.std.specs.Prelude.{Err}
 
 pub small : (x : ℤ) → from◌to◌ (pos 0) (pos 63) x ≡ true → T (non_neg x) × (nat_abs x < 256)
 small (pos n) t = (tt, omega (arith, leb-true n 63 (if-both (leb 0 n) (leb n 63) t).1))
@@ -49,11 +50,11 @@ request-other what (pos n) ne = simp (ne_eqb n 0 (λ e. ne (ap pos e)))
 request-other what (negsuc n) ne = refl
 
 module _ (id : ℤ) (s out : List ℕ) where
-  pub string-long : 256 < length s → write_effect (Refused (alone 10)) out ≡ set_string id s out
+  pub string-long : 256 < length s → write_effect (Err StringLong) out ≡ set_string id s out
   unfolding set_string
   string-long h = simp (lt-leb (length s) 256 h)
 
-  pub string-bad : length s ≤ 256 → utf8 s ≡ false → write_effect (Refused (string_not_utf8 s)) out ≡ set_string id s out
+  pub string-bad : length s ≤ 256 → utf8 s ≡ false → write_effect (Err (string_not_utf8 s)) out ≡ set_string id s out
   unfolding set_string
   string-bad h e = simp (le-leb (length s) 256 h, e)
 

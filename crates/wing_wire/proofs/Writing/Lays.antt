@@ -13,9 +13,9 @@ use lib.Seq.{sets, sets-eq, set_out, drop-set-add, take-set-le, take-suc, take_a
 use borrow.Author.Tests.{le-ltb, lt-ltb, ne_eqb}
 use Rattle.wing_node.specs.Bool.{if}
 use Rattle.wing_node.proofs.Numerals.Placed.{sets-append}
-use Rattle.wing_node.specs.Refusal.{alone}
-use Rattle.wing_wire.specs.declared.write.Written.TheVariants.{Bytes, Refused}
 use Rattle.wing_wire.specs.Write.{escaped, Laid, write_effect, write_of}
+use Rattle.wing_node.specs.declared.refusal.Refusal.TheVariants.{OutputShort}
+use Rattle.std.specs.Prelude.{Ok, Err}
 
 -- one byte, stored where there is room
 pub stored : (d : List ℕ) (at b : ℕ) → Laid (b ∷ []) at d (set d at b) (at + 1)
@@ -54,12 +54,12 @@ unfolding escaped
 escaped-other s i h n = rw (add-one i, take-suc s i 0 h, escaped-append (take i s) (get_or s i 0 ∷ [])) (simp (ne_eqb (get_or s i 0) 0xdf n))
 
 -- a command where there is room for it
-pub whole : (s d : List ℕ) {n : ℕ} → n ≡ length s → length s ≤ length d → write_effect (Bytes n) (s ++ drop (length s) d) ≡ write_of s d
+pub whole : (s d : List ℕ) {n : ℕ} → n ≡ length s → length s ≤ length d → write_effect (Ok n) (s ++ drop (length s) d) ≡ write_of s d
 unfolding write_of
 whole s d m h = rw (m, le-ltb (length d) (length s) h)
 
 -- and where there is none
-pub short : (s d : List ℕ) → length d < length s → write_effect (Refused (alone 9)) d ≡ write_of s d
+pub short : (s d : List ℕ) → length d < length s → write_effect (Err OutputShort) d ≡ write_of s d
 unfolding write_of
 short s d h = rw (lt-ltb (length d) (length s) h)
 
@@ -71,7 +71,7 @@ module _ {s d e : List ℕ} {n : ℕ} (a : Laid s 0 d e n) (h : length s ≤ len
   in-front = let z : 0 + length s ≡ length s = omega arith in a.bytes ∙ sets-eq s d 0 (omega arith) ∙ rw z
 
   -- a command laid straight into the output
-  pub written : write_effect (Bytes n) e ≡ write_of s d
+  pub written : write_effect (Ok n) e ≡ write_of s d
   written = rw in-front (whole s d length-is h)
 
   -- and one laid into a scratch buffer: its first n bytes are handed over

@@ -11,8 +11,9 @@ use borrow.Author.Tests.{le-ltb, lt-ltb}
 use Rattle.wing_node.specs.Field.{big, field_at}
 use Rattle.wing_node.specs.Signed.{signed}
 use Rattle.wing_node.proofs.Numerals.Placed.{field-whole}
-use Rattle.wing_wire.specs.declared.meter.MetersRead.TheVariants.{Readings, Refused}
 use Rattle.wing_wire.specs.Meter.{readings, packet_effect, packet_of}
+use Rattle.std.specs.Prelude.{Err, Ok}
+use Rattle.wing_node.specs.declared.refusal.Refusal.TheVariants.{OutputShort, PacketSize}
 
 pub readings-length : (s : List ℕ) → length (readings s) ≡ length s / 2
 unfolding readings
@@ -45,20 +46,20 @@ module _ (p : List ℕ) (out : List ℤ) where
   rest : length (readings (drop 4 p)) ≡ (length p - 4) / 2
   rest = readings-length (drop 4 p) ∙ ap (λ (n : ℕ). n / 2) (length-drop 4 p)
 
-  pub too_short : length p < 4 → packet_effect (Refused 13) out ≡ packet_of p out
+  pub too_short : length p < 4 → packet_effect (Err PacketSize) out ≡ packet_of p out
   unfolding packet_of
   too_short h = simp (lt-ltb (length p) 4 h)
 
-  pub too_long : 4 ≤ length p → 8192 < length p → packet_effect (Refused 13) out ≡ packet_of p out
+  pub too_long : 4 ≤ length p → 8192 < length p → packet_effect (Err PacketSize) out ≡ packet_of p out
   unfolding packet_of
   too_long h g = simp (le-ltb (length p) 4 h, lt-ltb 8192 (length p) g)
 
-  pub no_room : 4 ≤ length p → length p ≤ 8192 → length out < (length p - 4) / 2 → packet_effect (Refused 9) out ≡ packet_of p out
+  pub no_room : 4 ≤ length p → length p ≤ 8192 → length out < (length p - 4) / 2 → packet_effect (Err OutputShort) out ≡ packet_of p out
   unfolding packet_of
   no_room h g k = simp (le-ltb (length p) 4 h, le-ltb 8192 (length p) g, rest, lt-ltb (length out) ((length p - 4) / 2) k)
 
   pub packet-whole : (id : ℕ) → id ≡ field_at 2 p 0 → 4 ≤ length p → length p ≤ 8192 → (length p - 4) / 2 ≤ length out →
-      packet_effect (Readings id ((length p - 4) / 2)) (take ((length p - 4) / 2) (readings (drop 4 p)) ++ drop ((length p - 4) / 2) out) ≡ packet_of p out
+      packet_effect (Ok (record { id = id; count = (length p - 4) / 2 })) (take ((length p - 4) / 2) (readings (drop 4 p)) ++ drop ((length p - 4) / 2) out) ≡ packet_of p out
   unfolding packet_of
   packet-whole id e h g k =
       simp (

@@ -10,40 +10,40 @@ use lib.Dec.{ltb}
 use lib.Seq.{take-suc}
 use borrow.Author.Tests.{le-leb, lt-leb, eq-eqb, ne_eqb}
 use Rattle.wing_node.specs.Bool.{if}
-use Rattle.wing_node.specs.Refusal.{refusal_number, alone}
+use Rattle.wing_node.specs.Refusal.{refusal_number}
 use Rattle.wing_wire.specs.declared.meter.Meter.{Meter}
 use Rattle.wing_wire.specs.declared.meter.Meter.TheVariants.{Channel}
 use Rattle.wing_wire.specs.declared.meter.Requested.{Requested}
-use Rattle.wing_wire.specs.declared.meter.Requested.TheVariants.{Bytes, Refused}
-use Rattle.wing_wire.specs.declared.write.Written.{Written}
-use Rattle.wing_wire.specs.declared.write.Written.TheVariants.{Bytes as BytesWritten, Refused as WriteRefused}
 use Rattle.wing_wire.specs.Write.{Laid, WriteEffect, write_effect, write_of}
 use Rattle.wing_wire.specs.Meter.{meter_bytes, meters_bytes, meter_request, RequestEffect, request_effect, write_request_of, request_meter, keep_alive, keep_alives}
 use Rattle.wing_wire.proofs.Writing.Lays.{written, handed-over}
 use Rattle.wing_wire.proofs.Writing.Sizes.{meter-request-le}
+use Rattle.wing_node.specs.declared.refusal.Refusal.TheVariants.{OutputShort, MeterIdLast, MetersOver}
+use Rattle.wing_node.specs.Result.{Result}
+use Rattle.std.specs.Prelude.{ℕ, Ok, Err}
 
 -- a request answers as its bytes are written, with its id
 abbrev pub with_id : ℕ → WriteEffect → RequestEffect
 with_id id w = request_effect (answer w.answer) w.out
   where
-    answer : Written → Requested
-    answer (BytesWritten n) = Bytes n id
-    answer (WriteRefused why) = Refused (refusal_number why)
+    answer : Result ℕ → Result Requested
+    answer (Ok n) = Ok (record { len = n; id = id })
+    answer (Err why) = Err why
 
 write-request : (id : ℕ) (s d : List ℕ) → with_id id (write_of s d) ≡ write_request_of s id d
 unfolding write_of write_request_of
 write-request id s d = go (ltb (length d) (length s))
   where
-    go : (q : Bool) → with_id id (if q (write_effect (WriteRefused (alone 9)) d) (write_effect (BytesWritten (length s)) (s ++ drop (length s) d))) ≡ if q (request_effect (Refused 9) d) (request_effect (Bytes (length s) id) (s ++ drop (length s) d))
+    go : (q : Bool) → with_id id (if q (write_effect (Err OutputShort) d) (write_effect (Ok (length s)) (s ++ drop (length s) d))) ≡ if q (request_effect (Err OutputShort) d) (request_effect (Ok (record { len = (length s); id = id })) (s ++ drop (length s) d))
     go true = refl
     go false = refl
 
 module _ (port last : ℕ) (ms : List Meter) (count : ℕ) (out : List ℕ) where
-  pub too_many : 64 < count → request_effect (Refused 11) out ≡ request_meter port last ms count out
+  pub too_many : 64 < count → request_effect (Err MetersOver) out ≡ request_meter port last ms count out
   unfolding request_meter
   too_many h = simp (lt-leb count 64 h)
 
-  pub spent : count ≤ 64 → last ≡ 65535 → request_effect (Refused 12) out ≡ request_meter port last ms count out
+  pub spent : count ≤ 64 → last ≡ 65535 → request_effect (Err MeterIdLast) out ≡ request_meter port last ms count out
   unfolding request_meter
   spent h e = simp (le-leb count 64 h, eq-eqb last 65535 e)
 
@@ -53,11 +53,11 @@ module _ (port last : ℕ) (ms : List Meter) (count : ℕ) (out : List ℕ) wher
       ap (with_id (last + 1)) e ∙ write-request (last + 1) (meter_request port (last + 1) (take count ms)) out ∙ simp (le-leb count 64 h, ne_eqb last 65535 ne)
 
   -- laid straight into the output
-  pub request-whole : {e : List ℕ} {n : ℕ} → count ≤ 64 → (last ≡ 65535 → ⊥) → 212 ≤ length out → Laid (meter_request port (last + 1) (take count ms)) 0 out e n → request_effect (Bytes n (last + 1)) e ≡ request_meter port last ms count out
+  pub request-whole : {e : List ℕ} {n : ℕ} → count ≤ 64 → (last ≡ 65535 → ⊥) → 212 ≤ length out → Laid (meter_request port (last + 1) (take count ms)) 0 out e n → request_effect (Ok (record { len = n; id = (last + 1) })) e ≡ request_meter port last ms count out
   request-whole h ne g a = request-answer h ne (written a (omega (arith, meter-request-le port (last + 1) ms count h)))
 
   -- and into a scratch buffer, which is handed over
-  pub request-handed : {d e f : List ℕ} {n : ℕ} {r : Written} → count ≤ 64 → (last ≡ 65535 → ⊥) → 212 ≤ length d → Laid (meter_request port (last + 1) (take count ms)) 0 d e n → write_effect r f ≡ write_of (take n e) out → with_id (last + 1) (write_effect r f) ≡ request_meter port last ms count out
+  pub request-handed : {d e f : List ℕ} {n : ℕ} {r : (Result ℕ)} → count ≤ 64 → (last ≡ 65535 → ⊥) → 212 ≤ length d → Laid (meter_request port (last + 1) (take count ms)) 0 d e n → write_effect r f ≡ write_of (take n e) out → with_id (last + 1) (write_effect r f) ≡ request_meter port last ms count out
   request-handed h ne g a e = request-answer h ne (e ∙ handed-over a (omega (arith, meter-request-le port (last + 1) ms count h)) out)
 
 meters-append : (ms ns : List Meter) → meters_bytes (ms ++ ns) ≡ meters_bytes ms ++ meters_bytes ns

@@ -20,8 +20,6 @@ use Rattle.wing_node.proofs.Characters.Fronts.{matches-length}
 use borrow.Author.Tests.{ltb-true, ltb-false, ne_eqb}
 use Rattle.wing_wire.proofs.Writing.Lays.{escaped-append}
 use Rattle.wing_node.proofs.Numerals.Numbers.{length-digits_in}
-use Rattle.wing_wire.specs.declared.set.Suffix.{Suffix}
-use Rattle.wing_wire.specs.declared.set.Suffix.TheVariants.{None, Byte}
 use Rattle.wing_wire.specs.declared.meter.Meter.{Meter}
 use Rattle.wing_wire.specs.declared.meter.Meter.TheVariants.{Channel}
 use Rattle.wing_wire.specs.declared.meter.MeterItem.{MeterItem}
@@ -29,6 +27,7 @@ use Rattle.wing_wire.specs.declared.meter.MeterItem.TheVariants.{Alone, Indexed}
 use Rattle.wing_wire.specs.Meter.{item_of, item_bytes, meter_bytes, meters_bytes, request_head, meter_request, keep_alive, keep_alives}
 use Rattle.wing_wire.specs.Write.{escaped, field}
 use Rattle.wing_wire.specs.Command.{from◌to◌, integer_bytes, float_bytes, length_bytes, string_bytes, value_bytes, id_bytes, suffix_bytes, set_bytes, request_bytes}
+use Rattle.std.specs.Prelude.{Option, ℕ, None, Some}
 
 -- either of two lists
 either-le : (q : Bool) (s t : List ℕ) (n : ℕ) → length s ≤ n → length t ≤ n → length (if q s t) ≤ n
@@ -47,10 +46,10 @@ pub id-le : (prefix : ℕ) (id : ℤ) (t : List ℕ) → length (id_bytes prefix
 unfolding id_bytes
 id-le prefix id t = omega (arith, field-le 4 (unsigned 31 id), length-append (field 4 (unsigned 31 id)) t)
 
-pub format-le : (prefix : ℕ) (id : ℤ) (suffix : Suffix) → length (id_bytes prefix id (suffix_bytes suffix)) ≤ 10
+pub format-le : (prefix : ℕ) (id : ℤ) (suffix : Option ℕ) → length (id_bytes prefix id (suffix_bytes suffix)) ≤ 10
 unfolding suffix_bytes
 format-le prefix id None = omega (arith, id-le prefix id [])
-format-le prefix id (Byte b) = omega (arith, id-le prefix id (b ∷ []))
+format-le prefix id (Some b) = omega (arith, id-le prefix id (b ∷ []))
 
 integer-le : (x : ℤ) → length (integer_bytes x) ≤ 9
 unfolding integer_bytes
@@ -175,7 +174,7 @@ keep-alives-le port zero = omega arith
 keep-alives-le port (suc last) = omega (arith, length-append (keep_alive port (suc last)) (keep_alives port last), keep-alive-le port (suc last), keep-alives-le port last)
 
 -- each size is reached: by ids, values and ports of df alone, and by a string of 128 characters that begin with df
-pub format-reached : length (id_bytes 0xd7 (negsuc 0x20202020) (suffix_bytes (Byte 0))) ≡ 10
+pub format-reached : length (id_bytes 0xd7 (negsuc 0x20202020) (suffix_bytes (Some 0))) ≡ 10
 unfolding id_bytes suffix_bytes escaped digits_in
 format-reached = refl
 

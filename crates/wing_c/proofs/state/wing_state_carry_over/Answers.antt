@@ -1,12 +1,12 @@
 -- What `load_earlier` answers says what the bytes are carried over as (`earlier-good`, `earlier-refused`); its bytes read as that state (`carried-reads`).
 use mathlib.Core.Path.{refl}
-use Rattle.wing_wire.specs.declared.write.Written.TheVariants.{Refused}
 use Rattle.wing_saved.proofs.Saving.Types.{are-bytes}
 use Rattle.wing_c.specs.Kept.{carried_kept, state_carried}
 use Rattle.wing_c.proofs.Effects.{command-as}
 use Rattle.wing_c.proofs.Loads.{earlier-good, earlier-refused}
 use Rattle.wing_c.proofs.Keeps.{carried-reads}
 use Rattle.wing_c.proofs.state.wing_state_carry_over.Goals as goal
+use Rattle.std.specs.Prelude.{Err}
 
 pub returns-in-Good : goal.returns-in-Good
 unfolding carried_kept state_carried
@@ -21,4 +21,4 @@ unfolding carried_kept state_carried
 returns-in-Refused c =
     let a = c.args in
     let over = earlier-refused a.earlier.now c.load_earlier-loaded.result _ c.load_earlier-loaded.ensures c.in-Refused.is in
-    rw over (record { state_after = command-as (Refused c.in-Refused.why) c.written-in-Refused.ensures refl; state_after_2 = λ _. refl })
+    rw over (record { state_after = command-as (Err c.in-Refused.why) c.written-in-Refused.ensures refl; state_after_2 = λ _. refl })

@@ -1,11 +1,11 @@
 -- Each arm is the line of `kept_of` with that variant, by the contracts of `put` and `refused`.
-use Rattle.wing_wire.specs.declared.write.Written.TheVariants.{Bytes}
 use Rattle.wing_mirror.specs.Sets.{kept_of}
 use Rattle.wing_mirror.specs.Puts.{PutEffect}
 use Rattle.wing_mirror.specs.Table.{table}
 use Rattle.wing_mirror.proofs.Records.Ready.{in_order_lem, put_is}
 use mathlib.Core.Path.{◌∙◌, ap}
 use Rattle.wing_mirror.proofs.set.keep_written.Goals as goal
+use Rattle.std.specs.Prelude.{Ok}
 
 pub put-kept-requires : goal.put-kept-requires
 put-kept-requires c =
@@ -14,7 +14,7 @@ put-kept-requires c =
 pub returns-in-Bytes : goal.returns-in-Bytes
 unfolding kept_of
 returns-in-Bytes c =
-    rw c.in-Bytes.is (ap (λ (d : PutEffect). record { answer = Bytes c.in-Bytes.n; after = d.after }) (c.put-kept.ensures ∙ put_is c.args.rec.now (table c.args.table.now c.args.count)))
+    rw c.in-Bytes.is (ap (λ (d : PutEffect). record { answer = Ok c.in-Bytes.n; after = d.after }) (c.put-kept.ensures ∙ put_is c.args.rec.now (table c.args.table.now c.args.count)))
 
 pub returns-in-Refused : goal.returns-in-Refused
 unfolding kept_of

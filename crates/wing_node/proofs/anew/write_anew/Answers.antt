@@ -1,13 +1,16 @@
--- The contract of the parser says which of the two arms it is.
-use mathlib.Core.Path.{◌∙◌}
-use Rattle.wing_node.specs.Anew.{anew_of}
+-- The contract of the parser says which of the two it is.
+use mathlib.Core.Path.{◌∙◌, ap}
+use Rattle.wing_node.specs.Anew.{anew_from, anew_of}
+use Rattle.wing_node.specs.Writer.{body_effect}
+use Rattle.wing_node.proofs.Refusals.{handed-on}
 use Rattle.wing_node.proofs.anew.write_anew.Goals as goal
 
-pub returns-in-Good : goal.returns-in-Good
+pub returns-in_err-d : goal.returns-in_err-d
 unfolding anew_of
-returns-in-Good c =
-    c.write_read.ensures ∙ simp (← c.from_bytes-parsed.ensures, c.in-Good.is)
+returns-in_err-d c =
+    let args = c.args in
+    ap (λ r. body_effect r args.out.now) (handed-on _ _ c.from_residual.ensures.1) ∙ ap (λ p. anew_from args.body.now p args.out.now) c.in_err-d.ensures
 
-pub returns-in-Refused : goal.returns-in-Refused
+pub returns : goal.returns
 unfolding anew_of
-returns-in-Refused c = simp (← c.from_bytes-parsed.ensures, c.in-Refused.is)
+returns c = c.write_read.ensures ∙ simp (← c.in_ok-d.ensures)

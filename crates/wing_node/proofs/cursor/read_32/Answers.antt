@@ -8,15 +8,15 @@ use Rattle.wing_node.proofs.Numerals.Placed.{field-whole}
 use Rattle.wing_node.proofs.Bodies.Cases.{read-refused, read_short, read-there}
 use Rattle.wing_node.proofs.cursor.read_32.Goals as goal
 
-pub returns-then-is_refused : goal.returns-then-is_refused
-returns-then-is_refused c = c.refuse.ensures ∙ sym (read-refused (number 4) _ _ (sym c.is_refused.ensures ∙ c.if-is_refused.true))
+pub returns-then-is_err : goal.returns-then-is_err
+returns-then-is_err c = c.refuse.ensures ∙ sym (read-refused (number 4) _ _ (sym c.is_err.ensures.value ∙ c.if-is_err.true))
 
 pub returns-then-left-lt4 : goal.returns-then-left-lt4
 unfolding size
 returns-then-left-lt4 c =
     let k = c.args.c in
-    let whole = sym c.is_refused.ensures ∙ c.if-is_refused.false in
-    c.refuse-then-left-lt4.ensures ∙ ap (λ x. nothing (stopped k x)) c.by_number.ensures ∙ sym (read_short (number 4) _ k whole (omega arith))
+    let whole = sym c.is_err.ensures.value ∙ c.if-is_err.false in
+    c.refuse-then-left-lt4.ensures ∙ sym (read_short (number 4) _ k whole (omega arith))
 
 pub returns : goal.returns
 unfolding size right value_of content_at
@@ -24,4 +24,4 @@ returns c =
     let k = c.args.c in
     let body = c.args.body.now in
     let here : 4 ≤ length body - k.at = omega arith in
-    simp (read-there (number 4) body k (sym c.is_refused.ensures ∙ c.if-is_refused.false) here refl, c.u32_at.ensures, field-whole 4 body k.at here)
+    simp (read-there (number 4) body k (sym c.is_err.ensures.value ∙ c.if-is_err.false) here refl, c.u32_at.ensures, field-whole 4 body k.at here)

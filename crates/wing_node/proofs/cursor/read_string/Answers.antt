@@ -8,20 +8,20 @@ use Rattle.wing_node.specs.Cursor.{stopped, nothing, string}
 use Rattle.wing_node.proofs.Bodies.Cases.{read-refused, string-short, string-wrong, string-right}
 use Rattle.wing_node.proofs.cursor.read_string.Goals as goal
 
-pub returns-then-is_refused : goal.returns-then-is_refused
-returns-then-is_refused c = c.refuse.ensures ∙ sym (read-refused string _ _ (sym c.is_refused.ensures ∙ c.if-is_refused.true))
+pub returns-then-is_err : goal.returns-then-is_err
+returns-then-is_err c = c.refuse.ensures ∙ sym (read-refused string _ _ (sym c.is_err.ensures.value ∙ c.if-is_err.true))
 
 pub returns-then-there-lt1 : goal.returns-then-there-lt1
 returns-then-there-lt1 c =
     let k = c.args.c in
-    let open-yet = sym c.is_refused.ensures ∙ c.if-is_refused.false in
-    c.refuse-then-there-lt1.ensures ∙ ap (λ x. nothing (stopped k x)) c.by_number.ensures ∙ sym (string-short _ k open-yet (omega arith))
+    let open-yet = sym c.is_err.ensures.value ∙ c.if-is_err.false in
+    c.refuse-then-there-lt1.ensures ∙ sym (string-short _ k open-yet (omega arith))
 
 pub returns-then-rest-len : goal.returns-then-rest-len
 returns-then-rest-len c =
     let k = c.args.c in
-    let open-yet = sym c.is_refused.ensures ∙ c.if-is_refused.false in
-    c.refuse-then-rest-len.ensures ∙ ap (λ x. nothing (stopped k x)) c.by_number-then-rest-len.ensures ∙ sym (string-short _ k open-yet (omega arith))
+    let open-yet = sym c.is_err.ensures.value ∙ c.if-is_err.false in
+    c.refuse-then-rest-len.ensures ∙ sym (string-short _ k open-yet (omega arith))
 
 pub overflow_cast-good : goal.overflow_cast-good
 overflow_cast-good c =
@@ -32,7 +32,7 @@ returns-then-good-len c =
     let k = c.args.c in
     let e = c.least.result in
     let n : k.at + 1 + e - (k.at + 1) ≡ get_or c.args.body.now k.at 0 = omega arith in
-    let open-yet = sym c.is_refused.ensures ∙ c.if-is_refused.false in
+    let open-yet = sym c.is_err.ensures.value ∙ c.if-is_err.false in
     c.refuse-then-good-len.ensures ∙ sym (string-wrong c.args.body.now k open-yet (omega arith) (omega arith) _ (rw n at c.good_len-good.ensures.value) c.if-good-len.true)
 
 pub overflow_cast-result : goal.overflow_cast-result
@@ -45,5 +45,5 @@ returns c =
     let e = c.least.result in
     let all : e ≡ get_or c.args.body.now k.at 0 = omega arith in
     let n : k.at + 1 + e - (k.at + 1) ≡ get_or c.args.body.now k.at 0 = omega (arith, all) in
-    let open-yet = sym c.is_refused.ensures ∙ c.if-is_refused.false in
+    let open-yet = sym c.is_err.ensures.value ∙ c.if-is_err.false in
     rw all (sym (string-right c.args.body.now k open-yet (omega arith) (omega arith) _ (rw n at c.good_len-good.ensures.value) (omega arith)))

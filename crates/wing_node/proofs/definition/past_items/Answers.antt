@@ -7,8 +7,8 @@ use Rattle.wing_node.specs.Definition.{items_of}
 use Rattle.wing_node.proofs.Bodies.Fields.{after-refused, items-turn, items-none}
 use Rattle.wing_node.proofs.definition.past_items.Goals as goal
 
-pub returns-then-is_refused : goal.returns-then-is_refused
-returns-then-is_refused c = sym (c.loop-left.invariant ∙ after-refused _ _ _ (sym c.is_refused.ensures ∙ c.if-is_refused.true))
+pub returns-then-is_err : goal.returns-then-is_err
+returns-then-is_err c = sym (c.loop-left.invariant ∙ after-refused _ _ _ (sym c.is_err.ensures.value ∙ c.if-is_err.true))
 
 pub loop-left-preserved : goal.loop-left-preserved
 loop-left-preserved c =

@@ -4,7 +4,7 @@ use mathlib.Core.Path.{◌≡◌, refl}
 use mathlib.Core.List.{[], ◌∷◌}
 use Rattle.wing_node.specs.Cursor.{reads, after}
 use Rattle.wing_node.specs.Definition.{item_at}
-use Rattle.wing_node.specs.declared.definition.Item.TheVariants.{None}
+use Rattle.std.specs.Prelude.{None}
 use Rattle.wing_node.proofs.Arms.{by_arm}
 use Rattle.wing_node.proofs.definition.read_item.Goals as goal
 

@@ -1,11 +1,13 @@
 -- The contract of `items_begin` says which line of `numbered_in` counts, and that of `numbered` gives the item.
-use Rattle.wing_node.specs.Items.{item_numbered}
+use mathlib.Core.Path.{◌∙◌, ap}
+use Rattle.wing_node.specs.Items.{numbered_in, item_numbered}
+use Rattle.wing_node.proofs.Refusals.{handed-on}
 use Rattle.wing_node.proofs.items.item_by_number.Goals as goal
 
-pub returns-in-Good : goal.returns-in-Good
+pub returns-in_err-first : goal.returns-in_err-first
 unfolding item_numbered
-returns-in-Good c = simp (← c.items_begin-begun.ensures, c.in-Good.is, c.numbered.ensures)
+returns-in_err-first c = handed-on _ _ c.from_residual.ensures.1 ∙ ap (numbered_in c.args.body.now c.args.number) c.in_err-first.ensures
 
-pub returns-in-Refused : goal.returns-in-Refused
+pub returns : goal.returns
 unfolding item_numbered
-returns-in-Refused c = simp (← c.items_begin-begun.ensures, c.in-Refused.is)
+returns c = simp (← c.in_ok-first.ensures, c.numbered.ensures)

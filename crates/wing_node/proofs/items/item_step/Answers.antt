@@ -3,18 +3,18 @@ use borrow.Author.Tests.{eq-eqb, ne_eqb}
 use Rattle.wing_node.specs.Items.{step_at}
 use Rattle.wing_node.proofs.items.item_step.Goals as goal
 
-pub returns-then-left-eq0 : goal.returns-then-left-eq0
+pub returns-then-walk-eq0 : goal.returns-then-walk-eq0
 unfolding step_at
-returns-then-left-eq0 c = simp (eq-eqb _ _ c.if-left-eq0.true, c.stay.ensures)
+returns-then-walk-eq0 c = simp (eq-eqb _ _ c.if-walk-eq0.true, c.stay.ensures)
 
-pub returns-in-None : goal.returns-in-None
+pub returns-in-Ok : goal.returns-in-Ok
 unfolding step_at
-returns-in-None c = simp (ne_eqb _ _ c.if-left-eq0.false, ← c.has_items.ensures, c.if-has_items.true, ← c.read_item-read.ensures, c.in-None.is, c.stay-in-None.ensures)
+returns-in-Ok c = simp (ne_eqb _ _ c.if-walk-eq0.false, ← c.has_items.ensures, c.if-has_items.true, ← c.read_item-read.ensures, c.in-Ok.is, c.stay-in-Ok.ensures)
 
-pub returns-in-Refused : goal.returns-in-Refused
+pub returns-in-Err : goal.returns-in-Err
 unfolding step_at
-returns-in-Refused c = simp (ne_eqb _ _ c.if-left-eq0.false, ← c.has_items.ensures, c.if-has_items.true, ← c.read_item-read.ensures, c.in-Refused.is, c.stay-in-Refused.ensures)
+returns-in-Err c = simp (ne_eqb _ _ c.if-walk-eq0.false, ← c.has_items.ensures, c.if-has_items.true, ← c.read_item-read.ensures, c.in-Err.is, c.stay-in-Err.ensures)
 
 pub returns : goal.returns
 unfolding step_at
-returns c = simp (ne_eqb _ _ c.if-left-eq0.false, ← c.has_items.ensures, c.if-has_items.false, c.stay-2.ensures)
+returns c = simp (ne_eqb _ _ c.if-walk-eq0.false, ← c.has_items.ensures, c.if-has_items.false, c.stay-2.ensures)

@@ -9,4 +9,4 @@ returns-then-first-number c = simp (le-leb _ _ c.if-first-number.true)
 
 pub returns : goal.returns
 unfolding numbered_from
-returns c = simp (lt-leb _ _ c.if-first-number.false, c.past_items-c.ensures, c.item_step-there.ensures)
+returns c = simp (lt-leb _ _ c.if-first-number.false, c.past_items-c.ensures, c.item_step.ensures)

@@ -23,7 +23,7 @@ pub returns-in-StringEnum : goal.returns-in-StringEnum
 returns-in-StringEnum c =
     let args = c.args in
     let joined = two-strings args.items.now args.at _ _ _ _ c.check_string-item.ensures c.check_string-long_item.ensures in
-    rw c.in-StringEnum.is (joined.0, c.first_fault.ensures ∙ joined.1)
+    rw c.in-StringEnum.is (joined.0, c.and.ensures ∙ joined.1)
 
 pub returns-in-FloatEnum : goal.returns-in-FloatEnum
 returns-in-FloatEnum c =

@@ -7,10 +7,10 @@ use Rattle.wing_node.proofs.Bodies.Checks.{with_items, with-count, with-bytes, w
 use Rattle.wing_node.proofs.writer.fields_fault.Goals as goal
 
 pub returns-then-node_type-gt7 : goal.returns-then-node_type-gt7
-returns-then-node_type-gt7 c = simp (c.by_number.ensures, lt-ltb _ _ c.if-node_type-gt7.true)
+returns-then-node_type-gt7 c = simp (lt-ltb _ _ c.if-node_type-gt7.true)
 
 pub returns-then-unit-gt7 : goal.returns-then-unit-gt7
-returns-then-unit-gt7 c = simp (c.by_number-then-unit-gt7.ensures, le-ltb _ _ c.if-node_type-gt7.false, lt-ltb _ _ c.if-unit-gt7.true)
+returns-then-unit-gt7 c = simp (le-ltb _ _ c.if-node_type-gt7.false, lt-ltb _ _ c.if-unit-gt7.true)
 
 pub returns-then-has_items : goal.returns-then-has_items
 returns-then-has_items c =
@@ -23,12 +23,12 @@ pub returns-then-count-gt0 : goal.returns-then-count-gt0
 returns-then-count-gt0 c =
     let args = c.args in
     let h : has_items (type_of args.node_type) ≡ false = rw c.type_of-kind.ensures at (sym c.has_items.ensures ∙ c.if-has_items.false) in
-    c.by_number-then-count-gt0.ensures ∙ with-count args.node_type args.unit args.count args.items.now args.names c.if-node_type-gt7.false c.if-unit-gt7.false h c.if-count-gt0.true
+    with-count args.node_type args.unit args.count args.items.now args.names c.if-node_type-gt7.false c.if-unit-gt7.false h c.if-count-gt0.true
 
 pub returns-then-items-gt0 : goal.returns-then-items-gt0
 returns-then-items-gt0 c =
     let args = c.args in
-    c.by_number-then-items-gt0.ensures ∙ with-bytes args.node_type args.unit args.count args.items.now args.names c.if-node_type-gt7.false c.if-unit-gt7.false c.if-count-gt0.false c.if-items-gt0.true
+    with-bytes args.node_type args.unit args.count args.items.now args.names c.if-node_type-gt7.false c.if-unit-gt7.false c.if-count-gt0.false c.if-items-gt0.true
 
 pub returns-else-items-gt0 : goal.returns-else-items-gt0
 returns-else-items-gt0 c =

@@ -16,7 +16,7 @@ loop-left-init c = (omega arith, refl)
 pub returns-then-items-passed : goal.returns-then-items-passed
 returns-then-items-passed c =
     let args = c.args in
-    simp (c.by_number.ensures, ne_eqb (extent (items_of args.kind args.count) args.items.now) (length args.items.now) (λ e. omega (arith, c.loop-left.invariant.0)))
+    simp (ne_eqb (extent (items_of args.kind args.count) args.items.now) (length args.items.now) (λ e. omega (arith, c.loop-left.invariant.0)))
 
 pub loop-left-preserved : goal.loop-left-preserved
 loop-left-preserved c =
@@ -27,14 +27,14 @@ loop-left-preserved c =
     let s = args.items.now in
     let e = c.check_item-item.ensures.0 in (
       rw e (sym (items-extent args.kind n p.at s some) ∙ c.loop-left.invariant.0),
-      rw (e, c.first_fault.ensures, c.check_item-item.ensures.1) (first-assoc p.fault _ _ ∙ ap (first_fault p.fault) (sym (items-texts args.kind n p.at s some)) ∙ c.loop-left.invariant.1),
+      rw (e, c.and.ensures, c.check_item-item.ensures.1) (first-assoc p.fault _ _ ∙ ap (first_fault p.fault) (sym (items-texts args.kind n p.at s some)) ∙ c.loop-left.invariant.1),
     )
 
 pub returns-then-passed-items : goal.returns-then-passed-items
 returns-then-passed-items c =
     let args = c.args in
     let none = no-extent args.kind c.loop-left.left (drop c.loop-left.passed.at args.items.now) c.loop-left-test.false in
-    simp (c.by_number-then-passed-items.ensures, ne_eqb (extent (items_of args.kind args.count) args.items.now) (length args.items.now) (λ e. c.if-passed-items.true (omega (arith, c.loop-left.invariant.0))))
+    simp (ne_eqb (extent (items_of args.kind args.count) args.items.now) (length args.items.now) (λ e. c.if-passed-items.true (omega (arith, c.loop-left.invariant.0))))
 
 pub returns : goal.returns
 returns c =

@@ -2,7 +2,7 @@
 use mathlib.Core.Bool.{true, false}
 use mathlib.Core.Path.{◌≡◌, sym, ◌∙◌}
 use Rattle.wing_wire.specs.State.{sound_state}
-use Rattle.wing_wire.specs.Earlier.{carried, carry_of, carried_as}
+use Rattle.wing_wire.specs.Earlier.{carried, carry_of}
 use Rattle.wing_wire.proofs.Reading.CarriedOver.{sound-carried}
 use Rattle.wing_wire.proofs.earlier.carry_over.Goals as goal
 
@@ -10,16 +10,16 @@ pub returns-then-is_started : goal.returns-then-is_started
 unfolding carry_of
 returns-then-is_started c =
     let u = sym c.is_started.ensures ∙ c.if-is_started.true in
-    rw u c.refuse.ensures
+    simp u
 
 pub returns-then-is_sound : goal.returns-then-is_sound
-unfolding carry_of carried_as
+unfolding carry_of
 returns-then-is_sound c =
     let s = c.args.s in
     let over = c.carried_state-over.ensures in
     let u = sym c.is_started.ensures ∙ c.if-is_started.false in
     let k : sound_state (carried s) ≡ true = rw over at (sym c.is_sound.ensures ∙ c.if-is_sound.true) in
-    rw (over, u, sym (sound-carried s) ∙ k)
+    simp (over, u, sym (sound-carried s) ∙ k)
 
 pub returns : goal.returns
 unfolding carry_of
@@ -27,4 +27,4 @@ returns c =
     let s = c.args.s in
     let u = sym c.is_started.ensures ∙ c.if-is_started.false in
     let k : sound_state (carried s) ≡ false = rw c.carried_state-over.ensures at (sym c.is_sound.ensures ∙ c.if-is_sound.false) in
-    rw (u, sym (sound-carried s) ∙ k) c.refuse-2.ensures
+    simp (u, sym (sound-carried s) ∙ k)

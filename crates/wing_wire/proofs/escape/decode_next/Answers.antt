@@ -15,9 +15,9 @@ pub returns-else-at-bytes : goal.returns-else-at-bytes
 unfolding decode_next_of byte_next
 returns-else-at-bytes c = simp (c.in-None.is, le-ltb _ _ c.if-at-bytes.false)
 
-pub returns-in-Byte : goal.returns-in-Byte
+pub returns-in-Some : goal.returns-in-Some
 unfolding decode_next_of
-returns-in-Byte c =
+returns-in-Some c =
     let k = c.args.e in
     let back : to_z w8 (of_z w8 k.channel) ≡ k.channel = search rules in
-    simp (c.escape_of-after.ensures, c.in-Byte.is) (rw back)
+    simp (c.escape_of-after.ensures, c.in-Some.is) (rw back)

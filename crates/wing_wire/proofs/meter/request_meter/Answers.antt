@@ -1,12 +1,10 @@
 -- Each return is a case of `request_meter` (`too_many`, `spent`, `request-whole`, `request-handed`); no request is over 212 bytes (`meter-request-le`), so
 -- an output or scratch buffer of that size has room for it.
-use Prim.Native.Nat.{ℕ, ◌+◌}
-use mathlib.Core.Path.{sym, ap, ◌∙◌}
+use Prim.Native.Nat.{◌+◌}
+use mathlib.Core.Path.{ap, ◌∙◌}
 use native.Mathlib.Omega.{arith}
-use Rattle.wing_wire.specs.declared.write.Written.{Written}
-use Rattle.wing_wire.specs.Write.{write_effect}
 use Rattle.wing_wire.specs.Meter.{request_effect}
-use Rattle.wing_wire.specs.declared.meter.Requested.TheVariants.{Refused}
+use Rattle.wing_node.proofs.Refusals.{handed-on}
 use Rattle.wing_wire.proofs.Writing.Requests.{too_many, spent, request-whole, request-handed}
 use Rattle.wing_wire.proofs.Writing.Sizes.{meter-request-le}
 use Rattle.wing_wire.proofs.meter.request_meter.Goals as goal
@@ -24,20 +22,18 @@ returns-then-out-ge212 c =
     let a = c.args in
     request-whole a.port a.last_id a.meters a.count a.out.now (omega arith) c.if-last_id-eq65535.false (omega arith) c.lay_meter_request-len.ensures
 
-pub hand_over-w-requires : goal.hand_over-w-requires
-hand_over-w-requires c =
+pub hand_over-requires : goal.hand_over-requires
+hand_over-requires c =
     let a = c.args in
     omega (arith, c.lay_meter_request-n.ensures.next, meter-request-le a.port (a.last_id + 1) a.meters a.count (omega arith))
 
-pub returns-in-Bytes : goal.returns-in-Bytes
-returns-in-Bytes c =
+pub returns : goal.returns
+returns c =
     let a = c.args in
-    request-handed a.port a.last_id a.meters a.count a.out.now (omega arith) c.if-last_id-eq65535.false (omega arith) c.lay_meter_request-n.ensures
-    (ap (λ (r : Written). write_effect r c.hand_over-w.new.out) (sym c.in-Bytes.is) ∙ c.hand_over-w.ensures)
+    request-handed a.port a.last_id a.meters a.count a.out.now (omega arith) c.if-last_id-eq65535.false (omega arith) c.lay_meter_request-n.ensures c.in_ok-len.ensures
 
-pub returns-in-Refused : goal.returns-in-Refused
-returns-in-Refused c =
+pub returns-in_err-len : goal.returns-in_err-len
+returns-in_err-len c =
     let a = c.args in
-    ap (λ (n : ℕ). request_effect (Refused n) c.hand_over-w.new.out) c.number.ensures ∙
-    request-handed a.port a.last_id a.meters a.count a.out.now (omega arith) c.if-last_id-eq65535.false (omega arith) c.lay_meter_request-n.ensures
-    (ap (λ (r : Written). write_effect r c.hand_over-w.new.out) (sym c.in-Refused.is) ∙ c.hand_over-w.ensures)
+    ap (λ r. request_effect r c.hand_over.new.out) (handed-on _ _ c.from_residual.ensures.1) ∙
+    request-handed a.port a.last_id a.meters a.count a.out.now (omega arith) c.if-last_id-eq65535.false (omega arith) c.lay_meter_request-n.ensures c.in_err-len.ensures

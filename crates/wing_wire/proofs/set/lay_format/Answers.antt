@@ -10,8 +10,8 @@ returns-in-None c =
     let z = to_z-of_z c.ranges.id in
     rw c.in-None.is (then (rw z at c.lay_id-at.ensures.laid) (nothing _ _))
 
-pub returns-in-Byte : goal.returns-in-Byte
+pub returns-in-Some : goal.returns-in-Some
 unfolding id_bytes suffix_bytes
-returns-in-Byte c =
+returns-in-Some c =
     let z = to_z-of_z c.ranges.id in
-    rw c.in-Byte.is (then (rw z at c.lay_id-at.ensures.laid) c.lay.ensures)
+    rw c.in-Some.is (then (rw z at c.lay_id-at.ensures.laid) c.lay.ensures)

@@ -1,13 +1,14 @@
 -- Each return is a case of `set_string` (`string-long`, `string-bad`, `string-good`); an order of UTF-8 is not over 395 bytes (`set-string-le`), so
 -- it is laid straight into out (law `written`) or into a scratch buffer and handed over (law `handed-over`).
 use mir.Facts.{to_z-of_z}
-use mathlib.Core.Path.{◌≡◌, sym, ◌∙◌}
+use mathlib.Core.Path.{◌≡◌, ap, sym, ◌∙◌}
 use mathlib.Core.Bool.{true}
 use native.Mathlib.Omega.{arith}
 use lib.Seq.{take_all}
 use Rattle.wing_node.specs.Utf8.{utf8}
-use Rattle.wing_node.proofs.Refusals.{string-right, string-wrong}
+use Rattle.wing_node.proofs.Refusals.{handed-on, string-right, string-wrong}
 use Rattle.wing_node.proofs.Characters.Grammar.{decides}
+use Rattle.wing_wire.specs.Write.{write_effect}
 use Rattle.wing_wire.proofs.Writing.Choices.{string-long, string-bad, string-good}
 use Rattle.wing_wire.proofs.Writing.Lays.{written, handed-over}
 use Rattle.wing_wire.proofs.Writing.Sizes.{set-string-le}
@@ -17,17 +18,17 @@ pub returns-then-value-gt256 : goal.returns-then-value-gt256
 returns-then-value-gt256 c =
     string-long c.args.id c.args.value.now c.args.out.now c.if-value-gt256.true
 
-pub returns-in-Refused : goal.returns-in-Refused
-returns-in-Refused c =
+pub returns-in_err-string_fault : goal.returns-in_err-string_fault
+returns-in_err-string_fault c =
     let s = c.args.value.now in
-    let w = string-wrong s _ (sym (rw (take_all 256 s c.if-value-gt256.false) at c.string_fault-fault.ensures) ∙ c.in-Refused.is) in
-    rw w.1 (string-bad c.args.id s c.args.out.now (omega arith) w.0)
+    let w = string-wrong s _ (sym (rw (take_all 256 s c.if-value-gt256.false) at c.in_err-string_fault.ensures)) in
+    ap (λ r. write_effect r c.args.out.now) (handed-on _ _ c.from_residual.ensures.1) ∙ rw w.1 (string-bad c.args.id s c.args.out.now (omega arith) w.0)
 
 pub returns-then-out-ge395 : goal.returns-then-out-ge395
 returns-then-out-ge395 c =
     let s = c.args.value.now in
     let z = to_z-of_z c.ranges.id in
-    let u : utf8 s ≡ true = string-right s (sym (rw (take_all 256 s c.if-value-gt256.false) at c.string_fault-fault.ensures) ∙ c.in-None.is) in
+    let u : utf8 s ≡ true = string-right s (sym (rw (take_all 256 s c.if-value-gt256.false) at c.in_ok-string_fault.ensures)) in
     written (rw z at c.lay_set_string.ensures) (omega (arith, set-string-le c.args.id s ((decides s).right u) (omega arith)))
     ∙ string-good c.args.id s c.args.out.now (omega arith) u
 
@@ -35,14 +36,14 @@ pub hand_over-requires : goal.hand_over-requires
 hand_over-requires c =
     let s = c.args.value.now in
     let z = to_z-of_z c.ranges.id in
-    let u : utf8 s ≡ true = string-right s (sym (rw (take_all 256 s c.if-value-gt256.false) at c.string_fault-fault.ensures) ∙ c.in-None.is) in
+    let u : utf8 s ≡ true = string-right s (sym (rw (take_all 256 s c.if-value-gt256.false) at c.in_ok-string_fault.ensures)) in
     omega (arith, (rw z at c.lay_set_string-n.ensures).next, set-string-le c.args.id s ((decides s).right u) (omega arith))
 
 pub returns : goal.returns
 returns c =
     let s = c.args.value.now in
     let z = to_z-of_z c.ranges.id in
-    let u : utf8 s ≡ true = string-right s (sym (rw (take_all 256 s c.if-value-gt256.false) at c.string_fault-fault.ensures) ∙ c.in-None.is) in
+    let u : utf8 s ≡ true = string-right s (sym (rw (take_all 256 s c.if-value-gt256.false) at c.in_ok-string_fault.ensures)) in
     c.hand_over.ensures
     ∙ handed-over (rw z at c.lay_set_string-n.ensures) (set-string-le c.args.id s ((decides s).right u) (omega arith)) c.args.out.now
     ∙ string-good c.args.id s c.args.out.now (omega arith) u

@@ -8,7 +8,7 @@ use Rattle.wing_wire.proofs.state.sound_pending.Goals as goal
 
 pub returns-then-e : goal.returns-then-e
 unfolding sound_pending
-returns-then-e c = simp (c.in-Byte.is, c.if-e.true)
+returns-then-e c = simp (c.in-Some.is, c.if-e.true)
 
 pub returns-in-None : goal.returns-in-None
 unfolding sound_pending
@@ -19,4 +19,4 @@ unfolding sound_pending
 returns-else-e c =
     let x = c.args.e.channel in
     let k : to_z w8 (of_z w8 x) ≡ x = search rules in
-    rw k (simp (c.in-Byte.is, c.if-e.false))
+    rw k (simp (c.in-Some.is, c.if-e.false))

@@ -7,16 +7,16 @@ use Rattle.wing_node.proofs.Refusals.{string-right, string-wrong}
 use Rattle.wing_wire.specs.Unit.{string_done}
 use Rattle.wing_wire.proofs.unit.string_done.Goals as goal
 
-pub returns-in-None : goal.returns-in-None
+pub returns-in-Ok : goal.returns-in-Ok
 unfolding string_done
-returns-in-None c =
+returns-in-Ok c =
     let args = c.args in
-    let u = string-right (take args.want args.store.now) (sym c.string_fault-fault.ensures ∙ c.in-None.is) in
+    let u = string-right (take args.want args.store.now) (sym c.string_fault-fault.ensures ∙ c.in-Ok.is) in
     simp (u, c.taken_of.ensures) (rw (to_z-of_z c.ranges.node))
 
-pub returns-in-Refused : goal.returns-in-Refused
+pub returns-in-Err : goal.returns-in-Err
 unfolding string_done
-returns-in-Refused c =
+returns-in-Err c =
     let args = c.args in
-    let w = string-wrong (take args.want args.store.now) _ (sym c.string_fault-fault.ensures ∙ c.in-Refused.is) in
+    let w = string-wrong (take args.want args.store.now) _ (sym c.string_fault-fault.ensures ∙ c.in-Err.is) in
     simp (w.0, ← w.1, c.clear.ensures, c.refuse.ensures) (rw (to_z-of_z c.ranges.node))
