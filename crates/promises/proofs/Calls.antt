@@ -43,10 +43,8 @@ use Rattle.wing_mirror.specs.Recall.{recall_bytes, recall_of}
 use Rattle.wing_mirror.specs.History.{Equal, mirror_step}
 use Rattle.wing_mirror.specs.Origins.{entries_of, Taken}
 use Rattle.wing_mirror.specs.declared.answer.Counts.{Counts}
-use Rattle.wing_mirror.specs.declared.answer.Lookup.TheVariants.{Refused as LookupRefused}
 use Rattle.wing_mirror.specs.declared.answer.RecordAnswer.TheVariants.{Record}
 use Rattle.wing_mirror.specs.declared.answer.RecordRead.{RecordRead}
-use Rattle.wing_mirror.specs.declared.answer.Same.TheVariants.{Yes, No, Refused as SameRefused}
 use Rattle.wing_mirror.specs.declared.origin.Origin.{Origin}
 use Rattle.wing_mirror.specs.declared.origin.Origin.TheVariants.{SetOrder}
 use Rattle.wing_mirror.proofs.Records.Full.{full-laws}
@@ -249,7 +247,7 @@ same_asked : (t u : Table) → usable full t ≡ true → usable full u ≡ true
 unfolding same_answer same_result
 same_asked t u p q = rw (p, q) (go (same_tables full t u))
   where
-    go : (c : Bool) → same_result (if c Yes No) ≡ ok c
+    go : (c : Bool) → same_result (if c (Ok true) (Ok false)) ≡ ok c
     go true = refl
     go false = refl
 
@@ -259,7 +257,7 @@ lookup-result : (t : Table) (id : ℤ) → lookup_result (lookup_answer full t i
 unfolding lookup_answer answer_of lookup_result by
 lookup-result t id = go (usable full t) (lookup_of full id t)
   where
-    go : (a : Bool) (f : Found ℕ) → lookup_result (if a (answer_of f) (LookupRefused 7)) ≡ by ((not a gives TableUnsound) ∷ []) f
+    go : (a : Bool) (f : Found ℕ) → lookup_result (if a (answer_of f) (Err TableUnsound)) ≡ by ((not a gives TableUnsound) ∷ []) f
     go true (found k) = refl
     go true nothing = refl
     go false f = refl
@@ -322,7 +320,7 @@ same-result : (t u : Table) → same_result (same_answer full t u) ≡ by (same_
 unfolding same_answer same_result by
 same-result t u = go (usable full t) (usable full u) (same_tables full t u)
   where
-    go : (a b c : Bool) → same_result (if a (if b (if c Yes No) (SameRefused 7)) (SameRefused 7)) ≡ by ((not a gives TableUnsound) ∷ (not b gives TableUnsound) ∷ []) c
+    go : (a b c : Bool) → same_result (if a (if b (if c (Ok true) (Ok false)) (Err TableUnsound)) (Err TableUnsound)) ≡ by ((not a gives TableUnsound) ∷ (not b gives TableUnsound) ∷ []) c
     go true true true = refl
     go true true false = refl
     go true false c = refl

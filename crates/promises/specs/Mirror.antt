@@ -1,5 +1,5 @@
 -- What is promised of each call of the mirror, by its arguments, its answer and the lent buffers after it.
-use Rattle.std.specs.Prelude.{ℕ, ◌+◌, ◌≤◌, ◌-◌, ◌<◌, not, true, false, ◌≡◌, ◌↔◌, List, [], ◌∷◌, ◌++◌, map, ltb, leb, eqb, ℤ, length, get_or, replicate, Ok, Err}
+use Rattle.std.specs.Prelude.{ℕ, ◌+◌, ◌≤◌, ◌-◌, ◌<◌, not, true, false, ◌≡◌, ◌↔◌, List, [], ◌∷◌, ◌++◌, map, ltb, leb, eqb, ℤ, length, get_or, replicate, Ok, Err, Option, Bool}
 use Rattle.std.specs.Int.Signed.{lt_z}
 use Rattle.wing_node.specs.Bool.{if}
 use Rattle.wing_node.specs.Signed.{InBits}
@@ -39,10 +39,8 @@ use Rattle.wing_mirror.specs.Origins.{entries_of, GivenBySet, GivenByFeed, Taken
 use Rattle.wing_mirror.specs.declared.answer.Counts.{Counts}
 use Rattle.wing_mirror.specs.declared.answer.FeedAnswer.{FeedAnswer}
 use Rattle.wing_mirror.specs.declared.answer.FeedAnswer.TheVariants.{Taken as FeedTaken}
-use Rattle.wing_mirror.specs.declared.answer.Lookup.{Lookup}
 use Rattle.wing_mirror.specs.declared.answer.RecordAnswer.TheVariants.{Record, Refused as RecordRefused}
 use Rattle.wing_mirror.specs.declared.answer.RecordRead.{RecordRead}
-use Rattle.wing_mirror.specs.declared.answer.Same.{Same}
 use Rattle.wing_mirror.specs.declared.origin.Origin.TheVariants.{Console, SetOrder}
 use Rattle.promises.specs.Refusals.{string_wrong, body_long, body_empty, no_place, table_unsound, state_unsound, string_long, number_over}
 use Rattle.promises.specs.Lines.{Line, ◌gives◌, by, Answers, sends}
@@ -139,7 +137,7 @@ pub record RecallCall (t : Table) (out : List ℕ) (answer : Result ℕ) (writte
   pub order : recall_bytes full t ≡ 0xdf ∷ 0xd1 ∷ joined (map (λ (e : Entry). set_bytes e.id e.value) (entries_of full t))
 
 -- lookup
-pub record LookupCall (t : Table) (id : ℤ) (answer : Lookup) : Type 0 where
+pub record LookupCall (t : Table) (id : ℤ) (answer : Result (Option ℕ)) : Type 0 where
   -- demand 1: 7
   pub result : lookup_result answer ≡ by (table_lines t) (lookup_of full id t)
   -- 01: an id's record number, exactly if that record is there and has that id
@@ -173,7 +171,7 @@ pub record RecordCall (t : Table) (number : ℕ) (reply : RecordRead) : Type 0 w
   pub zero_bytes : (n : ℕ) → record_result reply ≡ refused (alone n) → reply ≡ record { answer = RecordRefused n; string = replicate 256 0 }
 
 -- two tables: 7; else whether count and records are equal; 02: origins included
-pub record SameCall (t u : Table) (answer : Same) : Type 0 where
+pub record SameCall (t u : Table) (answer : Result Bool) : Type 0 where
   pub result : same_result answer ≡ by (same_lines t u) (same_tables full t u)
   pub equal : usable full t ≡ true → usable full u ≡ true → (same_result answer ≡ ok true ↔ Equal full t u)
   -- what they say is: nodes, values and origins

@@ -19,12 +19,8 @@ use Rattle.wing_wire.specs.declared.unit.Answer.TheVariants.{More, Integer as In
 use Rattle.wing_mirror.specs.declared.answer.Counts.{Counts}
 use Rattle.wing_mirror.specs.declared.answer.FeedAnswer.{FeedAnswer}
 use Rattle.wing_mirror.specs.declared.answer.FeedAnswer.TheVariants.{Taken, Refused as FeedRefused}
-use Rattle.wing_mirror.specs.declared.answer.Lookup.{Lookup}
-use Rattle.wing_mirror.specs.declared.answer.Lookup.TheVariants.{At, None, Refused as LookupRefused}
 use Rattle.wing_mirror.specs.declared.answer.RecordAnswer.{RecordAnswer}
 use Rattle.wing_mirror.specs.declared.answer.RecordAnswer.TheVariants.{Record, Refused as RecordRefused}
-use Rattle.wing_mirror.specs.declared.answer.Same.{Same}
-use Rattle.wing_mirror.specs.declared.answer.Same.TheVariants.{Yes, No, Refused as SameRefused}
 use Rattle.wing_mirror.specs.declared.origin.Origin.{Origin}
 use Rattle.wing_mirror.specs.declared.origin.Origin.TheVariants.{Console, SetOrder}
 use Rattle.wing_wire.specs.Command.{set_string}
@@ -42,7 +38,7 @@ use Rattle.wing_c.proofs.Listed.{load_told}
 use Rattle.wing_c.proofs.Read.{next-told}
 use Rattle.wing_c.proofs.Sent.{order-told, set_told}
 use Rattle.wing_node.specs.Result.{Result}
-use Rattle.std.specs.Prelude.{ℕ, Ok, Err}
+use Rattle.std.specs.Prelude.{ℕ, Ok, Err, Some, Option, None, Bool}
 
 -- a refusal's status is below 0, and its number without the sign is the refusal's
 pub below : (n : ℕ) → 1 ≤ n → minus n ≡ negsuc (n - 1)
@@ -88,17 +84,17 @@ counts : (status : ℤ) (c : Counts) (count : ℕ) → counts_in (fed_numbers st
 unfolding counts_in
 counts status c count = refl
 
-lookup : (l : Lookup) → OfLookup l → lookup_in (lookup_numbers l) ≡ l
+lookup : (l : Result (Option ℕ)) → OfLookup l → lookup_in (lookup_numbers l) ≡ l
 unfolding lookup_in
-lookup (At n) h = refl
-lookup None h = refl
-lookup (LookupRefused n) h = rw (below n h) (ap LookupRefused (again n h))
+lookup (Ok (Some n)) h = refl
+lookup (Ok None) h = refl
+lookup (Err n) h = rw (below n h) (ap Err (again n h))
 
-same : (s : Same) → OfSame s → same_in (same_number s) ≡ s
+same : (s : Result Bool) → OfSame s → same_in (same_number s) ≡ s
 unfolding same_in
-same Yes h = refl
-same No h = refl
-same (SameRefused n) h = rw (below n h) (ap SameRefused (again n h))
+same (Ok true) h = refl
+same (Ok false) h = refl
+same (Err n) h = rw (below n h) (ap Err (again n h))
 
 -- an origin's number says it
 origin : (o : Origin) → if (eqb (origin_number o) 0) Console SetOrder ≡ o

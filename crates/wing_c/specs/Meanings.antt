@@ -1,5 +1,5 @@
 -- What the numbers mean, by the header's words, and that every answer is the meaning of its numbers: none is dropped and no two are alike.
-use Rattle.std.specs.Prelude.{ℕ, suc, ◌≤◌, ◌≡◌, List, eqb, ℤ, pos, negsuc, Ok, Err}
+use Rattle.std.specs.Prelude.{ℕ, suc, ◌≤◌, ◌≡◌, List, eqb, ℤ, pos, negsuc, Ok, Err, Some, Option, None, Bool}
 use Rattle.wing_node.specs.Bool.{if}
 use Rattle.wing_node.specs.Refusal.{good_beside}
 use Rattle.wing_node.specs.Signed.{signed, InBits}
@@ -23,12 +23,8 @@ use Rattle.wing_wire.specs.declared.unit.Answer.TheVariants.{More, Integer as In
 use Rattle.wing_mirror.specs.declared.answer.Counts.{Counts}
 use Rattle.wing_mirror.specs.declared.answer.FeedAnswer.{FeedAnswer}
 use Rattle.wing_mirror.specs.declared.answer.FeedAnswer.TheVariants.{Taken, Refused as FeedRefused}
-use Rattle.wing_mirror.specs.declared.answer.Lookup.{Lookup}
-use Rattle.wing_mirror.specs.declared.answer.Lookup.TheVariants.{At, None, Refused as LookupRefused}
 use Rattle.wing_mirror.specs.declared.answer.RecordAnswer.{RecordAnswer}
 use Rattle.wing_mirror.specs.declared.answer.RecordAnswer.TheVariants.{Record, Refused as RecordRefused}
-use Rattle.wing_mirror.specs.declared.answer.Same.{Same}
-use Rattle.wing_mirror.specs.declared.answer.Same.TheVariants.{Yes, No, Refused as SameRefused}
 use Rattle.wing_mirror.specs.declared.origin.Origin.{Origin}
 use Rattle.wing_mirror.specs.declared.origin.Origin.TheVariants.{Console, SetOrder}
 use Rattle.wing_listing.specs.Calls.{load_of}
@@ -90,12 +86,12 @@ counts_in r =
     }
 
 -- a lookup: 1 found, 0 none
-unfoldable pub lookup_in : WingLookup → Lookup
-lookup_in r = by_status r.status LookupRefused (λ s. if (eqb s 1) (At r.number) None)
+unfoldable pub lookup_in : WingLookup → Result (Option ℕ)
+lookup_in r = by_status r.status Err (λ s. if (eqb s 1) (Ok (Some r.number)) (Ok None))
 
 -- two tables: 1 the same, 0 not
-unfoldable pub same_in : ℤ → Same
-same_in z = by_status z SameRefused (λ s. if (eqb s 1) Yes No)
+unfoldable pub same_in : ℤ → Result Bool
+same_in z = by_status z Err (λ s. if (eqb s 1) (Ok true) (Ok false))
 
 -- a record's value by its kind: 0 an integer, of these 32 bits; 1 a float, of these; 2 a string, of so many bytes
 unfoldable pub value_in : WingRecord → Value
@@ -156,16 +152,16 @@ OfFeed Taken = Unit {0}
 OfFeed (FeedRefused n) = 1 ≤ n
 
 -- of a lookup
-abbrev pub OfLookup : Lookup → Type 0
-OfLookup (At n) = Unit {0}
-OfLookup None = Unit {0}
-OfLookup (LookupRefused n) = 1 ≤ n
+abbrev pub OfLookup : Result (Option ℕ) → Type 0
+OfLookup (Ok (Some n)) = Unit {0}
+OfLookup (Ok None) = Unit {0}
+OfLookup (Err n) = 1 ≤ n
 
 -- of two tables
-abbrev pub OfSame : Same → Type 0
-OfSame Yes = Unit {0}
-OfSame No = Unit {0}
-OfSame (SameRefused n) = 1 ≤ n
+abbrev pub OfSame : Result Bool → Type 0
+OfSame (Ok true) = Unit {0}
+OfSame (Ok false) = Unit {0}
+OfSame (Err n) = 1 ≤ n
 
 -- of a value
 abbrev pub OfValue : Value → Type 0
@@ -229,7 +225,7 @@ pub record RefusedZero (n : ℕ) (why : Refusal) : Type 0 where
   pub written : (written_numbers (Err why)).len ≡ 0
   pub body : (body_numbers (Err why)).len ≡ 0
   pub set : (count : ℕ) → (set_numbers (Err why) count).len ≡ 0
-  pub lookup : (lookup_numbers (LookupRefused n)).number ≡ 0
+  pub lookup : (lookup_numbers (Err n)).number ≡ 0
   pub read : (s : List ℕ) → let r = record_numbers (RecordRefused n) s in (r.id ≡ pos 0) × (r.value ≡ 0) × (r.len ≡ 0) × (r.kind ≡ 0) × (r.origin ≡ 0)
   pub next : (node : ℤ) (taken : ℕ) → let r = event_numbers (NextRefused why) node taken in (r.value ≡ 0) × (r.len ≡ 0) × (r.kind ≡ 0)
   pub requested : ((requested_numbers (Err n)).id ≡ 0) × ((requested_numbers (Err n)).len ≡ 0)
@@ -242,7 +238,7 @@ pub record OtherZero : Type 0 where
   pub written : (n : ℕ) → (written_numbers (Ok n)).good ≡ 0
   pub body : (n : ℕ) → (body_numbers (Ok n)).good ≡ 0
   pub set : (n count : ℕ) → (set_numbers (Ok n) count).good ≡ 0
-  pub none : (lookup_numbers None).number ≡ 0
+  pub none : (lookup_numbers (Ok None)).number ≡ 0
   pub integer : (id x : ℤ) (origin : Origin) (s : List ℕ) → (record_numbers (Record id (Integer x) origin) s).len ≡ 0
   pub float : (id : ℤ) (bits : ℕ) (origin : Origin) (s : List ℕ) → (record_numbers (Record id (Float bits) origin) s).len ≡ 0
   pub string : (id : ℤ) (n : ℕ) (origin : Origin) (s : List ℕ) → (record_numbers (Record id (String n) origin) s).value ≡ 0
@@ -263,8 +259,8 @@ pub record NumbersSay : Type 0 where
   pub set_beside : (w : Result ℕ) (count : ℕ) → (set_numbers w count).count ≡ count
   pub feed : (a : FeedAnswer) (c : Counts) (count : ℕ) → OfFeed a → feed_answer_in (fed_numbers (feed_status a) c count) ≡ a
   pub feed_beside : (status : ℤ) (c : Counts) (count : ℕ) → FeedBeside status c count
-  pub lookup : (l : Lookup) → OfLookup l → lookup_in (lookup_numbers l) ≡ l
-  pub same : (s : Same) → OfSame s → same_in (same_number s) ≡ s
+  pub lookup : (l : Result (Option ℕ)) → OfLookup l → lookup_in (lookup_numbers l) ≡ l
+  pub same : (s : Result Bool) → OfSame s → same_in (same_number s) ≡ s
   pub read : (a : RecordAnswer) (s : List ℕ) → OfRecord a → record_in (record_numbers a s) ≡ a
   -- 02: an origin is 0 for the console and 1 for a set order, and no other number
   pub read_origin : (id : ℤ) (v : Value) (s : List ℕ) → ((record_numbers (Record id v Console) s).origin ≡ 0) × ((record_numbers (Record id v SetOrder) s).origin ≡ 1)

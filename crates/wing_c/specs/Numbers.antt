@@ -1,6 +1,6 @@
 -- The numbers that stand for each answer of the libraries: an enum cannot cross the border to C. A refusal is its number with a minus sign; where it can
 -- be 1 or 5, the good stands beside it.
-use Rattle.std.specs.Prelude.{ℕ, ◌-◌, List, eqb, ℤ, pos, negsuc, Ok, Err}
+use Rattle.std.specs.Prelude.{ℕ, ◌-◌, List, eqb, ℤ, pos, negsuc, Ok, Err, Some, Option, None, Bool}
 use Rattle.wing_node.specs.Bool.{if}
 use Rattle.wing_node.specs.Refusal.{refusal_number, good_beside}
 use Rattle.wing_node.specs.Signed.{unsigned}
@@ -14,12 +14,8 @@ use Rattle.wing_wire.specs.declared.unit.Answer.TheVariants.{More, Integer as In
 use Rattle.wing_mirror.specs.declared.answer.Counts.{Counts}
 use Rattle.wing_mirror.specs.declared.answer.FeedAnswer.{FeedAnswer}
 use Rattle.wing_mirror.specs.declared.answer.FeedAnswer.TheVariants.{Taken, Refused as FeedRefused}
-use Rattle.wing_mirror.specs.declared.answer.Lookup.{Lookup}
-use Rattle.wing_mirror.specs.declared.answer.Lookup.TheVariants.{At, None, Refused as LookupRefused}
 use Rattle.wing_mirror.specs.declared.answer.RecordAnswer.{RecordAnswer}
 use Rattle.wing_mirror.specs.declared.answer.RecordAnswer.TheVariants.{Record, Refused as RecordRefused}
-use Rattle.wing_mirror.specs.declared.answer.Same.{Same}
-use Rattle.wing_mirror.specs.declared.answer.Same.TheVariants.{Yes, No, Refused as SameRefused}
 use Rattle.wing_mirror.specs.Origin.{origin_number}
 use Rattle.wing_listing.specs.declared.answer.Loaded.{Loaded}
 use Rattle.wing_listing.specs.declared.answer.Loaded.TheVariants.{Records, Refused as LoadRefused}
@@ -90,16 +86,16 @@ fed_numbers status c count =
     }
 
 -- a lookup: 1 and the record's number; 0 for none
-abbrev pub lookup_numbers : Lookup → WingLookup
-lookup_numbers (At n) = record { status = pos 1; number = n }
-lookup_numbers None = record { status = pos 0; number = 0 }
-lookup_numbers (LookupRefused n) = record { status = minus n; number = 0 }
+abbrev pub lookup_numbers : Result (Option ℕ) → WingLookup
+lookup_numbers (Ok (Some n)) = record { status = pos 1; number = n }
+lookup_numbers (Ok None) = record { status = pos 0; number = 0 }
+lookup_numbers (Err n) = record { status = minus n; number = 0 }
 
 -- two tables: 1 if they are the same, else 0
-abbrev pub same_number : Same → ℤ
-same_number Yes = pos 1
-same_number No = pos 0
-same_number (SameRefused n) = minus n
+abbrev pub same_number : Result Bool → ℤ
+same_number (Ok true) = pos 1
+same_number (Ok false) = pos 0
+same_number (Err n) = minus n
 
 -- a record that holds an integer, float bits or a string, and its origin by number. 01's kinds: 0 integer, 1 float, 2 string
 abbrev pub held_numbers : ℤ → Value → ℕ → List ℕ → WingRecord

@@ -1,7 +1,7 @@
 // One line of a listing: three fields parted by commas. 02: within a line 17, 18, 10, 1.
 ghost use Rattle.std.specs.Prelude.{◌≡◌, true, length};
 ghost use Rattle.wing_node.specs.Bool.{if};
-ghost use Rattle.wing_node.specs.Refusal.{no_fault, by_number, because};
+ghost use Rattle.wing_node.specs.Refusal.{no_fault, because};
 ghost use Rattle.wing_listing.specs.Parts.{part};
 ghost use Rattle.wing_listing.specs.Reading.{is_value, value_said, value_fault, above};
 ghost use Rattle.wing_listing.specs.Steps.{LineSays, id_before, judged_as};

@@ -12,6 +12,11 @@ use Rattle.wing_node.specs.declared.definition.Definition.{Definition}
 abbrev pub zero_counts : Counts
 zero_counts = record { stored = 0; unplaced = 0; strings_refused = 0; definitions_read = 0; definitions_refused = 0; ends = 0 }
 
+-- 01: a refused feed counts nothing
+abbrev pub counts_in : Result Counts → Counts
+counts_in (Ok c) = c
+counts_in (Err why) = zero_counts
+
 -- the six, in 01's order
 abbrev pub six : ℕ → ℕ → ℕ → ℕ → ℕ → ℕ → Counts
 six a b c d e f = record { stored = a; unplaced = b; strings_refused = c; definitions_read = d; definitions_refused = e; ends = f }

@@ -4,7 +4,6 @@ use Rattle.wing_wire.specs.State.{fresh_state}
 use Rattle.wing_wire.specs.Range.{AreBytes}
 use Rattle.wing_wire.specs.Write.{write_of}
 use Rattle.wing_wire.specs.declared.state.State.{State}
-use Rattle.wing_node.specs.Refusal.{alone}
 use Rattle.wing_node.specs.Bytes.{joined}
 use Rattle.wing_mirror.specs.Rows.{Table, All, places, insert, In}
 use Rattle.wing_mirror.specs.Entry.{Entry, rising_ids, ids, rank_of}
@@ -17,9 +16,6 @@ use Rattle.wing_mirror.specs.Call.{Call, feed, set, Outcome, fed, sent, refused,
 use Rattle.wing_mirror.specs.Mirror.{mirror_feed, mirror_set}
 use Rattle.wing_mirror.specs.Machine.{Machine, new_machine, machine_step}
 use Rattle.wing_mirror.specs.declared.answer.Counts.{Counts}
-use Rattle.wing_mirror.specs.declared.answer.Same.TheVariants.{Yes}
-use Rattle.wing_mirror.specs.declared.answer.FeedAnswer.{FeedAnswer}
-use Rattle.wing_mirror.specs.declared.answer.FeedAnswer.TheVariants.{Taken, Refused as FeedRefused}
 use Rattle.wing_node.specs.Result.{Result}
 
 -- 01: a mirror is a decoder state, a table buffer and its count
@@ -31,10 +27,10 @@ pub record Mirror : Type 0 where
 abbrev pub new_mirror : List ℕ → Mirror
 new_mirror buffer = record { decoder = fresh_state; table = table buffer 0 }
 
--- how a feed came out, by its answer and counts
-abbrev pub feed_outcome : FeedAnswer → Counts → Outcome
-feed_outcome Taken c = fed c
-feed_outcome (FeedRefused n) c = refused (alone n)
+-- how a feed came out, by its answer
+abbrev pub feed_outcome : Result Counts → Outcome
+feed_outcome (Ok c) = fed c
+feed_outcome (Err why) = refused why
 
 -- how a set came out, by its answer and the bytes written
 abbrev pub set_outcome : Result ℕ → List ℕ → Outcome
@@ -79,7 +75,7 @@ module _ (L : Layout) where
   unfoldable pub mirror_step : Mirror → Call → Step Mirror
   mirror_step m (feed bytes) =
       let x = mirror_feed L m.decoder m.table bytes in
-      record { state = record { decoder = x.state; table = x.table }; outcome = feed_outcome x.answer x.counts }
+      record { state = record { decoder = x.state; table = x.table }; outcome = feed_outcome x.answer }
   mirror_step m (set id v out) =
       let x = mirror_set L id v m.table out in
       record { state = record { decoder = m.decoder; table = x.table }; outcome = set_outcome x.answer x.out }
@@ -145,7 +141,7 @@ module _ (L : Layout) where
   -- and the call that compares them says so
   abbrev pub Comparing : Type 0
   Comparing = (b c : List ℕ) (xs ys : List Call) → All TypedCall xs → All TypedCall ys → places_allowed (places_in b) ≡ true → places_allowed (places_in c) ≡ true →
-      ((same_answer L (mirror_run b xs).state.table (mirror_run c ys).state.table ≡ Yes)
+      ((same_answer L (mirror_run b xs).state.table (mirror_run c ys).state.table ≡ (Ok true))
       ↔ SameMap (machine_run (places_in b) xs).state.map (machine_run (places_in c) ys).state.map)
 
   -- recall of a mirror with 1 to 1,024 places, after any history: its bytes, or 9 where the output is too short for them

@@ -6,16 +6,17 @@ use Rattle.wing_wire.specs.Range.{AreBytes}
 use Rattle.wing_mirror.specs.Origin.{origin_number}
 use Rattle.wing_mirror.specs.Entry.{Entry, from_console, storable, Typed, rank_of}
 use Rattle.wing_mirror.specs.declared.counts.Mark.{Mark}
+use Rattle.wing_node.specs.declared.refusal.Refusal.{Refusal}
 
 -- a value is kept; or it is not, and then a feed counts it by a mark and a set of it is refused by a number
 pub data Keeping : Type 0 where
   kept : Keeping
-  unkept : Mark → ℕ → Keeping
+  unkept : Mark → Refusal → Keeping
 
 -- one thing by the mark and the number of a value that is not kept, another for one that is
-abbrev pub unless_kept : {A : Type 0} → Keeping → (Mark → ℕ → A) → A → A
+abbrev pub unless_kept : {A : Type 0} → Keeping → (Mark → Refusal → A) → A → A
 unless_kept kept f a = a
-unless_kept (unkept mark number) f a = f mark number
+unless_kept (unkept mark why) f a = f mark why
 
 pub record Layout : Type 0 where
   -- the bytes of a place

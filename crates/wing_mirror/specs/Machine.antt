@@ -1,6 +1,6 @@
 -- 01's plain machine: the decoder with its current node, and a map with no order. It knows no table.
 use Rattle.std.specs.Prelude.{ℕ, Bool, true, false, not, List, [], ◌∷◌, ◌++◌, ltb, eqb, ℤ, pos, negsuc, length}
-use Rattle.wing_node.specs.Refusal.{refusal_number, alone, string_not_utf8}
+use Rattle.wing_node.specs.Refusal.{refusal_number, string_not_utf8}
 use Rattle.wing_node.specs.Bool.{if}
 use Rattle.wing_node.specs.Definition.{definition_of}
 use Rattle.wing_node.specs.Value.{NodeValue}
@@ -97,7 +97,7 @@ module _ (keeping : NodeValue → Keeping) where
   unfoldable pub machine_event : ℕ → ℤ → Event → MapTally → MapTally
   machine_event places node more h = h
   machine_event places node (value v) h =
-      unless_kept (keeping v) (λ mark number. map_tally h.map (tick mark h.counts))
+      unless_kept (keeping v) (λ mark why. map_tally h.map (tick mark h.counts))
       (if (room places node h.map) (map_tally (put_in (entry node v Console) h.map) (tick Stored h.counts))
       (map_tally h.map (tick Unplaced h.counts)))
   machine_event places node (body b) h = map_tally h.map (tick (body_mark (definition_of b)) h.counts)
@@ -125,7 +125,7 @@ module _ (keeping : NodeValue → Keeping) where
       }))
   machine_step places s (set id v out) =
       if (not (places_allowed places)) (refuse s TableUnsound)
-      (unless_kept (keeping v) (λ mark number. refuse s (alone number))
+      (unless_kept (keeping v) (λ mark why. refuse s why)
       (if (too_long v) (refuse s StringLong)
       (if (not_text v) (refuse s (string_not_utf8 (text_in v)))
       (if (not (room places id s.map)) (refuse s NoPlace)

@@ -1,5 +1,5 @@
 -- 02: who set it. What each call makes of a node's value and origin; that two mirrors compare with origins; and where the origin is set aside.
-use Rattle.std.specs.Prelude.{ℕ, ◌<◌, true, ◌≡◌, ◌↔◌, List, [], ◌∷◌, map, ℤ, length, get_or, Ok}
+use Rattle.std.specs.Prelude.{ℕ, ◌<◌, true, ◌≡◌, ◌↔◌, List, [], ◌∷◌, map, ℤ, length, get_or, Ok, is_ok}
 use Rattle.wing_node.specs.Bool.{if}
 use Rattle.wing_node.specs.Value.{NodeValue}
 use Rattle.wing_wire.specs.Range.{AreBytes, InRange}
@@ -17,14 +17,12 @@ use Rattle.wing_mirror.specs.Call.{feed, set, TypedCall}
 use Rattle.wing_mirror.specs.Mirror.{mirror_feed, mirror_set}
 use Rattle.wing_mirror.specs.Machine.{StreamEvent, same_id, events}
 use Rattle.wing_mirror.specs.History.{Equal, EqualButOrigins}
-use Rattle.wing_mirror.specs.declared.answer.FeedAnswer.TheVariants.{Taken as FeedTaken}
-use Rattle.wing_mirror.specs.declared.answer.Same.TheVariants.{Yes}
 use Rattle.wing_mirror.specs.declared.origin.Origin.TheVariants.{Console, SetOrder}
 
 -- the value that an event gives, if it is one that is kept
 unfoldable pub value_given : (NodeValue → Keeping) → Event → Found NodeValue
 value_given keeping more = nothing
-value_given keeping (value v) = unless_kept (keeping v) (λ mark number. nothing) (found v)
+value_given keeping (value v) = unless_kept (keeping v) (λ mark why. nothing) (found v)
 value_given keeping (body b) = nothing
 value_given keeping end = nothing
 value_given keeping (refused why) = nothing
@@ -73,11 +71,11 @@ module _ (L : Layout) where
         (mirror_set L id v t out).answer ≡ Ok n → GivenBySet (entries_of t) (entries_of (mirror_set L id v t out).table) id v
     -- and an accepted feed, of any table and state
     pub by_feed : (s : State) (t : Table) (bytes : List ℕ) → AreBytes t.buffer → InRange s.control s.store → TypedCall (feed bytes) →
-        (mirror_feed L s t bytes).answer ≡ FeedTaken → GivenByFeed (places width t) (events s bytes) (entries_of t) (entries_of (mirror_feed L s t bytes).table)
+        is_ok (mirror_feed L s t bytes).answer ≡ true → GivenByFeed (places width t) (events s bytes) (entries_of t) (entries_of (mirror_feed L s t bytes).table)
     -- a byte of each record is its origin's number
     pub bytes : (t : Table) → Taken t → map (λ (r : List ℕ). get_or r origin_at 0) (rows L t) ≡ map (λ (e : Entry). origin_number e.origin) (entries_of t)
     -- 02: two mirrors compare with origins included
-    pub compared : (t u : Table) → Taken t → Taken u → (same_answer L t u ≡ Yes ↔ entries_of t ≡ entries_of u)
+    pub compared : (t u : Table) → Taken t → Taken u → (same_answer L t u ≡ (Ok true) ↔ entries_of t ≡ entries_of u)
     -- recall carries no origin
     pub recalled : (t u : Table) → Taken t → Taken u → SameButOrigins t u → recall_bytes L t ≡ recall_bytes L u
     -- a table that equals another but for origins is equal to it, origins included, exactly if the other's origins are all 0

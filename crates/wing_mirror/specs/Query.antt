@@ -1,5 +1,5 @@
 -- What a table of any layout is asked, and the answers that say it.
-use Rattle.std.specs.Prelude.{ℕ, Bool, true, false, List, [], ◌∷◌, ltb, eqb, ℤ, length, get_or, replicate}
+use Rattle.std.specs.Prelude.{ℕ, Bool, true, false, List, [], ◌∷◌, ltb, eqb, ℤ, length, get_or, replicate, Ok, Some, Option, None, Err}
 use Rattle.wing_node.specs.Bool.{if}
 use Rattle.wing_node.specs.Value.{NodeValue, integer, float, string}
 use Rattle.wing_node.specs.declared.value.Value.{Value}
@@ -9,18 +9,15 @@ use Rattle.wing_mirror.specs.Rows.{Table, Found, found, nothing}
 use Rattle.wing_mirror.specs.Entry.{Entry}
 use Rattle.wing_mirror.specs.Layout.{Layout}
 use Rattle.wing_mirror.specs.Table.{rows, usable, lookup_of}
-use Rattle.wing_mirror.specs.declared.answer.Lookup.{Lookup}
-use Rattle.wing_mirror.specs.declared.answer.Lookup.TheVariants.{At, None, Refused}
-use Rattle.wing_mirror.specs.declared.answer.RecordAnswer.TheVariants.{Record, Refused as RecordRefused}
 use Rattle.wing_mirror.specs.declared.answer.RecordRead.{RecordRead}
-use Rattle.wing_mirror.specs.declared.answer.Same.{Same}
 use Rattle.wing_mirror.specs.declared.origin.Origin.{Origin}
-use Rattle.wing_mirror.specs.declared.answer.Same.TheVariants.{Yes, No, Refused as SameRefused}
+use Rattle.wing_node.specs.Result.{Result}
+use Rattle.wing_node.specs.declared.refusal.Refusal.TheVariants.{TableUnsound, NumberOver}
 
 -- 01: an id's record number, or none
-unfoldable pub answer_of : Found ℕ → Lookup
-answer_of (found n) = At n
-answer_of nothing = None
+unfoldable pub answer_of : Found ℕ → Result (Option ℕ)
+answer_of (found n) = Ok (Some n)
+answer_of nothing = (Ok None)
 
 -- a value, with the length of a string
 unfoldable pub value_of : NodeValue → Value
@@ -36,15 +33,11 @@ bytes_beside (string s) = filled 256 s
 
 -- a value that is no string, with the bytes beside it all 0
 abbrev pub beside_zeros : ℤ → Value → Origin → RecordRead
-beside_zeros id value origin = record { answer = Record id value origin; string = replicate 256 0 }
+beside_zeros id value origin = record { id = id; value = value; origin = origin; string = replicate 256 0 }
 
 -- 01, 02: a record read gives id, value, origin and string
 unfoldable pub read_of : Entry → RecordRead
-read_of e = record { answer = Record e.id (value_of e.value) e.origin; string = bytes_beside e.value }
-
--- a refused read, with the bytes beside it all 0
-abbrev pub refused_record : ℕ → RecordRead
-refused_record why = record { answer = RecordRefused why; string = replicate 256 0 }
+read_of e = record { id = e.id; value = value_of e.value; origin = e.origin; string = bytes_beside e.value }
 
 -- two lists of bytes are one
 unfoldable pub same_bytes : List ℕ → List ℕ → Bool
@@ -64,17 +57,17 @@ module _ (L : Layout) where
   open L use {entry_in}
 
   -- 01: 7 for a table that is not usable
-  unfoldable pub lookup_answer : Table → ℤ → Lookup
-  lookup_answer t id = if (usable L t) (answer_of (lookup_of L id t)) (Refused 7)
+  unfoldable pub lookup_answer : Table → ℤ → Result (Option ℕ)
+  lookup_answer t id = if (usable L t) (answer_of (lookup_of L id t)) (Err TableUnsound)
 
   -- 01: 7, then 14 for a number that is not below the count; else what the record of this number says
-  unfoldable pub record_answer : Table → ℕ → RecordRead
-  record_answer t number = if (usable L t) (if (ltb number t.count) (read_of (entry_in (get_or (rows L t) number []))) (refused_record 14)) (refused_record 7)
+  unfoldable pub record_answer : Table → ℕ → Result RecordRead
+  record_answer t number = if (usable L t) (if (ltb number t.count) (Ok (read_of (entry_in (get_or (rows L t) number [])))) (Err NumberOver)) (Err TableUnsound)
 
   -- 01: two are equal if count and records are; 02: origins included
   unfoldable pub same_tables : Table → Table → Bool
   same_tables s t = if (eqb s.count t.count) (same_rows (rows L s) (rows L t)) false
 
   -- 01: 7 for either table
-  unfoldable pub same_answer : Table → Table → Same
-  same_answer s t = if (usable L s) (if (usable L t) (if (same_tables s t) Yes No) (SameRefused 7)) (SameRefused 7)
+  unfoldable pub same_answer : Table → Table → Result Bool
+  same_answer s t = if (usable L s) (if (usable L t) (Ok (same_tables s t)) (Err TableUnsound)) (Err TableUnsound)

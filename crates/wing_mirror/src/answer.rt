@@ -1,41 +1,16 @@
 // What the queries of a table, a feed and a set answer.
 use crate::origin::Origin;
+use wing_node::refusal::Refusal;
 use wing_node::value::Value;
 use wing_wire::state::{Control, State};
-use wing_node::refusal::Refusal;
 
-// An id's record number.
-#[derive(Clone, Copy)]
-pub enum Lookup {
-    At(usize),
-    None,
-    Refused(u8),
-}
-
-// A record, or a refusal.
-#[derive(Clone, Copy)]
-pub enum RecordAnswer {
-    Record {
-        id: i32,
-        value: Value,
-        origin: Origin,
-    },
-    Refused(u8),
-}
-
-// The bytes of a string, zero-filled, stand beside the answer; with any other answer these bytes are all 0.
+// A record. The bytes of a string, zero-filled, stand beside its value; with any other value these bytes are all 0.
 #[derive(Clone, Copy)]
 pub struct RecordRead {
-    pub answer: RecordAnswer,
+    pub id: i32,
+    pub value: Value,
+    pub origin: Origin,
     pub string: [u8; 256],
-}
-
-// Whether two tables have the same count and records.
-#[derive(Clone, Copy)]
-pub enum Same {
-    Yes,
-    No,
-    Refused(u8),
 }
 
 // The six counts of a feed.
@@ -49,31 +24,23 @@ pub struct Counts {
     pub ends: u32,
 }
 
-#[derive(Clone, Copy)]
-pub enum FeedAnswer {
-    Taken,
-    Refused(u8),
-}
-
-// The same where the store is lent: the control after it stands beside the counts.
+// A feed where the store is lent: its six counts or the refusal, with the control after it and the number of records.
 #[derive(Clone, Copy)]
 pub struct LentFeedReply {
-    pub answer: FeedAnswer,
-    pub counts: Counts,
+    pub answer: Result<Counts, Refusal>,
     pub control: Control,
     pub count: usize,
 }
 
-// The answer of a feed with its six counts, the state after it and the number of records. A refused feed has six zero counts.
+// The same with the whole state after it. A refused feed changes and counts nothing.
 #[derive(Clone, Copy)]
 pub struct FeedReply {
-    pub answer: FeedAnswer,
-    pub counts: Counts,
+    pub answer: Result<Counts, Refusal>,
     pub state: State,
     pub count: usize,
 }
 
-// The answer of a set with the number of records.
+// How many bytes a set wrote or the refusal, with the number of records.
 #[derive(Clone, Copy)]
 pub struct SetReply {
     pub answer: Result<usize, Refusal>,

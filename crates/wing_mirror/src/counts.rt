@@ -6,7 +6,7 @@ ghost use Rattle.wing_mirror.specs.Counts.{zero_counts, tick as tick_of, total, 
 
 use crate::answer::Counts;
 use wing_node::definition::from_bytes;
-use wing_node::refusal::{Refusal, number};
+use wing_node::refusal::Refusal;
 
 // Which of the six is meant, if any.
 #[derive(Clone, Copy)]

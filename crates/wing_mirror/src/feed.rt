@@ -1,6 +1,5 @@
 // Feed: bytes through the decoder, each answer kept in the table.
-ghost use Rattle.std.specs.Prelude.{◌≡◌, true, ◌≤◌, eqb, length};
-ghost use Rattle.wing_node.specs.Bool.{if};
+ghost use Rattle.std.specs.Prelude.{◌≡◌, true, ◌≤◌, length, MatchResult};
 ghost use Rattle.wing_wire.specs.State.{sound_state, state_of, body_limit};
 ghost use Rattle.wing_mirror.specs.Record.{full};
 ghost use Rattle.wing_mirror.specs.Table.{table as table_of, usable};
@@ -10,6 +9,7 @@ use crate::answer::{FeedReply, LentFeedReply};
 use crate::counts::zero_counts;
 use crate::keep::{Tally, keep_answer};
 use crate::table::is_usable;
+use wing_node::refusal::Refusal;
 use wing_wire::state::{Control, State, is_sound_lent};
 use wing_wire::stream::{advance, is_more, release};
 
@@ -35,10 +35,8 @@ fn feed_on(
         i += r.taken;
         let a = r.answer;
         if is_more(a) {
-            let counts = t.counts;
             return LentFeedReply {
-                answer: FeedAnswer::Taken,
-                counts: counts,
+                answer: Ok(t.counts),
                 control: c,
                 count: t.count,
             };
@@ -48,23 +46,29 @@ fn feed_on(
     }
 }
 
-// The number that a feed is refused by, 0 if by none. A store of another size than a state's is 8.
-fn feed_fault(c: Control, store: &[u8], table: &[u8], count: usize, bytes: &[u8]) -> u8
-    ensures { (lent_feed full (state_of c store.now) (table_of table.now count) bytes.now ≡ if (eqb result 0) (taken_feed (fed_all full (state_of c store.now) (table_of table.now count) bytes.now)) (refused_feed result (state_of c store.now) (table_of table.now count))) × (result ≡ 0 → (sound_state (state_of c store.now) ≡ true) × (length store.now ≡ body_limit) × (usable full (table_of table.now count) ≡ true) × (length bytes.now ≤ 65536)) }
+// Why a feed is refused, if it is. A store of another size than a state's is 8.
+fn feed_fault(
+    c: Control,
+    store: &[u8],
+    table: &[u8],
+    count: usize,
+    bytes: &[u8],
+) -> Result<(), Refusal>
+    ensures { MatchResult result (λ taken. (lent_feed full (state_of c store.now) (table_of table.now count) bytes.now ≡ taken_feed (fed_all full (state_of c store.now) (table_of table.now count) bytes.now)) × (sound_state (state_of c store.now) ≡ true) × (length store.now ≡ body_limit) × (usable full (table_of table.now count) ≡ true) × (length bytes.now ≤ 65536)) (λ why. lent_feed full (state_of c store.now) (table_of table.now count) bytes.now ≡ refused_feed why (state_of c store.now) (table_of table.now count)) }
 {
     if store.len() != State::BODY_LIMIT {
-        return 8;
+        return Err(Refusal::StateUnsound);
     }
     if is_sound_lent(c, store) {
         if is_usable(table, count) {
             if bytes.len() <= 65536 {
-                return 0;
+                return Ok(());
             }
-            return 14;
+            return Err(Refusal::NumberOver);
         }
-        return 7;
+        return Err(Refusal::TableUnsound);
     }
-    8
+    Err(Refusal::StateUnsound)
 }
 
 // A feed whose state's store is lent, so that nothing of it is copied. 01: a refused feed changes and counts nothing. 8, 7, 14.
@@ -77,16 +81,13 @@ pub fn feed_lent(
 ) -> LentFeedReply
     ensures { lent_effect result store.new table.new ≡ lent_feed full (state_of c store.old) (table_of table.old count) bytes.now }
 {
-    let why = feed_fault(c, store, table, count, bytes);
-    if why == 0 {
-        return feed_on(c, store, table, count, bytes);
-    }
-    let counts = zero_counts();
-    LentFeedReply {
-        answer: Err(why),
-        counts: counts,
-        control: c,
-        count: count,
+    match feed_fault(c, store, table, count, bytes) {
+        Ok(()) => feed_on(c, store, table, count, bytes),
+        Err(why) => LentFeedReply {
+            answer: Err(why),
+            control: c,
+            count: count,
+        },
     }
 }
 
@@ -98,12 +99,9 @@ pub fn feed(state: State, table: &mut [u8], count: usize, bytes: &[u8]) -> FeedR
     let mut c = state.control;
     let mut store = state.store;
     let r = feed_lent(c, &mut store, table, count, bytes);
-    let answer = r.answer;
-    let counts = r.counts;
     c = r.control;
     FeedReply {
-        answer: answer,
-        counts: counts,
+        answer: r.answer,
         state: State {
             control: c,
             store: store,

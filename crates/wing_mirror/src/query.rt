@@ -6,7 +6,7 @@ ghost use Rattle.wing_mirror.specs.Entry.{entry};
 ghost use Rattle.wing_mirror.specs.Record.{width, key_of, entry_in, full};
 ghost use Rattle.wing_mirror.specs.Table.{table as table_of};
 ghost use Rattle.wing_mirror.specs.Order.{InOrder};
-ghost use Rattle.wing_mirror.specs.Query.{lookup_answer, answer_of, read_of, beside_zeros, refused_record, record_answer, same_bytes, same_tables, same_answer};
+ghost use Rattle.wing_mirror.specs.Query.{lookup_answer, answer_of, read_of, beside_zeros, record_answer, same_bytes, same_tables, same_answer};
 
 use crate::answer::RecordRead;
 use crate::bytes::lay;
@@ -40,15 +40,6 @@ pub fn lookup(table: &[u8], count: usize, id: i32) -> Result<Option<usize>, Refu
     Err(Refusal::TableUnsound)
 }
 
-fn refused(why: u8) -> RecordRead
-    ensures { result ≡ refused_record why }
-{
-    RecordRead {
-        answer: Err(why),
-        string: [0u8; 256],
-    }
-}
-
 // The first n of a payload's bytes.
 fn string_read(id: i32, n: u16, payload: &[u8], origin: Origin) -> RecordRead
     requires { length payload.now ≡ 256 }
@@ -59,11 +50,9 @@ fn string_read(id: i32, n: u16, payload: &[u8], origin: Origin) -> RecordRead
     lay(&mut string, 0, &payload[..len]);
     let value = Value::String(len as u16);
     RecordRead {
-        answer: RecordAnswer::Record {
-            id: id,
-            value: value,
-            origin: origin,
-        },
+        id,
+        value,
+        origin,
         string: string,
     }
 }
@@ -73,11 +62,9 @@ fn number_read(id: i32, value: Value, origin: Origin) -> RecordRead
     ensures { result ≡ beside_zeros id value origin }
 {
     RecordRead {
-        answer: RecordAnswer::Record {
-            id: id,
-            value: value,
-            origin: origin,
-        },
+        id,
+        value,
+        origin,
         string: [0u8; 256],
     }
 }
@@ -98,16 +85,16 @@ fn read_record(rec: &[u8]) -> RecordRead
 }
 
 // 01: a record is read by number, from 0: its id and value, the bytes of a string beside it; 02: and its origin. 7, 14.
-pub fn record(table: &[u8], count: usize, number: usize) -> RecordRead
+pub fn record(table: &[u8], count: usize, number: usize) -> Result<RecordRead, Refusal>
     ensures { result ≡ record_answer full (table_of table.now count) number }
 {
     if is_usable(table, count) {
         if number < count {
-            return read_record(row(table, State::PLACE_WIDTH, number));
+            return Ok(read_record(row(table, State::PLACE_WIDTH, number)));
         }
-        return refused(14);
+        return Err(Refusal::NumberOver);
     }
-    refused(7)
+    Err(Refusal::TableUnsound)
 }
 
 fn same_bytes(a: &[u8], b: &[u8]) -> bool
@@ -141,10 +128,7 @@ pub fn same(a: &[u8], count_a: usize, b: &[u8], count_b: usize) -> Result<bool, 
 {
     if is_usable(a, count_a) {
         if is_usable(b, count_b) {
-            if same_records(a, count_a, b, count_b) {
-                return Ok(true);
-            }
-            return Ok(false);
+            return Ok(same_records(a, count_a, b, count_b));
         }
     }
     Err(Refusal::TableUnsound)

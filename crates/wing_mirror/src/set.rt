@@ -99,9 +99,8 @@ pub fn set_string(table: &mut [u8], count: usize, out: &mut [u8], id: i32, value
     ensures { set_effect result out.new table.new ≡ mirror_set full id (string_of value.now) (table_of table.old count) out.old }
 {
     if value.len() <= 256 {
-        let fault = string_fault(value, 256);
         let string = Value::String(value.len() as u16);
-        return match fault {
+        return match string_fault(value, 256) {
             Ok(()) => set_value(table, count, out, id, string, value),
             Err(why) => refused_string(table, count, why),
         };

@@ -19,11 +19,10 @@ use Rattle.wing_mirror.specs.Rows.{Table, All}
 use Rattle.wing_mirror.specs.Entry.{entry}
 use Rattle.wing_mirror.specs.Layout.{Layout, Lawful}
 use Rattle.wing_mirror.specs.Table.{usable, fits}
-use Rattle.wing_mirror.specs.Counts.{zero_counts, total, add_counts}
+use Rattle.wing_mirror.specs.Counts.{zero_counts, total, add_counts, counts_in}
 use Rattle.wing_mirror.specs.Mirror.{TableTally, table_tally, keep_event, keep, FeedEffect, fed_all, taken_feed, mirror_feed, SetEffect, mirror_set}
 use Rattle.wing_mirror.specs.Machine.{StreamEvent, events}
 use Rattle.wing_mirror.specs.declared.answer.Counts.{Counts}
-use Rattle.wing_mirror.specs.declared.answer.FeedAnswer.TheVariants.{Taken}
 use Rattle.wing_mirror.specs.declared.origin.Origin.TheVariants.{SetOrder}
 use Rattle.wing_mirror.proofs.Records.Lasting.{entry-usable}
 use Rattle.wing_mirror.proofs.Calls.Turns.{value-usable}
@@ -31,9 +30,10 @@ use Rattle.wing_mirror.proofs.Histories.Along.{fold_events, few-events}
 use Rattle.wing_mirror.proofs.Calls.Tallies.{fold-total, atop, add-zero-counts, keep-adds}
 use Rattle.wing_mirror.proofs.Histories.Decodes.{ValidEvent, ValidStreamEvent, ValidState, after-valid, events-valid}
 use Rattle.wing_mirror.proofs.Calls.Outcomes.{feed-taken, fed-events, passed, text-storable, set_cases}
+use Rattle.std.specs.Prelude.{Ok}
 
 -- a feed's counts, refused or taken
-pub feed-counts : (L : Layout) (s : State) (t : Table) (bytes : List ℕ) → total (mirror_feed L s t bytes).counts ≤ length bytes + 1
+pub feed-counts : (L : Layout) (s : State) (t : Table) (bytes : List ℕ) → total (counts_in (mirror_feed L s t bytes).answer) ≤ length bytes + 1
 unfolding mirror_feed
 feed-counts L s t bytes =
     branch P (sound_state s) _ _
@@ -42,7 +42,7 @@ feed-counts L s t bytes =
     (λ _. rw (fed-events L s t bytes) (omega (arith, fold-total L (events s bytes) (table_tally t zero_counts), few-events s bytes g))) (λ _. omega arith)) (λ _. omega arith)) (λ _. omega arith)
   where
     P : FeedEffect → Type 0
-    P x = total x.counts ≤ length bytes + 1
+    P x = total (counts_in x.answer) ≤ length bytes + 1
 
 -- a feed that begins with counts c
 from-counts : (L : Layout) (x : Fed TableTally) (c : Counts) (bytes : List ℕ) →
@@ -55,7 +55,7 @@ from-counts L x c bytes =
 
 -- two taken feeds, the second on what the first leaves, as one: counts add
 abbrev pub together : FeedEffect → FeedEffect → FeedEffect
-together x y = record { answer = Taken; counts = add_counts x.counts y.counts; state = y.state; table = y.table }
+together x y = record { answer = Ok (add_counts (counts_in x.answer) (counts_in y.answer)); state = y.state; table = y.table }
 
 -- a feed on what another leaves
 abbrev pub onwards : Layout → FeedEffect → List ℕ → FeedEffect

@@ -8,7 +8,7 @@ use lib.Dec.{ltb, leb}
 use lib.IntN.{ℤ}
 use lib.ListN.{length, drop}
 use Rattle.wing_node.specs.declared.refusal.Refusal.{Refusal}
-use Rattle.wing_node.specs.Refusal.{alone, string_not_utf8}
+use Rattle.wing_node.specs.Refusal.{string_not_utf8}
 use Rattle.wing_node.specs.Bool.{if}
 use Rattle.wing_node.specs.Utf8.{utf8}
 use Rattle.wing_node.specs.Value.{NodeValue, integer, float, string}
@@ -69,7 +69,7 @@ module _ (L : Layout) (id : ℤ) (v : NodeValue) (t : Table) (out : List ℕ) wh
   unfolding mirror_set
   set_cases P r w =
       branch P (not (usable L t)) _ _ (λ _. r TableUnsound)
-      (λ _. keeping-cases P (keeping v) _ _ (λ mark number. r (alone number))
+      (λ _. keeping-cases P (keeping v) _ _ (λ mark why. r why)
       (λ k. branch P (too_long v) _ _ (λ _. r StringLong)
       (λ a. branch P (not_text v) _ _ (λ _. r (string_not_utf8 (text_in v)))
       (λ b. branch P (not (fits L (entry id v SetOrder) t)) _ _ (λ _. r NoPlace)

@@ -45,7 +45,7 @@ pub keep-total : (L : Layout) (node : ℤ) (e : Event) (k : TableTally) → tota
 unfolding keep_event
 keep-total L node more k = omega arith
 keep-total L node (value v) k =
-    keeping-cases P (L.keeping v) _ _ (λ mark number. tick-total mark k.counts)
+    keeping-cases P (L.keeping v) _ _ (λ mark why. tick-total mark k.counts)
     (λ _. branch P (fits L (entry node v Console) k.table) _ _ (λ _. tick-total Stored k.counts) (λ _. tick-total Unplaced k.counts))
   where
     P : TableTally → Type 0
@@ -82,10 +82,10 @@ keep-adds L c node (value v) k = go (L.keeping v) (fits L (entry node v Console)
     t = put L (entry node v Console) k.table
 
     go : (o : Keeping) (b : Bool) →
-        atop c (unless_kept o (λ mark number. table_tally k.table (tick mark k.counts)) (if b (table_tally t (tick Stored k.counts)) (table_tally k.table (tick Unplaced k.counts))))
-        ≡ unless_kept o (λ mark number. table_tally k.table (tick mark (add_counts c k.counts)))
+        atop c (unless_kept o (λ mark why. table_tally k.table (tick mark k.counts)) (if b (table_tally t (tick Stored k.counts)) (table_tally k.table (tick Unplaced k.counts))))
+        ≡ unless_kept o (λ mark why. table_tally k.table (tick mark (add_counts c k.counts)))
         (if b (table_tally t (tick Stored (add_counts c k.counts))) (table_tally k.table (tick Unplaced (add_counts c k.counts))))
-    go (unkept mark number) b = ap (table_tally k.table) (tick-adds mark c k.counts)
+    go (unkept mark why) b = ap (table_tally k.table) (tick-adds mark c k.counts)
     go kept true = ap (table_tally t) (tick-adds Stored c k.counts)
     go kept false = ap (table_tally k.table) (tick-adds Unplaced c k.counts)
 keep-adds L c node (body b) k = ap (table_tally k.table) (tick-adds (body_mark (definition_of b)) c k.counts)

@@ -75,7 +75,7 @@ put-kept L node v t counts r p buffer o e d =
 pub value-usable : {L : Layout} → Lawful L → (node : ℤ) (v : NodeValue) (k : TableTally) → (L.keeping v ≡ kept → storable v ≡ true) → usable L k.table ≡ true → usable L (keep_event L node (value v) k).table ≡ true
 unfolding keep_event
 value-usable {L} laws node v k h u =
-    keeping-cases P (L.keeping v) _ _ (λ mark number. u)
+    keeping-cases P (L.keeping v) _ _ (λ mark why. u)
     (λ o. branch P (fits L (entry node v Console) k.table) _ _ (λ f. entry-usable laws (entry node v Console) k.table (h o) o u f) (λ _. u))
   where
     P : TableTally → Type 0

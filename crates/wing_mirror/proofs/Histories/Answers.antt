@@ -14,12 +14,12 @@ use Rattle.wing_mirror.specs.Query.{same_tables, same_answer}
 use Rattle.wing_mirror.specs.Recall.{recall_of}
 use Rattle.wing_mirror.specs.Call.{Call, TypedCall}
 use Rattle.wing_mirror.specs.History.{mirror_run, machine_run, places_in, Equal, Comparing, Recalling}
-use Rattle.wing_mirror.specs.declared.answer.Same.{Same}
-use Rattle.wing_mirror.specs.declared.answer.Same.TheVariants.{Yes, No, Refused}
 use Rattle.wing_mirror.proofs.Records.Equals.{same-decides}
 use Rattle.wing_mirror.proofs.Histories.Mirrored.{usable-image}
 use Rattle.wing_mirror.proofs.Histories.Simulates.{whole-image}
 use Rattle.wing_mirror.proofs.Histories.Agrees.{map-valid, run-equal}
+use Rattle.wing_node.specs.Result.{Result}
+use Rattle.std.specs.Prelude.{Bool, Ok, Err}
 
 module _ {L : Layout} (laws : Lawful L) where
   -- a mirror with 1 to 1,024 places is usable after any history
@@ -28,17 +28,17 @@ module _ {L : Layout} (laws : Lawful L) where
       let m : List Entry = (machine_run L (places_in L b) calls).state.map in
       rw (whole-image laws b calls t) (usable-image laws b m (map-valid L (places_in L b) calls t) ∙ r)
 
-  abbrev same_number : Same → ℕ
-  same_number Yes = 0
-  same_number No = 1
-  same_number (Refused n) = 2
+  abbrev same_number : Result Bool → ℕ
+  same_number (Ok true) = 0
+  same_number (Ok false) = 1
+  same_number (Err n) = 2
 
   -- the call says yes exactly if count and records are equal
-  pub says_same : (t u : Table) → usable L t ≡ true → usable L u ≡ true → ((same_answer L t u ≡ Yes) ↔ Equal L t u)
+  pub says_same : (t u : Table) → usable L t ≡ true → usable L u ≡ true → ((same_answer L t u ≡ (Ok true)) ↔ Equal L t u)
   unfolding same_answer
   says_same t u p q = rw (p, q) (λ e. from-answer (same_tables L t u) refl e, λ e. rw ((same-decides L t u).whole (e.counts, e.records)))
     where
-      from-answer : (s : Bool) → same_tables L t u ≡ s → if s Yes No ≡ Yes → Equal L t u
+      from-answer : (s : Bool) → same_tables L t u ≡ s → ◌≡◌ {A = Result Bool} (Ok s) (Ok true) → Equal L t u
       from-answer true e h = let d = (same-decides L t u).right e in record { counts = d.0; records = d.1 }
       from-answer false e h = absurd (let z = ap same_number h in omega arith)
 

@@ -14,12 +14,12 @@ use Rattle.wing_mirror.specs.Query.{same_answer}
 use Rattle.wing_mirror.specs.Recall.{set_of, recall_bytes}
 use Rattle.wing_mirror.specs.History.{Equal, EqualButOrigins}
 use Rattle.wing_mirror.specs.Origins.{entries_of, SameButOrigins, Taken}
-use Rattle.wing_mirror.specs.declared.answer.Same.TheVariants.{Yes}
 use Rattle.wing_mirror.specs.declared.origin.Origin.TheVariants.{Console}
 use Rattle.wing_mirror.proofs.Tables.Chunks.{length-records}
 use Rattle.wing_mirror.proofs.Records.Entries.{each, rows_back}
 use Rattle.wing_mirror.proofs.Histories.Answers.{says_same}
 use Rattle.wing_mirror.proofs.Histories.Demand.{clear-all}
+use Rattle.std.specs.Prelude.{Ok, true}
 
 module _ {L : Layout} (laws : Lawful L) where
   open L use {record_of, entry_in, origin_at}
@@ -33,7 +33,7 @@ module _ {L : Layout} (laws : Lawful L) where
       go (e ∷ es) = rw (laws.origin e, go es)
 
   -- records are equal exactly if what they say is
-  pub compared : (t u : Table) → Taken L t → Taken L u → (same_answer L t u ≡ Yes ↔ entries_of L t ≡ entries_of L u)
+  pub compared : (t u : Table) → Taken L t → Taken L u → (same_answer L t u ≡ (Ok true) ↔ entries_of L t ≡ entries_of L u)
   compared t u a b =
       let s = says_same laws t u a.1 b.1 in
       (λ y. ap (map entry_in) (s.0 y).records, λ q. s.1 (alike (sym (rows_back laws t a.0 a.1) ∙ ap (map record_of) q ∙ rows_back laws u b.0 b.1)))

@@ -10,16 +10,15 @@ use Rattle.wing_node.specs.Value.{NodeValue}
 use Rattle.wing_wire.specs.Command.{set_bytes}
 use Rattle.wing_mirror.specs.Rows.{Table}
 use Rattle.wing_mirror.specs.Layout.{Layout}
-use Rattle.wing_mirror.specs.Counts.{total}
+use Rattle.wing_mirror.specs.Counts.{total, counts_in}
 use Rattle.wing_mirror.specs.Call.{Call, feed, set, run_all}
 use Rattle.wing_mirror.specs.Mirror.{mirror_feed, SetEffect, mirror_set}
 use Rattle.wing_mirror.specs.History.{Mirror, feed_outcome, set_outcome, mirror_step, Bounded, Each}
-use Rattle.wing_mirror.specs.declared.answer.FeedAnswer.{FeedAnswer}
-use Rattle.wing_mirror.specs.declared.answer.FeedAnswer.TheVariants.{Taken, Refused as FeedRefused}
 use Rattle.wing_mirror.proofs.Calls.Outcomes.{set_cases}
 use Rattle.wing_mirror.proofs.Calls.Feeds.{feed-counts}
 use Rattle.wing_node.specs.Result.{Result}
 use Rattle.std.specs.Prelude.{ℕ, Ok, Err}
+use Rattle.wing_mirror.specs.declared.answer.Counts.{Counts}
 
 module _ (L : Layout) where
   -- a set keeps the length of its output
@@ -33,9 +32,9 @@ module _ (L : Layout) where
   unfolding mirror_step
   step-bounded m (feed bytes) = go (mirror_feed L m.decoder m.table bytes).answer (feed-counts L m.decoder m.table bytes)
     where
-      go : (a : FeedAnswer) → total (mirror_feed L m.decoder m.table bytes).counts ≤ length bytes + 1 → Bounded (feed bytes) (feed_outcome a (mirror_feed L m.decoder m.table bytes).counts)
-      go Taken h = h
-      go (FeedRefused n) h = tt
+      go : (a : Result Counts) → total (counts_in a) ≤ length bytes + 1 → Bounded (feed bytes) (feed_outcome a)
+      go (Ok c) h = h
+      go (Err why) h = tt
   step-bounded m (set id v out) = go (mirror_set L id v m.table out).answer (mirror_set L id v m.table out).out (set-length id v m.table out)
     where
       go : (a : Result ℕ) (left : List ℕ) → length left ≡ length out → Bounded (set id v out) (set_outcome a left)

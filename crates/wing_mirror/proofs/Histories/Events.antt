@@ -27,7 +27,7 @@ module _ (L : Layout) (places : ℕ) where
   unfolding machine_event
   machine-event-valid node more h p g = g
   machine-event-valid node (value v) h p g =
-      keeping-cases P (keeping v) _ _ (λ mark number. g)
+      keeping-cases P (keeping v) _ _ (λ mark why. g)
       (λ k. branch P (room places node h.map) _ _ (λ q. valid-put places (entry node v Console) h.map g (p k) q) (λ _. g))
     where
       P : MapTally → Type 0
@@ -59,7 +59,7 @@ module _ {L : Layout} (laws : Lawful L) (buffer : List ℕ) where
     where
       go : (k : Keeping) → keeping v ≡ k → (t : Bool) → room (places_in L buffer) node h.map ≡ t →
           keep_event L node (value v) (table_tally_of L buffer h) ≡ table_tally_of L buffer (machine_event keeping (places_in L buffer) node (value v) h)
-      go (unkept mark number) k t q = rw k
+      go (unkept mark why) k t q = rw k
       go kept k true q = rw (k, fits-image laws buffer h.map g (entry node v Console) (p k), q, put-image laws buffer h.map g (entry node v Console) (p k))
       go kept k false q = rw (k, fits-image laws buffer h.map g (entry node v Console) (p k), q)
   keep-image node (body b) h p g = refl

@@ -60,9 +60,9 @@ module _ (L : Layout) (places : ℕ) where
   event-value P more v e f = absurd (let w : ◌≡◌ {A = ℕ} 0 1 = cc in omega arith)
   event-value P (value u) v e f = go (keeping u) refl e
     where
-      go : (k : Keeping) → keeping u ≡ k → unless_kept k (λ mark number. nothing) (found u) ≡ found v → P (value u)
+      go : (k : Keeping) → keeping u ≡ k → unless_kept k (λ mark why. nothing) (found u) ≡ found v → P (value u)
       go kept q z = let same : u ≡ v = cc in subst (λ (y : NodeValue). P (value y)) (sym same) (f (ap keeping (sym same) ∙ q))
-      go (unkept mark number) q z = absurd (let w : ◌≡◌ {A = ℕ} 0 1 = cc in omega arith)
+      go (unkept mark why) q z = absurd (let w : ◌≡◌ {A = ℕ} 0 1 = cc in omega arith)
   event-value P (body b) v e f = absurd (let w : ◌≡◌ {A = ℕ} 0 1 = cc in omega arith)
   event-value P end v e f = absurd (let w : ◌≡◌ {A = ℕ} 0 1 = cc in omega arith)
   event-value P (refused n) v e f = absurd (let w : ◌≡◌ {A = ℕ} 0 1 = cc in omega arith)
@@ -104,7 +104,7 @@ module _ (L : Layout) (places : ℕ) where
           let z : found v ≡ nothing = rw (k, s) at n in let w : ◌≡◌ {A = ℕ} 0 1 = cc in omega arith
 
       go : (k : Keeping) → keeping v ≡ k → (t : Bool) → room places node h.map ≡ t → P (machine_event keeping places node (value v) h)
-      go (unkept mark number) k t q = rw k (λ i. i, λ i. i)
+      go (unkept mark why) k t q = rw k (λ i. i, λ i. i)
       go kept k true q = rw (k, q) (put-others e (entry node v Console) h.map (apart k))
       go kept k false q = rw (k, q) (λ i. i, λ i. i)
   event-others e node (body b) h n = (λ i. i, λ i. i)
@@ -168,7 +168,7 @@ module _ (L : Layout) (places : ℕ) where
   unfolding machine_event
   event-grows node more h = omega arith
   event-grows node (value v) h =
-      keeping-cases P (keeping v) _ _ (λ mark number. omega arith) (λ _. branch P (room places node h.map) _ _ (λ _. put-grows (entry node v Console) h.map) (λ _. omega arith))
+      keeping-cases P (keeping v) _ _ (λ mark why. omega arith) (λ _. branch P (room places node h.map) _ _ (λ _. put-grows (entry node v Console) h.map) (λ _. omega arith))
     where
       P : MapTally → Type 0
       P y = length h.map ≤ length y.map
@@ -185,7 +185,7 @@ module _ (L : Layout) (places : ℕ) where
   unfolding machine_event
   event-has id node more h k = k
   event-has id node (value v) h k =
-      keeping-cases P (keeping v) _ _ (λ mark number. k) (λ _. branch P (room places node h.map) _ _ (λ _. put_has id (entry node v Console) h.map k) (λ _. k))
+      keeping-cases P (keeping v) _ _ (λ mark why. k) (λ _. branch P (room places node h.map) _ _ (λ _. put_has id (entry node v Console) h.map k) (λ _. k))
     where
       P : MapTally → Type 0
       P y = has id y.map ≡ true

@@ -61,7 +61,7 @@ module _ (L : Layout) (places : ℕ) where
   unfolding machine_step
   invariant-set s id v out t w =
       branch P (not (places_allowed places)) _ _ (λ _. w)
-      (λ _. keeping-cases P (keeping v) _ _ (λ mark number. w)
+      (λ _. keeping-cases P (keeping v) _ _ (λ mark why. w)
       (λ k. branch P (too_long v) _ _ (λ _. w)
       (λ a. branch P (not_text v) _ _ (λ _. w)
       (λ b. branch P (not (room places id s.map)) _ _ (λ _. w)

@@ -23,7 +23,6 @@ use Rattle.wing_mirror.specs.Mirror.{TableTally, table_tally, keep_event, FeedEf
 use Rattle.wing_mirror.specs.Machine.{StreamEvent, put_in, room, events, MapTally, map_tally, machine_events}
 use Rattle.wing_mirror.specs.History.{in_order, places_in}
 use Rattle.wing_mirror.specs.Origins.{entries_of, GivenBySet, GivenByFeed, WhoSetIt}
-use Rattle.wing_mirror.specs.declared.answer.FeedAnswer.TheVariants.{Taken, Refused as FeedRefused}
 use Rattle.wing_mirror.specs.declared.origin.Origin.TheVariants.{Console, SetOrder}
 use Rattle.wing_mirror.proofs.Calls.Outcomes.{fed-events, passed, set_cases}
 use Rattle.wing_mirror.proofs.Histories.Along.{fold_events}
@@ -37,7 +36,7 @@ use Rattle.wing_mirror.proofs.Histories.Starts.{own-valid, own-image}
 use Rattle.wing_mirror.proofs.Histories.Puts.{put-in, put-others, one_entry, in-has}
 use Rattle.wing_mirror.proofs.Histories.Given.{events-others, events-give, events-put}
 use Rattle.wing_mirror.proofs.Histories.Aside.{origin-bytes, compared, recalled, aside}
-use Rattle.std.specs.Prelude.{Ok}
+use Rattle.std.specs.Prelude.{Ok, is_ok, false}
 
 -- ---- a usable table
 
@@ -117,7 +116,7 @@ module _ {L : Layout} (laws : Lawful L) where
           (λ _ z. absurd (let w : ◌≡◌ {A = ℕ} 0 1 = cc in omega arith)) (λ q z. passed (usable L t) q)
 
   feed-gives : (s : State) (t : Table) (bytes : List ℕ) → AreBytes t.buffer → InRange s.control s.store → TypedCall (feed bytes) →
-      (mirror_feed L s t bytes).answer ≡ Taken → GivenByFeed L (places_in L t.buffer) (events s bytes) (entries_of L t) (entries_of L (mirror_feed L s t bytes).table)
+      is_ok (mirror_feed L s t bytes).answer ≡ true → GivenByFeed L (places_in L t.buffer) (events s bytes) (entries_of L t) (entries_of L (mirror_feed L s t bytes).table)
   unfolding mirror_feed
   feed-gives s t bytes b inside are =
       branch P (sound_state s) _ _
@@ -126,9 +125,9 @@ module _ {L : Layout} (laws : Lawful L) where
       (λ _ z. rw (fed-events L s t bytes) (events-kept laws t b u s bytes (record { sound = g; inside = inside }) are)) (λ _ z. no z)) (λ _ z. no z)) (λ _ z. no z)
     where
       P : FeedEffect → Type 0
-      P x = x.answer ≡ Taken → GivenByFeed L (places_in L t.buffer) (events s bytes) (entries_of L t) (entries_of L x.table)
+      P x = is_ok x.answer ≡ true → GivenByFeed L (places_in L t.buffer) (events s bytes) (entries_of L t) (entries_of L x.table)
 
-      no : {A : Type 0} {why : ℕ} → FeedRefused why ≡ Taken → A
+      no : {A : Type 0} → false ≡ true → A
       no e = absurd (let w : ◌≡◌ {A = ℕ} 0 1 = cc in omega arith)
 
 pub who-set-it : {L : Layout} → Lawful L → WhoSetIt L

@@ -28,6 +28,7 @@ use Rattle.wing_mirror.proofs.Tables.Members.{above}
 use Rattle.wing_mirror.proofs.Records.Ids.{same_id_lem}
 use Rattle.wing_mirror.proofs.Histories.Along.{fold_events}
 use Rattle.wing_mirror.proofs.Histories.Recalls.{events-pieces, entry_event, recall-events}
+use Rattle.wing_node.specs.declared.refusal.Refusal.{Refusal}
 
 -- events handed on in two lists
 fold-append : {M : Type 0} (h : ℤ → Event → M → M) (xs ys : List StreamEvent) (m : M) → fold_events h (xs ++ ys) m ≡ fold_events h ys (fold_events h xs m)
@@ -81,13 +82,13 @@ module _ (L : Layout) (places : ℕ) where
   -- what an event makes of the map alone
   unfoldable map_event : ℤ → Event → List Entry → List Entry
   map_event node more m = m
-  map_event node (value v) m = unless_kept (keeping v) (λ mark number. m) (if (room places node m) (put_in (entry node v Console) m) m)
+  map_event node (value v) m = unless_kept (keeping v) (λ mark why. m) (if (room places node m) (put_in (entry node v Console) m) m)
   map_event node (body b) m = m
   map_event node end m = m
   map_event node (refused n) m = m
 
-  kept_map : (k : Keeping) (t : Bool) (f : Mark → ℕ → MapTally) (x y : MapTally) → (unless_kept k f (if t x y)).map ≡ unless_kept k (λ mark number. (f mark number).map) (if t x.map y.map)
-  kept_map (unkept mark number) t f x y = refl
+  kept_map : (k : Keeping) (t : Bool) (f : Mark → Refusal → MapTally) (x y : MapTally) → (unless_kept k f (if t x y)).map ≡ unless_kept k (λ mark why. (f mark why).map) (if t x.map y.map)
+  kept_map (unkept mark why) t f x y = refl
   kept_map kept true f x y = refl
   kept_map kept false f x y = refl
 

@@ -87,7 +87,7 @@ module _ {L : Layout} (laws : Lawful L) (buffer : List ℕ) where
           (d : Bool) → room (places_in L buffer) id s.map ≡ d → (l : Bool) → ltb (length out) (length (set_bytes id v)) ≡ l →
           mirror_step L (mirror_of L buffer s) (set id v out) ≡ image_step L buffer (machine_step keeping (places_in L buffer) s (set id v out))
       go false p k o b q c r d e l f = rw (u, p)
-      go true p (unkept mark number) o b q c r d e l f = rw (u, p, o)
+      go true p (unkept mark why) o b q c r d e l f = rw (u, p, o)
       go true p kept o true q c r d e l f = rw (u, p, o, q)
       go true p kept o false q true r d e l f = rw (u, p, o, q, r)
       go true p kept o false q false r d e l f = last d e l f

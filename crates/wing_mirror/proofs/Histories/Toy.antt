@@ -29,13 +29,14 @@ use Rattle.wing_mirror.proofs.Records.Formed.{origin-known}
 use Rattle.wing_mirror.proofs.Records.Trips.{origin-back, origin-again}
 use Rattle.wing_mirror.proofs.Records.Lookups.{lookups}
 use Rattle.wing_mirror.proofs.Histories.Demand.{histories}
+use Rattle.wing_node.specs.declared.refusal.Refusal.TheVariants.{WidthWrong}
 
--- integers from 0 to 255 are kept; a set of any other value is refused by 99
+-- integers from 0 to 255 are kept; a set of any other value is refused for one reason
 unfoldable pub small : NodeValue → Keeping
-small (integer (pos n)) = if (ltb n 256) kept (unkept Uncounted 99)
-small (integer (negsuc n)) = unkept Uncounted 99
-small (float bits) = unkept Uncounted 99
-small (string s) = unkept Uncounted 99
+small (integer (pos n)) = if (ltb n 256) kept (unkept Uncounted WidthWrong)
+small (integer (negsuc n)) = unkept Uncounted WidthWrong
+small (float bits) = unkept Uncounted WidthWrong
+small (string s) = unkept Uncounted WidthWrong
 
 -- the byte of a value that is kept
 unfoldable pub byte_of : NodeValue → ℕ

@@ -17,12 +17,12 @@ use Rattle.wing_node.specs.Utf8.{utf8}
 use Rattle.wing_node.specs.Value.{NodeValue, integer, float, string, node_value}
 use Rattle.wing_node.proofs.Branches.{if-both}
 use Rattle.wing_wire.specs.Range.{AreBytes}
-use Rattle.wing_mirror.specs.Rows.{Table, found, nothing, holds, below, number_of, All}
+use Rattle.wing_mirror.specs.Rows.{Table, Found, found, nothing, holds, below, number_of, All}
 use Rattle.wing_mirror.specs.Entry.{Entry, entry, rank_of, storable}
 use Rattle.wing_mirror.specs.Layout.{Layout, Row, Lawful}
 use Rattle.wing_mirror.specs.Table.{rows, usable, lookup_of}
 use Rattle.wing_mirror.specs.Query.{answer_of, lookup_answer, value_of, bytes_beside, read_of, record_answer}
-use Rattle.wing_mirror.specs.Answers.{lookup_result, entry_result, record_result}
+use Rattle.wing_mirror.specs.Answers.{lookup_result, record_result}
 use Rattle.wing_mirror.specs.Lookups.{RecordOf, Lookups}
 use Rattle.wing_mirror.specs.declared.origin.Origin.{Origin}
 use Rattle.wing_mirror.proofs.Tables.Chunks.{length-records}
@@ -32,14 +32,15 @@ use Rattle.wing_mirror.proofs.Records.Usables.{up}
 use Rattle.wing_mirror.proofs.Records.Formed.{take-over}
 use Rattle.wing_mirror.proofs.Records.Entries.{row-stands, each}
 use Rattle.wing_node.specs.declared.refusal.Refusal.TheVariants.{NumberOver, TableUnsound}
+use Rattle.std.specs.Prelude.{Ok}
 
 -- ids that stand at one place are one
 rank-one : (i j : ℤ) → InBits 31 i → InBits 31 j → rank_of i ≡ rank_of j → i ≡ j
 rank-one i j h k e = same_id_lem i j (same_rank i j h k ∙ eq-eqb (rank_of i) (rank_of j) e)
 
 -- what a read of an entry's record says is the entry
-value_read : (id : ℤ) (v : NodeValue) (o : Origin) → storable v ≡ true → record_result (read_of (entry id v o)) ≡ ok (entry id v o)
-unfolding entry_result read_of value_of bytes_beside node_value storable
+value_read : (id : ℤ) (v : NodeValue) (o : Origin) → storable v ≡ true → record_result (Ok (read_of (entry id v o))) ≡ Ok (entry id v o)
+unfolding record_result read_of value_of bytes_beside node_value storable
 value_read id (integer x) o h = refl
 value_read id (float bits) o h = refl
 value_read id (string s) o h =
@@ -64,7 +65,7 @@ module _ {L : Layout} (laws : Lawful L) where
   lookup-refused t id q = rw q
 
   record-refused : (t : Table) (n : ℕ) → usable L t ≡ false → record_result (record_answer L t n) ≡ refused TableUnsound
-  unfolding record_answer entry_result
+  unfolding record_answer record_result
   record-refused t n q = rw q
 
   module _ (t : Table) (b : AreBytes t.buffer) (u : usable L t ≡ true) where
@@ -89,7 +90,7 @@ module _ {L : Layout} (laws : Lawful L) where
 
     -- a number that is not below the count
     past : (n : ℕ) → ltb n t.count ≡ false → record_result (record_answer L t n) ≡ refused NumberOver
-    unfolding record_answer entry_result
+    unfolding record_answer record_result
     past n q = rw (u, q)
 
     module _ (id : ℤ) (i : InBits 31 id) where
@@ -129,18 +130,18 @@ module _ {L : Layout} (laws : Lawful L) where
       pub at_row : (n : ℕ) → (lookup_result (lookup_answer L t id) ≡ ok (found n) ↔ RecordOf L t n id)
       at_row n = (λ e. from (holds key_of (rank_of id) (rows L t)) refl (sym looked ∙ e), λ r. looked ∙ rw ((id-found n r).0, (id-found n r).1))
         where
-          from : (h : Bool) → holds key_of (rank_of id) (rows L t) ≡ h → ok (if h (found (below key_of (rank_of id) (rows L t))) nothing) ≡ ok (found n) → RecordOf L t n id
+          from : (h : Bool) → holds key_of (rank_of id) (rows L t) ≡ h → ◌≡◌ {A = Result (Found ℕ)} (ok (if h (found (below key_of (rank_of id) (rows L t))) nothing)) (ok (found n)) → RecordOf L t n id
           from true q e = let z : below key_of (rank_of id) (rows L t) ≡ n = cc in rw z at (there q)
           from false q e = absurd (let z : nothing ≡ found n = cc in let w : ◌≡◌ {A = ℕ} 0 1 = cc in omega arith)
 
       pub none_row : lookup_result (lookup_answer L t id) ≡ ok nothing ↔ ((n : ℕ) → RecordOf L t n id → ⊥)
       none_row = (λ e. from (holds key_of (rank_of id) (rows L t)) refl (sym looked ∙ e), λ f. looked ∙ back (holds key_of (rank_of id) (rows L t)) refl f)
         where
-          from : (h : Bool) → holds key_of (rank_of id) (rows L t) ≡ h → ok (if h (found (below key_of (rank_of id) (rows L t))) nothing) ≡ ok nothing → (n : ℕ) → RecordOf L t n id → ⊥
+          from : (h : Bool) → holds key_of (rank_of id) (rows L t) ≡ h → ◌≡◌ {A = Result (Found ℕ)} (ok (if h (found (below key_of (rank_of id) (rows L t))) nothing)) (ok nothing) → (n : ℕ) → RecordOf L t n id → ⊥
           from true q e n r = let z : found (below key_of (rank_of id) (rows L t)) ≡ nothing = cc in let w : ◌≡◌ {A = ℕ} 0 1 = cc in omega arith
           from false q e n r = let z : ◌≡◌ {A = Bool} true false = sym (id-found n r).0 ∙ q in let w : ◌≡◌ {A = ℕ} 0 1 = cc in omega arith
 
-          back : (h : Bool) → holds key_of (rank_of id) (rows L t) ≡ h → ((n : ℕ) → RecordOf L t n id → ⊥) → ok (if h (found (below key_of (rank_of id) (rows L t))) nothing) ≡ ok nothing
+          back : (h : Bool) → holds key_of (rank_of id) (rows L t) ≡ h → ((n : ℕ) → RecordOf L t n id → ⊥) → ◌≡◌ {A = Result (Found ℕ)} (ok (if h (found (below key_of (rank_of id) (rows L t))) nothing)) (ok nothing)
           back true q f = absurd (f (below key_of (rank_of id) (rows L t)) (there q))
           back false q f = refl
 

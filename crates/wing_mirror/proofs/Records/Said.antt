@@ -20,9 +20,9 @@ use Rattle.wing_mirror.specs.Origin.{origin_of}
 use Rattle.wing_mirror.specs.Entry.{entry}
 use Rattle.wing_mirror.specs.Record.{id_in, value_in, origin_byte, entry_in}
 use Rattle.wing_mirror.specs.Query.{value_of, bytes_beside, beside_zeros, read_of}
-use Rattle.wing_mirror.specs.declared.answer.RecordAnswer.TheVariants.{Record}
 use Rattle.wing_mirror.specs.declared.origin.Origin.{Origin}
 use Rattle.wing_mirror.proofs.Tables.Laying.{take-least, sets_over}
+use Rattle.wing_mirror.specs.declared.answer.RecordRead.{RecordRead}
 
 -- the row of a number
 pub row_of : (w n i : ℕ) (b : List ℕ) → i < n → get_or (records w n b) i [] ≡ take w (drop (w * i) b)
@@ -34,14 +34,14 @@ row_of w (suc n) (suc i) b h =
     rw (y, ← drop-drop (w * i) w b) (row_of w n i (drop w b) (omega arith))
 
 pub string-said : (id : ℤ) (o : Origin) (n len : ℕ) (p out : List ℕ) → length p ≡ 256 → len ≡ min n 256 → out ≡ sets (replicate 256 0) 0 (take len p) →
-    record { answer = Record id (String len) o; string = out } ≡ read_of (entry id (string (take n p)) o)
+    ◌≡◌ {A = RecordRead} (record { id = id; value = String len; origin = o; string = out }) (read_of (entry id (string (take n p)) o))
 unfolding read_of value_of bytes_beside
 string-said id o n len p out h l e =
     let z : len ≡ min n (length p) = l ∙ ap (min n) (sym h) in
     let t : take len p ≡ take n p = ap (λ (m : ℕ). take m p) z ∙ take-least n p in
     let m : len ≡ length (take n p) = z ∙ sym (length-take n p) in
     let f : out ≡ filled 256 (take n p) = e ∙ ap (λ (q : List ℕ). sets (replicate 256 0) 0 q) t ∙ sets_over (take n p) (replicate 256 0) in
-    ap₂ (λ (a : ℕ) (b : List ℕ). record { answer = Record id (String a) o; string = b }) m f
+    ap₂ (λ (a : ℕ) (b : List ℕ). record { id = id; value = String a; origin = o; string = b }) m f
 
 module _ (r : List ℕ) (wide : length r ≡ 264) where
   pub id-said : (id : ℤ) → id ≡ signed 31 (field_at 4 r 0) → id ≡ id_in r

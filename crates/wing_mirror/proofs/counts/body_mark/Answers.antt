@@ -2,10 +2,10 @@
 use Rattle.wing_mirror.specs.Counts.{body_mark}
 use Rattle.wing_mirror.proofs.counts.body_mark.Goals as goal
 
-pub returns-in-Good : goal.returns-in-Good
+pub returns-in-Ok : goal.returns-in-Ok
 unfolding body_mark
-returns-in-Good c = rw (← c.from_bytes-p.ensures, c.in-Good.is)
+returns-in-Ok c = rw (← c.from_bytes-p.ensures, c.in-Ok.is)
 
-pub returns-in-Refused : goal.returns-in-Refused
+pub returns-in-Err : goal.returns-in-Err
 unfolding body_mark
-returns-in-Refused c = rw (← c.from_bytes-p.ensures, c.in-Refused.is, c.refusal_mark.ensures)
+returns-in-Err c = rw (← c.from_bytes-p.ensures, c.in-Err.is, c.refusal_mark.ensures)

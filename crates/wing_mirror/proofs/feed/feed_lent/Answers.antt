@@ -1,13 +1,11 @@
--- By the contract of `feed_fault` the feed is taken where it gives 0, and `feed_on` makes it; else it is refused with that number.
-use borrow.Author.Tests.{eq-eqb, ne_eqb}
+-- By the contract of `feed_fault` the feed is taken where nothing is at fault, and `feed_on` makes it; else it is refused for that reason.
 use Rattle.wing_mirror.proofs.feed.feed_lent.Goals as goal
 
 pub feed_on-requires : goal.feed_on-requires
-feed_on-requires c = c.feed_fault-why.ensures.1 c.if-why-eq0.true
+feed_on-requires c = let k = rw c.in-Ok.is at c.feed_fault.ensures in (k.1, k.2, k.3, k.4)
 
-pub returns-then-why-eq0 : goal.returns-then-why-eq0
-returns-then-why-eq0 c =
-    rw (c.feed_fault-why.ensures.0, eq-eqb _ _ c.if-why-eq0.true) c.feed_on.ensures
+pub returns-in-Ok : goal.returns-in-Ok
+returns-in-Ok c = rw ((rw c.in-Ok.is at c.feed_fault.ensures).0) c.feed_on.ensures
 
-pub returns : goal.returns
-returns c = rw (c.zero_counts-counts.ensures, c.feed_fault-why.ensures.0, ne_eqb _ _ c.if-why-eq0.false)
+pub returns-in-Err : goal.returns-in-Err
+returns-in-Err c = rw (rw c.in-Err.is at c.feed_fault.ensures)

@@ -12,6 +12,7 @@ use Rattle.wing_mirror.proofs.Tables.Chunks.{row-wide}
 use Rattle.wing_mirror.proofs.Records.Usables.{room}
 use Rattle.wing_mirror.proofs.Records.Said.{row_of}
 use Rattle.wing_mirror.proofs.query.record.Goals as goal
+use Rattle.std.specs.Prelude.{Ok}
 
 pub row-requires : goal.row-requires
 row-requires c =
@@ -28,12 +29,12 @@ unfolding record_answer
 returns-then-number-count c =
     let a = c.args in
     let below = c.if-number-count.true in
-    rw (sym c.is_usable.ensures ∙ c.if-is_usable.true, lt-ltb _ _ below) (c.read_record.ensures ∙ ap (λ (r : List ℕ). read_of (entry_in r)) (c.row.ensures ∙ sym (row_of 264 a.count a.number a.table.now below)))
+    rw (sym c.is_usable.ensures ∙ c.if-is_usable.true, lt-ltb _ _ below) (ap Ok c.read_record.ensures ∙ ap (λ (r : List ℕ). Ok (read_of (entry_in r))) (c.row.ensures ∙ sym (row_of 264 a.count a.number a.table.now below)))
 
 pub returns-then-is_usable : goal.returns-then-is_usable
 unfolding record_answer
-returns-then-is_usable c = simp (← c.is_usable.ensures, c.if-is_usable.true, le-ltb _ _ c.if-number-count.false, c.refused.ensures)
+returns-then-is_usable c = simp (← c.is_usable.ensures, c.if-is_usable.true, le-ltb _ _ c.if-number-count.false)
 
 pub returns : goal.returns
 unfolding record_answer
-returns c = simp (← c.is_usable.ensures, c.if-is_usable.false, c.refused-2.ensures)
+returns c = simp (← c.is_usable.ensures, c.if-is_usable.false)

@@ -3,10 +3,10 @@ use mathlib.Core.Path.{sym, ap}
 use Rattle.wing_mirror.specs.Sending.{size_in}
 use Rattle.wing_mirror.proofs.recall.size_in.Goals as goal
 
-pub returns-in-Bytes : goal.returns-in-Bytes
+pub returns-in-Ok : goal.returns-in-Ok
 unfolding size_in
-returns-in-Bytes c = sym (ap size_in c.in-Bytes.is)
+returns-in-Ok c = sym (ap size_in c.in-Ok.is)
 
-pub returns-in-Refused : goal.returns-in-Refused
+pub returns-in-Err : goal.returns-in-Err
 unfolding size_in
-returns-in-Refused c = sym (ap size_in c.in-Refused.is)
+returns-in-Err c = sym (ap size_in c.in-Err.is)

@@ -11,11 +11,11 @@ pub put-kept-requires : goal.put-kept-requires
 put-kept-requires c =
     (in_order_lem (table c.args.table.now c.args.count) c.requires.0, c.requires.1)
 
-pub returns-in-Bytes : goal.returns-in-Bytes
+pub returns-in-Ok : goal.returns-in-Ok
 unfolding kept_of
-returns-in-Bytes c =
-    rw c.in-Bytes.is (ap (λ (d : PutEffect). record { answer = Ok c.in-Bytes.n; after = d.after }) (c.put-kept.ensures ∙ put_is c.args.rec.now (table c.args.table.now c.args.count)))
+returns-in-Ok c =
+    rw c.in-Ok.is (ap (λ (d : PutEffect). record { answer = Ok c.in-Ok.n; after = d.after }) (c.put-kept.ensures ∙ put_is c.args.rec.now (table c.args.table.now c.args.count)))
 
-pub returns-in-Refused : goal.returns-in-Refused
+pub returns-in-Err : goal.returns-in-Err
 unfolding kept_of
-returns-in-Refused c = rw (c.refused.ensures, c.in-Refused.is)
+returns-in-Err c = rw (c.refused.ensures, c.in-Err.is)

@@ -17,21 +17,21 @@ unfolding node_value
 set_value-requires c =
     let v = c.args.value.now in
     let short = c.if-value-le256.true in
-    let u = string-right v (sym (rw (take_all 256 v short) at c.string_fault-fault.ensures) ∙ c.in-None.is) in
+    let u = string-right v (sym (rw (take_all 256 v short) at c.string_fault.ensures) ∙ c.in-Ok.is) in
     rw (take_all (length v) v (omega arith)) (storable-string v short u)
 
-pub returns-in-None : goal.returns-in-None
+pub returns-in-Ok : goal.returns-in-Ok
 unfolding node_value
-returns-in-None c =
+returns-in-Ok c =
     let v = c.args.value.now in
     rw (to_z-of_z c.ranges.id, take_all (length v) v (omega arith)) at c.set_value.ensures
 
-pub returns-in-Refused : goal.returns-in-Refused
-returns-in-Refused c =
+pub returns-in-Err : goal.returns-in-Err
+returns-in-Err c =
     let a = c.args in
     let v = a.value.now in
     let short = c.if-value-le256.true in
-    let w = string-wrong v _ (sym (rw (take_all 256 v short) at c.string_fault-fault.ensures) ∙ c.in-Refused.is) in
+    let w = string-wrong v _ (sym (rw (take_all 256 v short) at c.string_fault.ensures) ∙ c.in-Err.is) in
     rw (c.refused_string.ensures, w.1) (bad-string full a.id v (table a.table.now a.count) a.out.now refl short w.0)
 
 pub returns : goal.returns
