@@ -12,8 +12,7 @@ use Rattle.wing_wire.specs.declared.state.State.{State}
 use Rattle.wing_wire.specs.declared.earlier.Token.{Token as EarlierToken}
 use Rattle.wing_wire.specs.declared.earlier.Token.TheVariants.{Between as between, Number as number, String as string, Body as body}
 use Rattle.wing_wire.specs.declared.earlier.State.{State as EarlierState}
-use Rattle.wing_saved.specs.Saved.{head_under, head_from_under, loaded_as}
-use Rattle.wing_saved.specs.declared.Loaded.{Loaded}
+use Rattle.wing_saved.specs.Saved.{head_under, head_from_under}
 use Rattle.wing_node.specs.declared.refusal.Refusal.TheVariants.{StateUnsound}
 
 -- the version before 02's Job 4
@@ -56,8 +55,8 @@ carried_from (ok s) = carry_of s
 carried_from (refused why) = refused why
 
 -- what bytes of version 1 are loaded as
-unfoldable pub load_earlier_of : List ℕ → Loaded
-load_earlier_of bytes = loaded_as (carried_from (earlier_from bytes))
+unfoldable pub load_earlier_of : List ℕ → Result State
+load_earlier_of bytes = carried_from (earlier_from bytes)
 
 -- ---- what holds of them
 

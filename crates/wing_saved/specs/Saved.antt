@@ -16,10 +16,6 @@ use Rattle.wing_wire.specs.declared.state.Token.TheVariants.{Between, Number, St
 use Rattle.wing_wire.specs.declared.state.Control.{Control}
 use Rattle.wing_wire.specs.declared.state.State.{State}
 use Rattle.wing_saved.specs.declared.TokenFields.{TokenFields}
-use Rattle.wing_saved.specs.declared.HeadRead.{HeadRead}
-use Rattle.wing_saved.specs.declared.Loaded.{Loaded}
-use Rattle.wing_saved.specs.declared.LoadAnswer.{LoadAnswer}
-use Rattle.wing_saved.specs.declared.LoadAnswer.TheVariants.{Good, Refused as NotLoaded}
 use Rattle.wing_node.specs.declared.refusal.Refusal.TheVariants.{StateUnsound}
 
 -- ---- the form
@@ -137,25 +133,6 @@ state_from bytes = state_with (head_from bytes) bytes
 -- 8 for a state that is not sound; else its bytes, or 9
 unfoldable pub save_of : State → List ℕ → WriteEffect
 save_of s out = if (sound_state s) (write_of (state_bytes s) out) (write_effect (Err StateUnsound) out)
-
--- the answer with the control, or with a fresh one beside a refusal
-unfoldable pub head_as : Result Control → HeadRead
-head_as (ok c) = record { answer = Good; control = c }
-head_as (refused why) = record { answer = NotLoaded why; control = fresh_control }
-
--- the answer with the state, or with a fresh one beside a refusal
-unfoldable pub loaded_as : Result State → Loaded
-loaded_as (ok s) = record { answer = Good; state = s }
-loaded_as (refused why) = record { answer = NotLoaded why; state = fresh_state }
-
--- 01's number and value for each case of the answer, with the state beside it
-unfoldable pub loaded_result : LoadAnswer → State → Result State
-loaded_result Good s = ok s
-loaded_result (NotLoaded why) s = refused why
-
--- what bytes are loaded as
-unfoldable pub load_of : List ℕ → Loaded
-load_of bytes = loaded_as (state_from bytes)
 
 -- ---- what holds of them
 

@@ -2,11 +2,10 @@
 // functions, and then carried over.
 ghost use Rattle.std.specs.Prelude.{◌≡◌, length};
 ghost use Rattle.wing_wire.specs.State.{body_limit};
-ghost use Rattle.wing_wire.specs.Earlier.{earlier_control, earlier_state, carry_of, carried_result};
-ghost use Rattle.wing_saved.specs.Saved.{loaded_as};
+ghost use Rattle.wing_wire.specs.Earlier.{earlier_control, earlier_state, carry_of};
 ghost use Rattle.wing_saved.specs.Earlier.{is_narrow, narrowed, load_earlier_of};
 
-use crate::{HEAD, Loaded, head_under, lay, low_16, refuse};
+use crate::{HEAD, head_under, lay, low_16};
 use wing_node::refusal::Refusal;
 use wing_wire::earlier;
 use wing_wire::state::{Control, State, Token};
@@ -62,27 +61,10 @@ fn narrow(token: Token) -> earlier::Token
     }
 }
 
-// What carrying over answers, as what load answers.
-fn loaded(r: Carried) -> Loaded
-    ensures { result ≡ loaded_as (carried_result r.answer r.state) }
-{
-    let a = r.answer;
-    match a {
-        CarryAnswer::Good => {
-            let state = r.state;
-            Loaded {
-                answer: LoadAnswer::Good,
-                state: state,
-            }
-        }
-        Err(why) => refuse(why),
-    }
-}
-
 // The old state of a control and of the bytes of its store, carried over.
-fn carry(c: Control, bytes: &[u8]) -> Loaded
+fn carry(c: Control, bytes: &[u8]) -> Result<State, Refusal>
     requires { length bytes.now ≡ body_limit }
-    ensures { result ≡ loaded_as (carry_of (earlier_state (earlier_control c.escape c.node (narrowed c.token)) bytes.now)) }
+    ensures { result ≡ carry_of (earlier_state (earlier_control c.escape c.node (narrowed c.token)) bytes.now) }
 {
     let escape = c.escape;
     let token = c.token;
@@ -97,25 +79,17 @@ fn carry(c: Control, bytes: &[u8]) -> Loaded
         },
         store: store,
     };
-    loaded(earlier::carry_over(s))
+    earlier::carry_over(s)
 }
 
 // The state whose bytes under version 1 these are, carried over; 8 if they are no sound state's, or if it has taken any of the four units after a count
 // of 0.
-pub fn load_earlier(bytes: &[u8]) -> Loaded
+pub fn load_earlier(bytes: &[u8]) -> Result<State, Refusal>
     ensures { result ≡ load_earlier_of bytes.now }
 {
-    let h = head_under(EARLIER_VERSION, bytes);
-    let a = h.answer;
-    match a {
-        LoadAnswer::Good => {
-            let c = h.control;
-            let token = c.token;
-            if is_narrow(token) {
-                return carry(c, &bytes[HEAD..]);
-            }
-            refuse(Refusal::StateUnsound)
-        }
-        Err(why) => refuse(why),
+    let c = head_under(EARLIER_VERSION, bytes)?;
+    if is_narrow(c.token) {
+        return carry(c, &bytes[HEAD..]);
     }
+    Err(Refusal::StateUnsound)
 }

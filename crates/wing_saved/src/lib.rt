@@ -4,13 +4,11 @@
 ghost use Rattle.std.specs.Prelude.{◌≡◌, ◌+◌, ◌%◌, ◌≤◌, length};
 ghost use Rattle.std.proofs.lemmas.List.Edits.{sets};
 ghost use Rattle.wing_node.specs.Signed.{signed, unsigned};
-ghost use Rattle.wing_node.specs.Result.{refused};
 ghost use Rattle.wing_wire.specs.Token.{class_number};
 ghost use Rattle.wing_wire.specs.State.{body_limit, state_of};
 ghost use Rattle.wing_wire.specs.Write.{write_effect, write_of};
 ghost use Rattle.wing_saved.specs.Saved.{saved_size, flag as flag_of, pending_flag, pending_byte_of, fields_of, head_under, head_bytes, state_bytes};
-ghost use Rattle.wing_saved.specs.Saved.{pending_in, class_in, token_in, fields_in, control_in, begins, sound_only, head_from_under, head_from, head_as, loaded_as, save_of, load_of};
-ghost use Rattle.wing_node.specs.declared.refusal.Refusal.TheVariants.{StateUnsound};
+ghost use Rattle.wing_saved.specs.Saved.{pending_in, class_in, token_in, fields_in, control_in, begins, sound_only, head_from_under, head_from, state_from, save_of};
 
 use wing_node::field::{i32_at, put_i32, put_u32, u16_at, u32_at};
 use wing_node::refusal::Refusal;
@@ -37,27 +35,6 @@ struct TokenFields {
     left: u32,
     stored: u16,
     value: u32,
-}
-
-// What load answers.
-#[derive(Clone, Copy)]
-pub enum LoadAnswer {
-    Good,
-    Refused(Refusal),
-}
-
-// The answer with the control; beside a refusal stands a fresh one.
-#[derive(Clone, Copy)]
-pub struct HeadRead {
-    pub answer: LoadAnswer,
-    pub control: Control,
-}
-
-// The answer with the state; beside a refusal stands a fresh one.
-#[derive(Clone, Copy)]
-pub struct Loaded {
-    pub answer: LoadAnswer,
-    pub state: State,
 }
 
 // The 8 bits of x.
@@ -339,53 +316,31 @@ fn begins_with(s: &[u8], front: &[u8]) -> bool
     true
 }
 
-fn no_head() -> HeadRead
-    ensures { result ≡ head_as (refused StateUnsound) }
-{
-    HeadRead {
-        answer: Err(Refusal::StateUnsound),
-        control: Control::fresh(),
-    }
-}
-
 // The control of a state's bytes under a version, which are its fields and then the store; 8 if they are not as many, or begin with no control's
 // fields. Whether the state is sound is not tested.
-fn head_under(version: u8, bytes: &[u8]) -> HeadRead
-    ensures { result ≡ head_as (head_from_under version bytes.now) }
+fn head_under(version: u8, bytes: &[u8]) -> Result<Control, Refusal>
+    ensures { result ≡ head_from_under version bytes.now }
 {
     if bytes.len() == SIZE {
         let c = control_in(bytes);
         let front = head_of(version, c);
         if begins_with(bytes, &front) {
-            return HeadRead {
-                answer: LoadAnswer::Good,
-                control: c,
-            };
+            return Ok(c);
         }
-        return no_head();
     }
-    no_head()
+    Err(Refusal::StateUnsound)
 }
 
 // The same under today's version.
-pub fn head(bytes: &[u8]) -> HeadRead
-    ensures { result ≡ head_as (head_from bytes.now) }
+pub fn head(bytes: &[u8]) -> Result<Control, Refusal>
+    ensures { result ≡ head_from bytes.now }
 {
     head_under(VERSION, bytes)
 }
 
-fn refuse(why: Refusal) -> Loaded
-    ensures { result ≡ loaded_as (refused why) }
-{
-    Loaded {
-        answer: Err(why),
-        state: State::fresh(),
-    }
-}
-
-fn load_sound(c: Control, bytes: &[u8]) -> Loaded
+fn load_sound(c: Control, bytes: &[u8]) -> Result<State, Refusal>
     requires { length bytes.now ≡ body_limit }
-    ensures { result ≡ loaded_as (sound_only (state_of c bytes.now)) }
+    ensures { result ≡ sound_only (state_of c bytes.now) }
 {
     let mut store = [0u8; State::BODY_LIMIT];
     lay(&mut store, 0, bytes);
@@ -394,25 +349,15 @@ fn load_sound(c: Control, bytes: &[u8]) -> Loaded
         store: store,
     };
     if is_sound(s) {
-        return Loaded {
-            answer: LoadAnswer::Good,
-            state: s,
-        };
+        return Ok(s);
     }
-    refuse(Refusal::StateUnsound)
+    Err(Refusal::StateUnsound)
 }
 
 // The state whose bytes these are; 8 if they are no sound state's.
-pub fn load(bytes: &[u8]) -> Loaded
-    ensures { result ≡ load_of bytes.now }
+pub fn load(bytes: &[u8]) -> Result<State, Refusal>
+    ensures { result ≡ state_from bytes.now }
 {
-    let h = head(bytes);
-    let a = h.answer;
-    match a {
-        LoadAnswer::Good => {
-            let c = h.control;
-            load_sound(c, &bytes[HEAD..])
-        }
-        Err(why) => refuse(why),
-    }
+    let c = head(bytes)?;
+    load_sound(c, &bytes[HEAD..])
 }

@@ -23,12 +23,10 @@ use Rattle.wing_wire.specs.declared.earlier.Token.TheVariants.{Between as betwee
 use Rattle.wing_wire.specs.declared.earlier.State.{State as EarlierState}
 use Rattle.wing_wire.proofs.Reading.CarriedOver.{sound-carried, carry-taken, carry-refused}
 use Rattle.wing_wire.proofs.Reading.Sound.{Sound, state-parts}
-use Rattle.wing_saved.specs.Saved.{saved_size, head_under, control_in, begins, head_from_under, head_as, CountIn, Typed}
+use Rattle.wing_saved.specs.Saved.{saved_size, head_under, control_in, begins, head_from_under, CountIn, Typed}
 use Rattle.wing_saved.specs.Earlier.{earlier_version, earlier_bytes, is_narrow, narrowed, earlier_with, earlier_from, carried_from, CountsIn, EarlierSaves, CarriedSaves, EarlierLaws}
-use Rattle.wing_saved.specs.declared.HeadRead.{HeadRead}
-use Rattle.wing_saved.specs.declared.LoadAnswer.TheVariants.{Good, Refused as NotLoaded}
 use Rattle.wing_saved.proofs.Saving.Heads.{after-head, low_same}
-use Rattle.wing_saved.proofs.Saving.Trips.{head-back, begun, laid-under, range-in, said-good, said-refused}
+use Rattle.wing_saved.proofs.Saving.Trips.{head-back, begun, laid-under, range-in}
 use Rattle.wing_node.specs.declared.refusal.Refusal.TheVariants.{StateUnsound}
 
 -- ---- counts of 16 bits
@@ -69,18 +67,6 @@ counts-in Between = tt
 counts-in (Number class left v) = tt
 counts-in (String want left) = tt
 counts-in (Body stored want left) = omega arith
-
--- ---- what the answer of head says of the bytes
-
-module _ (bytes : List ℕ) (h : HeadRead) (e : h ≡ head_as (head_from_under earlier_version bytes)) where
-  pub before-good : h.answer ≡ Good → head_from_under earlier_version bytes ≡ ok h.control
-  before-good a = said-good (head_from_under earlier_version bytes) h e a
-
-  pub before-size : h.answer ≡ Good → length bytes ≡ saved_size
-  before-size a = (begun earlier_version bytes h.control (before-good a)).size
-
-  pub before-refused : (why : Refusal) → h.answer ≡ NotLoaded why → head_from_under earlier_version bytes ≡ refused why
-  before-refused why a = said-refused (head_from_under earlier_version bytes) h why e a
 
 -- ---- both ways
 

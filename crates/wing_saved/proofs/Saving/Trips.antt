@@ -29,11 +29,8 @@ use Rattle.wing_wire.specs.declared.state.State.{State}
 use Rattle.wing_wire.proofs.Reading.Ranges.{bytes_drop}
 use Rattle.wing_wire.proofs.Reading.Sound.{Sound, state-parts, sound-within}
 use Rattle.wing_saved.specs.Saved.{version, saved_size, pending_flag, pending_byte_of, fields_of, head_under, head_bytes, state_bytes, pending_in, token_in, fields_in, control_in, begins, sound_only, head_from_under, head_from, state_with, state_from}
-use Rattle.wing_saved.specs.Saved.{save_of, head_as, loaded_as, loaded_result, CountIn, Saves, LoadedSound, HeadOf, SavedLaws}
+use Rattle.wing_saved.specs.Saved.{save_of, CountIn, Saves, LoadedSound, HeadOf, SavedLaws}
 use Rattle.wing_saved.specs.declared.TokenFields.{TokenFields}
-use Rattle.wing_saved.specs.declared.HeadRead.{HeadRead}
-use Rattle.wing_saved.specs.declared.LoadAnswer.{LoadAnswer}
-use Rattle.wing_saved.specs.declared.LoadAnswer.TheVariants.{Good, Refused as NotLoaded}
 use Rattle.wing_saved.proofs.Saving.Fronts.{begins-joined, begins-parts}
 use Rattle.wing_saved.proofs.Saving.Heads.{Fits, head-size, after-head, channel-fits, control-back}
 use Rattle.wing_node.specs.declared.refusal.Refusal.TheVariants.{StateUnsound}
@@ -128,7 +125,7 @@ unfolding state_bytes
 laid-again bytes e = laid-under version bytes e
 
 -- the head of bytes
-head_of : (bytes : List ℕ) (c : Control) → head_from bytes ≡ ok c → HeadOf bytes c
+pub head_of : (bytes : List ℕ) (c : Control) → head_from bytes ≡ ok c → HeadOf bytes c
 unfolding state_from state_with
 head_of bytes c e =
     let p = begun version bytes c e in
@@ -138,32 +135,9 @@ head_of bytes c e =
       state = ap (λ (r : Result Control). state_with r bytes) e;
     }
 
-headless : (bytes : List ℕ) (why : Refusal) → head_from bytes ≡ refused why → state_from bytes ≡ refused why
+pub headless : (bytes : List ℕ) (why : Refusal) → head_from bytes ≡ refused why → state_from bytes ≡ refused why
 unfolding state_from state_with
 headless bytes why e = ap (λ (r : Result Control). state_with r bytes) e
-
--- what the answer of head says of the bytes
-pub said-good : (r : Result Control) (h : HeadRead) → h ≡ head_as r → h.answer ≡ Good → r ≡ ok h.control
-unfolding head_as
-said-good (ok c) h e a = ap (λ (x : HeadRead). ok x.control) (sym e)
-said-good (refused why) h e a = absurd (let b = ap (λ (x : HeadRead). x.answer) e in let z : ◌≡◌ {A = ℕ} 0 1 = cc in omega arith)
-
--- the reason in an answer, or another
-abbrev answered : Refusal → LoadAnswer → Refusal
-answered other Good = other
-answered other (NotLoaded why) = why
-
-pub said-refused : (r : Result Control) (h : HeadRead) (why : Refusal) → h ≡ head_as r → h.answer ≡ NotLoaded why → r ≡ refused why
-unfolding head_as
-said-refused (ok c) h why e a = absurd (let b = ap (λ (x : HeadRead). x.answer) e in let z : ◌≡◌ {A = ℕ} 0 1 = cc in omega arith)
-said-refused (refused other) h why e a = let b = ap (λ (x : HeadRead). x.answer) e in ap refused (ap (answered other) (sym b ∙ a))
-
-module _ (bytes : List ℕ) (h : HeadRead) (e : h ≡ head_as (head_from bytes)) where
-  pub head-good : h.answer ≡ Good → HeadOf bytes h.control
-  head-good a = head_of bytes h.control (said-good (head_from bytes) h e a)
-
-  pub head-refused : (why : Refusal) → h.answer ≡ NotLoaded why → state_from bytes ≡ refused why
-  head-refused why a = headless bytes why (said-refused (head_from bytes) h why e a)
 
 -- the tests that bytes passed which read as s
 record Passed (bytes : List ℕ) (s : State) : Type 0 where
@@ -274,12 +248,6 @@ unfolding save_of write_of
 kept s out e l n =
     let m : length (state_bytes s) ≡ saved_size = state-size s l in
     rw (e, le-ltb (length out) (length (state_bytes s)) (omega arith), m, drop_of_length-le out {i = saved_size} (omega arith), append-nil (state_bytes s))
-
--- what was loaded, in 01's words
-pub loaded-result : (r : Result State) → loaded_result (loaded_as r).answer (loaded_as r).state ≡ r
-unfolding loaded_as loaded_result
-loaded-result (ok s) = refl
-loaded-result (refused why) = refl
 
 -- the form at work: a fresh state is 02 00 ff and then zeros
 fresh-head : head_bytes fresh_control ≡ 0x02 ∷ 0x00 ∷ 0xff ∷ replicate 24 0

@@ -17,13 +17,14 @@ use Rattle.wing_wire.specs.declared.state.Token.{Token}
 use Rattle.wing_wire.specs.declared.state.Token.TheVariants.{Between, Number, String, Body}
 use Rattle.wing_wire.specs.declared.state.Control.{Control}
 use Rattle.wing_wire.specs.declared.state.State.{State}
-use Rattle.wing_wire.specs.contracts.state.Pending as pendings
+use Rattle.std.specs.contracts.option.Option as options
+use denote.Builtin.{u8}
 use Rattle.wing_wire.specs.contracts.state.Token as tokens
 use Rattle.wing_wire.specs.contracts.state.Control as controls
 use Rattle.wing_wire.specs.contracts.state.State as states
 use Rattle.std.specs.Prelude.{Option, ℕ, None, Some}
 
-pending-typed : (p : Option ℕ) (vs : List Val) → Is (rowᵉ pendings.the_type) p vs → PendingByte p
+pending-typed : (p : Option ℕ) (vs : List Val) → Is (rowᵉ (options.the_type u8)) p vs → PendingByte p
 pending-typed None vs r = no_pending
 pending-typed (Some b) vs r = pending_byte r.1.1.1.1.0.1
 

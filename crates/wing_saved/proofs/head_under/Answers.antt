@@ -2,11 +2,11 @@
 use mathlib.Core.Bool.{true, false}
 use mathlib.Core.Path.{◌≡◌, sym, ◌∙◌}
 use borrow.Author.Tests.{eq-eqb, ne_eqb}
-use Rattle.wing_saved.specs.Saved.{head_under, control_in, begins, head_from_under, head_as}
+use Rattle.wing_saved.specs.Saved.{head_under, control_in, begins, head_from_under}
 use Rattle.wing_saved.proofs.head_under.Goals as goal
 
 pub returns-then-begins_with : goal.returns-then-begins_with
-unfolding head_from_under head_as
+unfolding head_from_under
 returns-then-begins_with c =
     let v = c.args.version in
     let s = c.args.bytes.now in
@@ -14,14 +14,14 @@ returns-then-begins_with c =
     let b : begins (head_under v (control_in s)) s ≡ true = rw (c.head_of-front.ensures, k) at (sym c.begins_with.ensures ∙ c.if-begins_with.true) in
     rw k (simp (eq-eqb _ _ c.if-bytes-eq-SIZE.true, b))
 
-pub returns-then-bytes-eq-SIZE : goal.returns-then-bytes-eq-SIZE
+pub returns-else-begins_with : goal.returns-else-begins_with
 unfolding head_from_under
-returns-then-bytes-eq-SIZE c =
+returns-else-begins_with c =
     let v = c.args.version in
     let s = c.args.bytes.now in
     let b : begins (head_under v (control_in s)) s ≡ false = rw (c.head_of-front.ensures, c.control_in-c.ensures) at (sym c.begins_with.ensures ∙ c.if-begins_with.false) in
-    c.no_head.ensures ∙ simp (eq-eqb _ _ c.if-bytes-eq-SIZE.true, b)
+    simp (eq-eqb _ _ c.if-bytes-eq-SIZE.true, b)
 
-pub returns : goal.returns
+pub returns-else-bytes-eq-SIZE : goal.returns-else-bytes-eq-SIZE
 unfolding head_from_under
-returns c = simp (ne_eqb _ _ c.if-bytes-eq-SIZE.false, c.no_head-2.ensures)
+returns-else-bytes-eq-SIZE c = simp (ne_eqb _ _ c.if-bytes-eq-SIZE.false)

@@ -6,6 +6,6 @@ pub returns-in-None : goal.returns-in-None
 unfolding pending_byte_of
 returns-in-None c = simp c.in-None.is
 
-pub returns-in-Byte : goal.returns-in-Byte
+pub returns-in-Some : goal.returns-in-Some
 unfolding pending_byte_of
-returns-in-Byte c = simp c.in-Byte.is
+returns-in-Some c = simp c.in-Some.is
