@@ -21,18 +21,18 @@ use Rattle.wing_meters.specs.Kept.{figures_kept}
 use Rattle.wing_meters.specs.Calls.{made_of, figures_answer, reading_of, after_all, answers, row_of, row_told, rows, RowsEffect, rows_effect, followed, readings_of}
 use Rattle.wing_meters.specs.Moving.{Readings, no_readings, reading_then, Width, Leaves, Left, Typed, afresh_rows}
 use Rattle.wing_meters.specs.Answers.{none, some, told_result, made_result, rows_result}
-use Rattle.wing_meters.specs.declared.figures.Told.TheVariants.{Refused}
 use Rattle.wing_meters.specs.declared.window.Window.{Window}
 use Rattle.wing_meters.specs.declared.window.Made.{Made}
 use Rattle.wing_meters.specs.declared.window.MadeAnswer.TheVariants.{Good, Refused as NotMade}
 use Rattle.wing_meters.specs.declared.reading.Taken.{Taken}
-use Rattle.wing_meters.specs.declared.reading.RowsAnswer.TheVariants.{Rows, Refused as NotFollowed}
 use Rattle.wing_meters.proofs.Follows.{size-taking, reading-sound, reading-unsound, told-taking, rows_on, length-rows, readings-unsound, readings-short, readings-sound}
 use Rattle.wing_meters.proofs.Moves.{left-sound, leaves-more, reading-left, figures-left, rows_left, after-left, never-left, unleft}
 use Rattle.promises.specs.Refusals.{output_short, width_wrong}
 use Rattle.promises.specs.Lines.{Answers}
 use Rattle.promises.specs.Meters.{rows_lines, MakeCall, ReadingCall, FiguresCall, ReadingsCall}
 use Rattle.promises.proofs.Lines.{given, taken as none-applies, line}
+use Rattle.std.specs.Prelude.{Err, Ok}
+use Rattle.wing_node.specs.declared.refusal.Refusal.TheVariants.{OutputShort, StateUnsound}
 
 -- ---- a window made
 
@@ -95,7 +95,7 @@ figures-sound : (w : Window) → sound_window w ≡ true → figures_answer w �
 unfolding figures_answer
 figures-sound w e = simp e
 
-figures-unsound : (w : Window) → sound_window w ≡ false → figures_answer w ≡ Refused 8
+figures-unsound : (w : Window) → sound_window w ≡ false → figures_answer w ≡ Err StateUnsound
 unfolding figures_answer
 figures-unsound w e = simp e
 
@@ -168,16 +168,16 @@ Kept w out x = (x.out ≡ out) × (x.reply.window ≡ w)
 
 module _ (w : Window) (xs out : List ℤ) where
   short : RowsEffect
-  short = rows_effect (followed (NotFollowed 9) w) out
+  short = rows_effect (followed (Err OutputShort) w) out
 
   whole : RowsEffect
-  whole = rows_effect (followed (Rows (length xs)) (after_all w xs)) (rows (answers w xs) ++ drop (5 * length xs) out)
+  whole = rows_effect (followed (Ok (length xs)) (after_all w xs)) (rows (answers w xs) ++ drop (5 * length xs) out)
 
   -- an answer with rows is of the call that was taken
   Laid : RowsEffect → Type 0
-  Laid x = (n : ℕ) → x.reply.answer ≡ Rows n → (n ≡ length xs) × (x.reply.window ≡ after_all w xs) × (drop (5 * n) x.out ≡ drop (5 * n) out) × (x.out ≡ rows (answers w xs) ++ drop (5 * length xs) out)
+  Laid x = (n : ℕ) → x.reply.answer ≡ Ok n → (n ≡ length xs) × (x.reply.window ≡ after_all w xs) × (drop (5 * n) x.out ≡ drop (5 * n) out) × (x.out ≡ rows (answers w xs) ++ drop (5 * length xs) out)
 
-  nothing-laid : (k : ℕ) (v : Window) (o : List ℤ) → Laid (rows_effect (followed (NotFollowed k) v) o)
+  nothing-laid : (k : ℕ) (v : Window) (o : List ℤ) → Laid (rows_effect (followed (Err k) v) o)
   unfolding Laid
   nothing-laid k v o n e = absurd (let z : ◌≡◌ {A = ℕ} 0 1 = cc in omega arith)
 

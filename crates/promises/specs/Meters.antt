@@ -1,20 +1,16 @@
 -- What is promised of a window over a strip's last readings (02, Job 6), by each call's arguments, its answer, and the window and the lent buffer after it.
-use Rattle.std.specs.Prelude.{ℕ, ◌+◌, ◌*◌, ◌<◌, ◌≡◌, List, [], ◌∷◌, ◌++◌, ltb, ℤ, pos, length, take, drop}
+use Rattle.std.specs.Prelude.{ℕ, ◌+◌, ◌*◌, ◌<◌, ◌≡◌, List, [], ◌∷◌, ◌++◌, ltb, ℤ, pos, length, take, drop, Ok, Some, Option}
 use Rattle.wing_node.specs.declared.refusal.Refusal.{Refusal}
-use Rattle.wing_node.specs.Result.{refused}
+use Rattle.wing_node.specs.Result.{refused, Result}
 use Rattle.wing_meters.specs.Afresh.{last_of, figures_of}
 use Rattle.wing_meters.specs.Window.{leaves}
 use Rattle.wing_meters.specs.Calls.{made_of, figures_answer, taken, reading_of, rows_effect, followed, readings_of}
 use Rattle.wing_meters.specs.Moving.{Readings, Width, Leaves, Left, afresh_rows}
 use Rattle.wing_meters.specs.Answers.{told_result, made_result, rows_result}
 use Rattle.wing_meters.specs.declared.figures.Figures.{Figures}
-use Rattle.wing_meters.specs.declared.figures.Told.{Told}
-use Rattle.wing_meters.specs.declared.figures.Told.TheVariants.{Figures as Told-as-Figures}
 use Rattle.wing_meters.specs.declared.window.Window.{Window}
 use Rattle.wing_meters.specs.declared.window.MadeAnswer.{MadeAnswer}
 use Rattle.wing_meters.specs.declared.window.MadeAnswer.TheVariants.{Good}
-use Rattle.wing_meters.specs.declared.reading.RowsAnswer.{RowsAnswer}
-use Rattle.wing_meters.specs.declared.reading.RowsAnswer.TheVariants.{Rows}
 use Rattle.promises.specs.Refusals.{state_unsound, output_short, width_wrong}
 use Rattle.promises.specs.Lines.{Line, ◌gives◌, Answers}
 
@@ -36,7 +32,7 @@ pub record MakeCall (width : ℕ) (answer : MadeAnswer) (w : Window) : Type 0 wh
   pub same : record { answer = answer; window = w } ≡ made_of width
 
 -- a reading that goes into a window
-pub record ReadingCall (w : Window) (x : ℤ) (answer : Told) (after : Window) : Type 0 where
+pub record ReadingCall (w : Window) (x : ℤ) (answer : Result (Option Figures)) (after : Window) : Type 0 where
   -- whatever readings left the window: the figures worked out afresh from the last of them and this one, and the window that all of them leave
   pub afresh : (width : ℕ) (xs : List ℤ) → Leaves width xs w →
       (told_result answer ≡ told_result (figures_of (last_of width (xs ++ (x ∷ []))))) × (after ≡ leaves width (xs ++ (x ∷ [])))
@@ -51,7 +47,7 @@ pub record ReadingCall (w : Window) (x : ℤ) (answer : Told) (after : Window) :
   pub same : taken answer after ≡ reading_of w x
 
 -- the figures of a window
-pub record FiguresCall (w : Window) (answer : Told) : Type 0 where
+pub record FiguresCall (w : Window) (answer : Result (Option Figures)) : Type 0 where
   -- whatever readings left it: the figures worked out afresh from the last of them, none of no readings
   pub afresh : (width : ℕ) (xs : List ℤ) → Leaves width xs w → told_result answer ≡ told_result (figures_of (last_of width xs))
   -- the same of the answer itself
@@ -64,22 +60,22 @@ pub record FiguresCall (w : Window) (answer : Told) : Type 0 where
   pub same : answer ≡ figures_answer w
 
 -- many readings that go into a window, one after the other. Their type has 16 bits, which what is said of their figures needs
-pub record ReadingsCall (w : Window) (xs out : List ℤ) (answer : RowsAnswer) (after : Window) (laid : List ℤ) : Type 0 where
+pub record ReadingsCall (w : Window) (xs out : List ℤ) (answer : Result ℕ) (after : Window) (laid : List ℤ) : Type 0 where
   -- whatever readings left the window: 9; else a row for each, of the figures worked out afresh from the last readings so far
   pub answered : Readings xs → (width : ℕ) (before : List ℤ) → Leaves width before w →
       Answers (rows_lines xs out) (afresh_rows width before xs) (rows_result answer laid) ((laid ≡ out) × (after ≡ w))
   -- a row for each reading, and the window that all of them leave
-  pub taken : Readings xs → (width : ℕ) (before : List ℤ) → Leaves width before w → (n : ℕ) → answer ≡ Rows n →
+  pub taken : Readings xs → (width : ℕ) (before : List ℤ) → Leaves width before w → (n : ℕ) → answer ≡ Ok n →
       (n ≡ length xs) × (after ≡ leaves width (before ++ xs))
   -- all of them leave the window after it
-  pub left : Readings xs → (width : ℕ) (before : List ℤ) → Leaves width before w → (n : ℕ) → answer ≡ Rows n → Leaves width (before ++ xs) after
+  pub left : Readings xs → (width : ℕ) (before : List ℤ) → Leaves width before w → (n : ℕ) → answer ≡ Ok n → Leaves width (before ++ xs) after
   -- row by row: the figures, how many, sum, quotient, remainder and largest, of the last of all readings up to that one, those before the call included
-  pub each : Readings xs → (width : ℕ) (before : List ℤ) → Leaves width before w → (n : ℕ) → answer ≡ Rows n → (k : ℕ) → k < length xs → (f : Figures) →
-      figures_of (last_of width (before ++ take (k + 1) xs)) ≡ Told-as-Figures f → take 5 (drop (5 * k) laid) ≡ pos f.held ∷ f.sum ∷ f.mean ∷ pos f.rest ∷ f.top ∷ []
+  pub each : Readings xs → (width : ℕ) (before : List ℤ) → Leaves width before w → (n : ℕ) → answer ≡ Ok n → (k : ℕ) → k < length xs → (f : Figures) →
+      figures_of (last_of width (before ++ take (k + 1) xs)) ≡ Ok (Some f) → take 5 (drop (5 * k) laid) ≡ pos f.held ∷ f.sum ∷ f.mean ∷ pos f.rest ∷ f.top ∷ []
   -- 9 whatever the readings are
   pub short : Left w → length out < 5 * length xs → rows_result answer laid ≡ refused output_short
   -- the output past the rows as it was
-  pub past : (n : ℕ) → answer ≡ Rows n → drop (5 * n) laid ≡ drop (5 * n) out
+  pub past : (n : ℕ) → answer ≡ Ok n → drop (5 * n) laid ≡ drop (5 * n) out
   -- 8 if no list of readings leaves it
   pub refusal : (Left w → ⊥) → rows_result answer laid ≡ refused state_unsound
   -- sent back, it leaves the output and the window as they were

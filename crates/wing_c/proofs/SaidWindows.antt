@@ -10,27 +10,26 @@ use Rattle.wing_node.proofs.Branches.{branch}
 use Rattle.wing_meters.specs.Afresh.{figures_of}
 use Rattle.wing_meters.specs.Window.{taking, kept_in, sound_window}
 use Rattle.wing_meters.specs.Calls.{made_of, figures_answer, reading_of, followed, RowsEffect, readings_of}
-use Rattle.wing_meters.specs.declared.figures.Told.{Told}
-use Rattle.wing_meters.specs.declared.figures.Told.TheVariants.{None, Figures as Told-as-Figures, Refused}
 use Rattle.wing_meters.specs.declared.window.Window.{Window}
 use Rattle.wing_meters.specs.declared.window.Made.{Made}
 use Rattle.wing_meters.specs.declared.window.MadeAnswer.{MadeAnswer}
 use Rattle.wing_meters.specs.declared.window.MadeAnswer.TheVariants.{Good, Refused as NotMade}
 use Rattle.wing_meters.specs.declared.reading.Taken.{Taken}
-use Rattle.wing_meters.specs.declared.reading.RowsAnswer.{RowsAnswer}
-use Rattle.wing_meters.specs.declared.reading.RowsAnswer.TheVariants.{Rows, Refused as NotFollowed}
 use Rattle.wing_c.specs.Meanings.{by_status}
 use Rattle.wing_c.specs.Windows.{told_numbers, made_status, made_numbers, reading_numbers, followed_by}
 use Rattle.wing_c.specs.WindowMeanings.{figures_in, told_in, made_in, reading_in, followed_in, OfTold, OfMade, OfRows, WindowsSay}
 use Rattle.wing_c.proofs.Said.{below, again}
+use Rattle.std.specs.Prelude.{Ok, Some, Option, None, Err, ℕ}
+use Rattle.wing_node.specs.Result.{Result}
+use Rattle.wing_meters.specs.declared.figures.Figures.{Figures}
 
 -- ---- each answer
 
-told : (a : Told) → OfTold a → told_in (told_numbers a) ≡ a
+told : (a : Result (Option Figures)) → OfTold a → told_in (told_numbers a) ≡ a
 unfolding told_in figures_in
-told None h = refl
-told (Told-as-Figures f) h = refl
-told (Refused n) h = rw (below n h) (ap Refused (again n h))
+told (Ok None) h = refl
+told (Ok (Some f)) h = refl
+told (Err n) h = rw (below n h) (ap Err (again n h))
 
 made-said : (a : MadeAnswer) → OfMade a → by_status (made_status a) NotMade (λ _. Good) ≡ a
 made-said Good h = refl
@@ -44,10 +43,10 @@ reading : (t : Taken) → OfTold t.answer → reading_in (reading_numbers t) ≡
 unfolding reading_in
 reading t h = rw (told t.answer h)
 
-rows-said : (a : RowsAnswer) (w : Window) → OfRows a → followed_in (followed_by a w) ≡ followed a w
+rows-said : (a : Result ℕ) (w : Window) → OfRows a → followed_in (followed_by a w) ≡ followed a w
 unfolding followed_in
-rows-said (Rows n) w h = refl
-rows-said (NotFollowed n) w h = rw (below n h) (ap (λ (k : ℕ). followed (NotFollowed k) w) (again n h))
+rows-said (Ok n) w h = refl
+rows-said (Err n) w h = rw (below n h) (ap (λ (k : ℕ). followed (Err k) w) (again n h))
 
 -- ---- what the calls answer is such an answer
 

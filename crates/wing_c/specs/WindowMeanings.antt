@@ -1,19 +1,15 @@
 -- What the numbers of a window mean, by the header's words, and that each answer is the meaning of its numbers.
-use Rattle.std.specs.Prelude.{ℕ, ◌≤◌, ◌≡◌, List, eqb, ℤ, pos}
+use Rattle.std.specs.Prelude.{ℕ, ◌≤◌, ◌≡◌, List, eqb, ℤ, pos, Ok, Some, Option, None, Err}
 use Rattle.wing_node.specs.Bool.{if}
 use Rattle.wing_meters.specs.Afresh.{figures}
 use Rattle.wing_meters.specs.Calls.{made_of, figures_answer, taken, reading_of, followed, readings_of}
 use Rattle.wing_meters.specs.declared.figures.Figures.{Figures}
-use Rattle.wing_meters.specs.declared.figures.Told.{Told}
-use Rattle.wing_meters.specs.declared.figures.Told.TheVariants.{None, Figures as Told-as-Figures, Refused}
 use Rattle.wing_meters.specs.declared.window.Window.{Window}
 use Rattle.wing_meters.specs.declared.window.Made.{Made}
 use Rattle.wing_meters.specs.declared.window.MadeAnswer.{MadeAnswer}
 use Rattle.wing_meters.specs.declared.window.MadeAnswer.TheVariants.{Good, Refused as NotMade}
 use Rattle.wing_meters.specs.declared.reading.Taken.{Taken}
 use Rattle.wing_meters.specs.declared.reading.Followed.{Followed}
-use Rattle.wing_meters.specs.declared.reading.RowsAnswer.{RowsAnswer}
-use Rattle.wing_meters.specs.declared.reading.RowsAnswer.TheVariants.{Rows, Refused as NotFollowed}
 use Rattle.wing_c.specs.Meanings.{by_status}
 use Rattle.wing_c.specs.Windows.{window_numbers, window_given, told_numbers, made_numbers, reading_numbers, followed_numbers, followed_by}
 use Rattle.wing_c.specs.declared.windows.WingWindow.{WingWindow}
@@ -21,6 +17,7 @@ use Rattle.wing_c.specs.declared.windows.WingFigures.{WingFigures}
 use Rattle.wing_c.specs.declared.windows.WingMade.{WingMade}
 use Rattle.wing_c.specs.declared.windows.WingTaken.{WingTaken}
 use Rattle.wing_c.specs.declared.windows.WingFollowed.{WingFollowed}
+use Rattle.wing_node.specs.Result.{Result}
 
 -- ---- what the numbers mean; a window's numbers mean the window that is given by them (`window_given`)
 
@@ -29,8 +26,8 @@ unfoldable pub figures_in : WingFigures → Figures
 figures_in r = figures r.held r.sum r.mean r.rest r.top
 
 -- what a window tells: 1 figures, 0 none
-unfoldable pub told_in : WingFigures → Told
-told_in r = by_status r.status Refused (λ s. if (eqb s 1) (Told-as-Figures (figures_in r)) None)
+unfoldable pub told_in : WingFigures → Result (Option Figures)
+told_in r = by_status r.status Err (λ s. if (eqb s 1) (Ok (Some (figures_in r))) (Ok None))
 
 -- a window made, or a refusal
 unfoldable pub made_in : WingMade → Made
@@ -42,15 +39,15 @@ reading_in r = taken (told_in r.figures) (window_given r.window)
 
 -- readings taken: how many rows stand at the front of the output, and the window after them
 unfoldable pub followed_in : WingFollowed → Followed
-followed_in r = followed (by_status r.status NotFollowed (λ _. Rows r.rows)) (window_given r.window)
+followed_in r = followed (by_status r.status Err (λ _. Ok r.rows)) (window_given r.window)
 
 -- ---- which answers there are: a refusal's number is 1 or more
 
 -- of what a window tells
-abbrev pub OfTold : Told → Type 0
-OfTold None = Unit {0}
-OfTold (Told-as-Figures f) = Unit {0}
-OfTold (Refused n) = 1 ≤ n
+abbrev pub OfTold : Result (Option Figures) → Type 0
+OfTold (Ok None) = Unit {0}
+OfTold (Ok (Some f)) = Unit {0}
+OfTold (Err n) = 1 ≤ n
 
 -- of a window made
 abbrev pub OfMade : MadeAnswer → Type 0
@@ -58,14 +55,14 @@ OfMade Good = Unit {0}
 OfMade (NotMade n) = 1 ≤ n
 
 -- of readings taken
-abbrev pub OfRows : RowsAnswer → Type 0
-OfRows (Rows n) = Unit {0}
-OfRows (NotFollowed n) = 1 ≤ n
+abbrev pub OfRows : Result ℕ → Type 0
+OfRows (Ok n) = Unit {0}
+OfRows (Err n) = 1 ≤ n
 
 -- ---- what holds of them
 
 -- the numbers of this answer have five zeros for the figures
-pub record NoFiguresZero (a : Told) : Type 0 where
+pub record NoFiguresZero (a : Result (Option Figures)) : Type 0 where
   pub held : (told_numbers a).held ≡ 0
   pub sum : (told_numbers a).sum ≡ pos 0
   pub mean : (told_numbers a).mean ≡ pos 0
@@ -77,7 +74,7 @@ pub record WindowsSay : Type 0 where
   -- a window is its numbers, and numbers that are given are a window's
   pub window : (w : Window) → window_given (window_numbers w) ≡ w
   pub given : (w : WingWindow) → window_numbers (window_given w) ≡ w
-  pub told : (a : Told) → OfTold a → told_in (told_numbers a) ≡ a
+  pub told : (a : Result (Option Figures)) → OfTold a → told_in (told_numbers a) ≡ a
   pub made : (m : Made) → OfMade m.answer → made_in (made_numbers m) ≡ m
   pub reading : (t : Taken) → OfTold t.answer → reading_in (reading_numbers t) ≡ t
   pub readings : (f : Followed) → OfRows f.answer → followed_in (followed_numbers f) ≡ f
@@ -87,6 +84,6 @@ pub record WindowsSay : Type 0 where
   pub reading_call : (w : Window) (x : ℤ) → reading_in (reading_numbers (reading_of w x)) ≡ reading_of w x
   pub readings_call : (w : Window) (xs out : List ℤ) → let f = (readings_of w xs out).reply in followed_in (followed_numbers f) ≡ f
   -- where a window tells none, or the status is a refusal, the figures are 0, and so are the rows
-  pub none_zero : NoFiguresZero None
-  pub refused_zero : (n : ℕ) → NoFiguresZero (Refused n)
-  pub no_rows : (n : ℕ) (w : Window) → (followed_by (NotFollowed n) w).rows ≡ 0
+  pub none_zero : NoFiguresZero (Ok None)
+  pub refused_zero : (n : ℕ) → NoFiguresZero (Err n)
+  pub no_rows : (n : ℕ) (w : Window) → (followed_by (Err n) w).rows ≡ 0

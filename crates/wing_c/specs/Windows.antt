@@ -1,23 +1,21 @@
 -- A window over readings by numbers (02): its state, what it tells, and what each of its calls leaves.
-use Rattle.std.specs.Prelude.{ℕ, List, ℤ, pos}
+use Rattle.std.specs.Prelude.{ℕ, List, ℤ, pos, Ok, Some, Option, None, Err}
 use Rattle.wing_meters.specs.Window.{control, window}
 use Rattle.wing_meters.specs.Calls.{RowsEffect}
-use Rattle.wing_meters.specs.declared.figures.Told.{Told}
-use Rattle.wing_meters.specs.declared.figures.Told.TheVariants.{None, Figures as Told-as-Figures, Refused}
 use Rattle.wing_meters.specs.declared.window.Window.{Window}
 use Rattle.wing_meters.specs.declared.window.Made.{Made}
 use Rattle.wing_meters.specs.declared.window.MadeAnswer.{MadeAnswer}
 use Rattle.wing_meters.specs.declared.window.MadeAnswer.TheVariants.{Good, Refused as NotMade}
 use Rattle.wing_meters.specs.declared.reading.Taken.{Taken}
 use Rattle.wing_meters.specs.declared.reading.Followed.{Followed}
-use Rattle.wing_meters.specs.declared.reading.RowsAnswer.{RowsAnswer}
-use Rattle.wing_meters.specs.declared.reading.RowsAnswer.TheVariants.{Rows, Refused as NotFollowed}
 use Rattle.wing_c.specs.Numbers.{minus}
 use Rattle.wing_c.specs.declared.windows.WingWindow.{WingWindow}
 use Rattle.wing_c.specs.declared.windows.WingFigures.{WingFigures}
 use Rattle.wing_c.specs.declared.windows.WingMade.{WingMade}
 use Rattle.wing_c.specs.declared.windows.WingTaken.{WingTaken}
 use Rattle.wing_c.specs.declared.windows.WingFollowed.{WingFollowed}
+use Rattle.wing_node.specs.Result.{Result}
+use Rattle.wing_meters.specs.declared.figures.Figures.{Figures}
 
 -- a window's state, field by field
 abbrev pub window_numbers : Window → WingWindow
@@ -34,10 +32,10 @@ abbrev pub no_figures : ℤ → WingFigures
 no_figures status = record { status = status; held = 0; sum = pos 0; mean = pos 0; rest = 0; top = pos 0 }
 
 -- what a window tells: 1 and the figures, or 0 for none
-abbrev pub told_numbers : Told → WingFigures
-told_numbers None = no_figures (pos 0)
-told_numbers (Told-as-Figures f) = record { status = pos 1; held = f.held; sum = f.sum; mean = f.mean; rest = f.rest; top = f.top }
-told_numbers (Refused n) = no_figures (minus n)
+abbrev pub told_numbers : Result (Option Figures) → WingFigures
+told_numbers (Ok None) = no_figures (pos 0)
+told_numbers (Ok (Some f)) = record { status = pos 1; held = f.held; sum = f.sum; mean = f.mean; rest = f.rest; top = f.top }
+told_numbers (Err n) = no_figures (minus n)
 
 -- whether a window was made
 abbrev pub made_status : MadeAnswer → ℤ
@@ -57,9 +55,9 @@ abbrev pub followed_as : ℤ → ℕ → Window → WingFollowed
 followed_as status rows w = record { status = status; rows = rows; window = window_numbers w }
 
 -- readings taken: 0 and a row of figures for each
-abbrev pub followed_by : RowsAnswer → Window → WingFollowed
-followed_by (Rows n) w = followed_as (pos 0) n w
-followed_by (NotFollowed n) w = followed_as (minus n) 0 w
+abbrev pub followed_by : Result ℕ → Window → WingFollowed
+followed_by (Ok n) w = followed_as (pos 0) n w
+followed_by (Err n) w = followed_as (minus n) 0 w
 
 -- with the window after them
 abbrev pub followed_numbers : Followed → WingFollowed

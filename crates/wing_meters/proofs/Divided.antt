@@ -15,9 +15,9 @@ use Rattle.wing_node.proofs.Branches.{branch}
 use Rattle.wing_meters.specs.Afresh.{total, quotient, remainder, larger, largest, figures_of}
 use Rattle.wing_meters.specs.Moving.{Say}
 use Rattle.wing_meters.specs.declared.figures.Figures.{Figures}
-use Rattle.wing_meters.specs.declared.figures.Told.{Told}
-use Rattle.wing_meters.specs.declared.figures.Told.TheVariants.{None, Figures as Told-as-Figures, Refused}
 use Rattle.wing_meters.proofs.Levels.{sub-below}
+use Rattle.std.specs.Prelude.{Ok, Some, Option, None, Err}
+use Rattle.wing_node.specs.Result.{Result}
 
 -- 02: the remainder is from 0 to d − 1
 rest_below : (z : ℤ) (d : ℕ) → 0 < d → remainder z d < d
@@ -78,18 +78,18 @@ largest-above x (y ∷ ys) z m =
 
 -- ---- the figures
 
-figure : Told → Figures → Figures
-figure None f = f
-figure (Told-as-Figures g) f = g
-figure (Refused n) f = f
+figure : Result (Option Figures) → Figures → Figures
+figure (Ok None) f = f
+figure (Ok (Some g)) f = g
+figure (Err n) f = f
 
-pub figures-say : (xs : List ℤ) (f : Figures) → figures_of xs ≡ Told-as-Figures f → Say xs f
+pub figures-say : (xs : List ℤ) (f : Figures) → figures_of xs ≡ Ok (Some f) → Say xs f
 unfolding figures_of figure
 figures-say [] f e = let z : ◌≡◌ {A = ℕ} 0 1 = cc in absurd (omega arith)
 figures-say (x ∷ xs) f e =
     let n = length (x ∷ xs) in
     let sum = total (x ∷ xs) in
-    subst (Say (x ∷ xs)) (ap (λ (t : Told). figure t f) e)
+    subst (Say (x ∷ xs)) (ap (λ (t : Result (Option Figures)). figure t f) e)
     (record {
       held = refl;
       sum = refl;
@@ -99,7 +99,7 @@ figures-say (x ∷ xs) f e =
       above = largest-above x xs;
     })
 
-pub figures-none : (xs : List ℤ) → figures_of xs ≡ None → xs ≡ []
+pub figures-none : (xs : List ℤ) → figures_of xs ≡ (Ok None) → xs ≡ []
 unfolding figures_of
 figures-none [] e = refl
 figures-none (x ∷ xs) e = let z : ◌≡◌ {A = ℕ} 0 1 = cc in absurd (omega arith)

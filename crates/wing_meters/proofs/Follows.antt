@@ -17,12 +17,12 @@ use Rattle.wing_meters.specs.Window.{taking, kept_in, sound_window}
 use Rattle.wing_meters.specs.Kept.{figures_kept, told_kept}
 use Rattle.wing_meters.specs.Calls.{taken, reading_of, after_all, answers, row_of, row_told, rows, rows_effect, followed, readings_of}
 use Rattle.wing_meters.specs.declared.figures.Figures.{Figures}
-use Rattle.wing_meters.specs.declared.figures.Told.TheVariants.{Figures as Told-as-Figures, Refused}
 use Rattle.wing_meters.specs.declared.window.Window.{Window}
-use Rattle.wing_meters.specs.declared.reading.RowsAnswer.TheVariants.{Rows, Refused as NotFollowed}
 use Rattle.wing_meters.proofs.Rings.{grown-below, grown-full}
 use Rattle.wing_meters.proofs.Soundness.{sound, is-sound}
 use Rattle.wing_meters.proofs.Windows.{kept-told, sound-taking}
+use Rattle.std.specs.Prelude.{Ok, Some, Err}
+use Rattle.wing_node.specs.declared.refusal.Refusal.TheVariants.{OutputShort, StateUnsound}
 
 pub size-taking : (w : Window) (x : ℤ) → length w.levels ≡ 256 → length (taking w x).levels ≡ 256
 unfolding taking
@@ -32,7 +32,7 @@ pub reading-sound : (w : Window) (x : ℤ) → sound_window w ≡ true → readi
 unfolding reading_of
 reading-sound w x e = simp e
 
-pub reading-unsound : (w : Window) (x : ℤ) → sound_window w ≡ false → reading_of w x ≡ taken (Refused 8) w
+pub reading-unsound : (w : Window) (x : ℤ) → sound_window w ≡ false → reading_of w x ≡ taken (Err StateUnsound) w
 unfolding reading_of
 reading-unsound w x e = simp e
 
@@ -51,7 +51,7 @@ module _ (w : Window) (x : ℤ) (e : sound_window w ≡ true) (size : length w.l
       s.placed.place
 
   -- what is told of it is what is kept up
-  pub told-taking : figures_of (kept_in (taking w x)) ≡ Told-as-Figures (figures_kept (taking w x).control)
+  pub told-taking : figures_of (kept_in (taking w x)) ≡ Ok (Some (figures_kept (taking w x).control))
   unfolding told_kept
   told-taking =
       kept-told (taking w x) (sound-taking w (sound w e) size x) (size-taking w x size) ∙ simp (ne_eqb (taking w x).control.held 0 (λ z. omega (arith, holds-one)))
@@ -174,23 +174,23 @@ module _ (first : Window) (xs out₀ : List ℤ) (here : Window) (out : List ℤ
 -- ---- the call with many readings
 
 module _ (w : Window) (xs out : List ℤ) where
-  pub readings-unsound : sound_window w ≡ false → readings_of w xs out ≡ rows_effect (followed (NotFollowed 8) w) out
+  pub readings-unsound : sound_window w ≡ false → readings_of w xs out ≡ rows_effect (followed (Err StateUnsound) w) out
   unfolding readings_of
   readings-unsound e = simp e
 
   -- taken, unless the output is too short
   pub readings-sound : sound_window w ≡ true →
       readings_of w xs out ≡
-      if (ltb (length out) (5 * length xs)) (rows_effect (followed (NotFollowed 9) w) out)
-      (rows_effect (followed (Rows (length xs)) (after_all w xs)) (rows (answers w xs) ++ drop (5 * length xs) out))
+      if (ltb (length out) (5 * length xs)) (rows_effect (followed (Err OutputShort) w) out)
+      (rows_effect (followed (Ok (length xs)) (after_all w xs)) (rows (answers w xs) ++ drop (5 * length xs) out))
   unfolding readings_of
   readings-sound e = simp e
 
-  pub readings-short : sound_window w ≡ true → length out < 5 * length xs → readings_of w xs out ≡ rows_effect (followed (NotFollowed 9) w) out
+  pub readings-short : sound_window w ≡ true → length out < 5 * length xs → readings_of w xs out ≡ rows_effect (followed (Err OutputShort) w) out
   unfolding readings_of
   readings-short e h = simp (e, lt-ltb (length out) (5 * length xs) h)
 
   pub readings-taken : sound_window w ≡ true → 5 * length xs ≤ length out →
-      readings_of w xs out ≡ rows_effect (followed (Rows (length xs)) (after_all w xs)) (rows (answers w xs) ++ drop (5 * length xs) out)
+      readings_of w xs out ≡ rows_effect (followed (Ok (length xs)) (after_all w xs)) (rows (answers w xs) ++ drop (5 * length xs) out)
   unfolding readings_of
   readings-taken e h = simp (e, le-ltb (length out) (5 * length xs) h)

@@ -18,12 +18,12 @@ use Rattle.wing_meters.specs.Level.{added, greatest}
 use Rattle.wing_meters.specs.Window.{fresh_window, taking, onward, in_order, kept_in, sound_window}
 use Rattle.wing_meters.specs.Calls.{reading_of, after_all, answers}
 use Rattle.wing_meters.specs.Moving.{Readings, reading_then, Width}
-use Rattle.wing_meters.specs.declared.figures.Told.TheVariants.{None}
 use Rattle.wing_meters.specs.declared.window.Window.{Window}
 use Rattle.wing_meters.proofs.Rings.{last-all}
 use Rattle.wing_meters.proofs.Soundness.{Sound, sound, held-le}
 use Rattle.wing_meters.proofs.Windows.{kept-taking, length-kept}
 use Rattle.wing_meters.proofs.Follows.{size-taking, reading-sound, still-sound, after_on}
+use Rattle.std.specs.Prelude.{None, Ok}
 
 after_none : (w : Window) → after_all w [] ≡ w
 unfolding after_all
@@ -138,7 +138,7 @@ after-ran w (x ∷ xs) e size = after_on w x e size xs ∙ after-ran (taking w x
 
 -- each call is answered with the figures of what the window holds then
 pub answered : (w : Window) (xs : List ℤ) (k : ℕ) → sound_window w ≡ true → length w.levels ≡ 256 → k < length xs →
-    get_or (answers w xs) k None ≡ figures_of (kept_in (foldl taking w (take (suc k) xs)))
+    get_or (answers w xs) k (Ok None) ≡ figures_of (kept_in (foldl taking w (take (suc k) xs)))
 unfolding answers
 answered w [] k e size h = absurd (omega arith)
 answered w (x ∷ xs) zero e size h = rw (reading-sound w x e)

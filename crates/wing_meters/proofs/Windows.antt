@@ -13,13 +13,13 @@ use Rattle.wing_meters.specs.Afresh.{last_of, total, quotient, remainder, larges
 use Rattle.wing_meters.specs.Level.{level_of, reading_at, lowered, added, greatest}
 use Rattle.wing_meters.specs.Window.{grown, onward, taking, in_order, kept_in}
 use Rattle.wing_meters.specs.Kept.{figures_kept, told_kept, InRange, TopBefore}
-use Rattle.wing_meters.specs.declared.figures.Told.TheVariants.{Figures as Told-as-Figures}
 use Rattle.wing_meters.specs.declared.window.Control.{Control}
 use Rattle.wing_meters.specs.declared.window.Window.{Window}
 use Rattle.wing_meters.proofs.Levels.{reading-level, total_lowered, quotient-lowered, largest-lowered}
 use Rattle.wing_meters.proofs.Sums.{kept-up, leaving-in, top-before, added-le, greatest-from, added-turned, greatest-turned, added-used, greatest-used}
 use Rattle.wing_meters.proofs.Rings.{length-turned, last-all, last-but, unfilled, full, grown-below, grown-full, place-on}
 use Rattle.wing_meters.proofs.Soundness.{Sound, held-le, next-below}
+use Rattle.std.specs.Prelude.{Ok, Some}
 
 -- ---- lists mapped
 
@@ -53,11 +53,11 @@ told-levels (l ∷ ls) c n s t =
     total_lowered (l ∷ ls) ∙ (ap (λ (k : ℕ). lowered k (length (l ∷ ls))) s ∙ ap (lowered c.sum) n) in
     let parts = quotient-lowered c.sum c.held (omega arith) in
     let top : largest (reading_at l) (map reading_at ls) ≡ reading_at c.top = largest-lowered l ls ∙ ap reading_at t in
-    ap (λ (k : ℕ). Told-as-Figures (figures k (total (map reading_at (l ∷ ls))) (quotient (total (map reading_at (l ∷ ls))) k) (remainder (total (map reading_at (l ∷ ls))) k) (largest (reading_at l) (map reading_at ls)))) size ∙
-    (ap (λ (z : ℤ). Told-as-Figures (figures c.held z (quotient z c.held) (remainder z c.held) (largest (reading_at l) (map reading_at ls)))) sum ∙
-    (ap (λ (z : ℤ). Told-as-Figures (figures c.held (lowered c.sum c.held) z (remainder (lowered c.sum c.held) c.held) (largest (reading_at l) (map reading_at ls)))) parts.0 ∙
-    (ap (λ (k : ℕ). Told-as-Figures (figures c.held (lowered c.sum c.held) (reading_at (c.sum / c.held)) k (largest (reading_at l) (map reading_at ls)))) parts.1 ∙
-    (ap (λ (z : ℤ). Told-as-Figures (figures c.held (lowered c.sum c.held) (reading_at (c.sum / c.held)) (c.sum % c.held) z)) top ∙
+    ap (λ (k : ℕ). Ok (Some (figures k (total (map reading_at (l ∷ ls))) (quotient (total (map reading_at (l ∷ ls))) k) (remainder (total (map reading_at (l ∷ ls))) k) (largest (reading_at l) (map reading_at ls))))) size ∙
+    (ap (λ (z : ℤ). Ok (Some (figures c.held z (quotient z c.held) (remainder z c.held) (largest (reading_at l) (map reading_at ls))))) sum ∙
+    (ap (λ (z : ℤ). Ok (Some (figures c.held (lowered c.sum c.held) z (remainder (lowered c.sum c.held) c.held) (largest (reading_at l) (map reading_at ls))))) parts.0 ∙
+    (ap (λ (k : ℕ). Ok (Some (figures c.held (lowered c.sum c.held) (reading_at (c.sum / c.held)) k (largest (reading_at l) (map reading_at ls))))) parts.1 ∙
+    (ap (λ (z : ℤ). Ok (Some (figures c.held (lowered c.sum c.held) (reading_at (c.sum / c.held)) (c.sum % c.held) z))) top ∙
     sym (simp (ne_eqb c.held 0 (λ e. omega arith)))))))
 
 module _ (w : Window) (s : Sound w) (size : length w.levels ≡ 256) where

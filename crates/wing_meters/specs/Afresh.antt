@@ -1,10 +1,9 @@
 -- 02, Job 6: the figures of readings, worked out afresh from the readings themselves.
-use Rattle.std.specs.Prelude.{ℕ, suc, ◌-◌, ◌/◌, ◌%◌, List, [], ◌∷◌, ℤ, pos, negsuc, ◌+ℤ◌, length, drop}
+use Rattle.std.specs.Prelude.{ℕ, suc, ◌-◌, ◌/◌, ◌%◌, List, [], ◌∷◌, ℤ, pos, negsuc, ◌+ℤ◌, length, drop, Ok, Some, Option, None}
 use Rattle.std.specs.Int.Signed.{lt_z}
 use Rattle.wing_node.specs.Bool.{if}
 use Rattle.wing_meters.specs.declared.figures.Figures.{Figures}
-use Rattle.wing_meters.specs.declared.figures.Told.{Told}
-use Rattle.wing_meters.specs.declared.figures.Told.TheVariants.{None, Figures as Told-as-Figures}
+use Rattle.wing_node.specs.Result.{Result}
 
 -- 02: the last readings of a list: the last w of it, or all where it has fewer
 abbrev pub last_of {ℓ} : {A : Type ℓ} → ℕ → List A → List A
@@ -39,9 +38,9 @@ abbrev pub figures : ℕ → ℤ → ℤ → ℕ → ℤ → Figures
 figures held sum mean rest top = record { held = held; sum = sum; mean = mean; rest = rest; top = top }
 
 -- 02: the figures of readings; of no readings, none
-unfoldable pub figures_of : List ℤ → Told
-figures_of [] = None
+unfoldable pub figures_of : List ℤ → Result (Option Figures)
+figures_of [] = (Ok None)
 figures_of (x ∷ xs) =
     let n = length (x ∷ xs) in
     let sum = total (x ∷ xs) in
-    Told-as-Figures (figures n sum (quotient sum n) (remainder sum n) (largest x xs))
+    Ok (Some (figures n sum (quotient sum n) (remainder sum n) (largest x xs)))

@@ -1,27 +1,27 @@
 -- Figures of some readings, written out: a table with one joint proof.
-use Rattle.std.specs.Prelude.{ℕ, List, [], ◌∷◌, ℤ, pos, negsuc, replicate}
+use Rattle.std.specs.Prelude.{ℕ, List, [], ◌∷◌, ℤ, pos, negsuc, replicate, Ok, Some, Option, None}
 use Rattle.wing_meters.specs.Afresh.{last_of, figures, figures_of}
-use Rattle.wing_meters.specs.declared.figures.Told.{Told}
-use Rattle.wing_meters.specs.declared.figures.Told.TheVariants.{None, Figures as Told-as-Figures}
+use Rattle.wing_node.specs.Result.{Result}
+use Rattle.wing_meters.specs.declared.figures.Figures.{Figures}
 
 -- what the definitions give, and what is wanted
 pub record Case : Type 0 where
-  pub got : Told
-  pub wanted : Told
+  pub got : Result (Option Figures)
+  pub wanted : Result (Option Figures)
 
 -- the figures of the last readings of a list at a width, and those wanted
-abbrev pub case : ℕ → List ℤ → Told → Case
+abbrev pub case : ℕ → List ℤ → Result (Option Figures) → Case
 case width xs told = record { got = figures_of (last_of width xs); wanted = told }
 
 -- how many, sum, quotient, remainder, largest
-abbrev pub tells : ℕ → ℤ → ℤ → ℕ → ℤ → Told
-tells held sum mean rest top = Told-as-Figures (figures held sum mean rest top)
+abbrev pub tells : ℕ → ℤ → ℤ → ℕ → ℤ → Result (Option Figures)
+tells held sum mean rest top = Ok (Some (figures held sum mean rest top))
 
 -- negsuc n is −(n + 1)
 unfoldable pub cases : List Case
 cases =
     -- no readings
-    case 5 [] None ∷
+    case 5 [] (Ok None) ∷
     -- −1 and 0 at width 2: −1 of 2 is −1, and 1 is left
     case 2 (negsuc 0 ∷ pos 0 ∷ []) (tells 2 (negsuc 0) (negsuc 0) 1 (pos 0)) ∷
     -- not full yet: 7 of 2 is 3, and 1 is left

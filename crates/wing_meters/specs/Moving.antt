@@ -1,12 +1,11 @@
 -- What holds of a window for every list of readings (02, Job 6).
-use Rattle.std.specs.Prelude.{ℕ, ◌+◌, ◌≤◌, ◌<◌, ◌^◌, min, true, ◌≡◌, ℤ, pos, ◌+ℤ◌, ◌*ℤ◌, length, take, get_or, ◌≤ℤ◌}
+use Rattle.std.specs.Prelude.{ℕ, ◌+◌, ◌≤◌, ◌<◌, ◌^◌, min, true, ◌≡◌, ℤ, pos, ◌+ℤ◌, ◌*ℤ◌, length, take, get_or, ◌≤ℤ◌, Ok, Some, None}
 use mathlib.Core.List.{List, [], ◌∷◌, ◌++◌, Memᴰ}
 use Rattle.wing_node.specs.Signed.{InBits}
 use Rattle.wing_meters.specs.Afresh.{last_of, total, figures_of}
 use Rattle.wing_meters.specs.Window.{fresh_window, leaves, sound_window}
 use Rattle.wing_meters.specs.Calls.{figures_answer, after_all, answers, row_told}
 use Rattle.wing_meters.specs.declared.figures.Figures.{Figures}
-use Rattle.wing_meters.specs.declared.figures.Told.TheVariants.{None, Figures as Told-as-Figures}
 use Rattle.wing_meters.specs.declared.window.Window.{Window}
 
 -- 01: readings are signed 16-bit numbers
@@ -63,7 +62,7 @@ pub record Along (width : ℕ) (xs : List ℤ) : Type 0 where
   -- each is answered
   pub count : length (answers (fresh_window width) xs) ≡ length xs
   -- 02: at each reading the figures are those worked out afresh from the last readings of the list so far
-  pub told : (k : ℕ) → k < length xs → get_or (answers (fresh_window width) xs) k None ≡ figures_of (last_of width (take (k + 1) xs))
+  pub told : (k : ℕ) → k < length xs → get_or (answers (fresh_window width) xs) k (Ok None) ≡ figures_of (last_of width (take (k + 1) xs))
   -- and so are the figures that are asked for after them; none of no readings
   pub figures : figures_answer (after_all (fresh_window width) xs) ≡ figures_of (last_of width xs)
   -- the calls leave what the list leaves
@@ -76,9 +75,9 @@ pub record Moving : Type 0 where
   -- which readings are the last
   pub last : (width : ℕ) (xs : List ℤ) → Last width xs (last_of width xs)
   -- what the figures say
-  pub says : (xs : List ℤ) (f : Figures) → figures_of xs ≡ Told-as-Figures f → Say xs f
+  pub says : (xs : List ℤ) (f : Figures) → figures_of xs ≡ Ok (Some f) → Say xs f
   -- and when there are none
-  pub none : (xs : List ℤ) → figures_of xs ≡ None → xs ≡ []
+  pub none : (xs : List ℤ) → figures_of xs ≡ (Ok None) → xs ≡ []
   -- a state is taken exactly when some list of readings leaves it
   pub taken : (w : Window) → Typed w → sound_window w ≡ true → Left w
   pub left : (w : Window) → Left w → sound_window w ≡ true

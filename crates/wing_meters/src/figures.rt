@@ -9,11 +9,3 @@ pub struct Figures {
     pub rest: u16,
     pub top: i16,
 }
-
-// None where the window is empty.
-#[derive(Clone, Copy)]
-pub enum Told {
-    None,
-    Figures(Figures),
-    Refused(u8),
-}

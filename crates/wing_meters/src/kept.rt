@@ -1,10 +1,10 @@
 // The figures of the readings that are held, by what a window keeps up of them, and as a row of numbers.
-ghost use Rattle.std.specs.Prelude.{◌≡◌, length, ◌+◌, ◌*◌, ◌/◌, ◌≤◌};
+ghost use Rattle.std.specs.Prelude.{◌≡◌, length, ◌+◌, ◌*◌, ◌/◌, ◌≤◌, Ok};
 ghost use Rattle.std.proofs.lemmas.List.Edits.{sets};
 ghost use Rattle.wing_meters.specs.Kept.{InRange, figures_kept, told_kept};
 ghost use Rattle.wing_meters.specs.Calls.{row_of};
 
-use crate::figures::{Figures, Told};
+use crate::figures::Figures;
 use crate::level::{reading_at, sum_of};
 use crate::window::Control;
 
@@ -32,15 +32,14 @@ pub(crate) fn figures_in(c: Control) -> Figures
 }
 
 // None where it holds none.
-pub(crate) fn tell(c: Control) -> Told
+pub(crate) fn tell(c: Control) -> Option<Figures>
     requires { InRange c }
-    ensures { result ≡ told_kept c }
+    ensures { Ok result ≡ told_kept c }
 {
     if c.held == 0 {
-        return Told::None;
+        return None;
     }
-    let f = figures_in(c);
-    Told::Figures(f)
+    Some(figures_in(c))
 }
 
 // The five figures at a place, in their order.

@@ -1,11 +1,11 @@
 // Readings that go into a window, one by one: each takes the next place, where the oldest stands once the window is full.
-ghost use Rattle.std.specs.Prelude.{◌≡◌, true, ◌+◌, ◌-◌, ◌*◌, ◌≤◌, ◌<◌, ◌++◌, length, drop};
+ghost use Rattle.std.specs.Prelude.{◌≡◌, true, ◌+◌, ◌-◌, ◌*◌, ◌≤◌, ◌<◌, ◌++◌, length, drop, Err};
 ghost use Rattle.wing_meters.specs.Kept.{InRange, TopBefore};
 ghost use Rattle.wing_meters.specs.Level.{greatest as greatest_of};
 ghost use Rattle.wing_meters.specs.Window.{window as window_of, taking, grown as grown_of, onward as onward_of, sound_window};
 ghost use Rattle.wing_meters.specs.Calls.{reading_of, after_all, answers, rows, followed as followed_of, rows_effect, readings_of};
 
-use crate::figures::Told;
+use crate::figures::Figures;
 use crate::kept::{figures_in, lay_row, tell};
 use crate::level::level_of;
 use crate::sound::{greatest, is_sound_lent};
@@ -15,21 +15,14 @@ use wing_node::refusal::Refusal;
 // The answer, and the window with the reading in it; after a refusal the window as it was.
 #[derive(Clone, Copy)]
 pub struct Taken {
-    pub answer: Told,
+    pub answer: Result<Option<Figures>, Refusal>,
     pub window: Window,
 }
 
-// How many rows of five figures, one for each reading.
-#[derive(Clone, Copy)]
-pub enum RowsAnswer {
-    Rows(usize),
-    Refused(u8),
-}
-
-// The answer, and the window with the readings in it; after a refusal the window as it was.
+// How many rows of five figures, one for each reading, or the refusal, and the window with the readings in it; after a refusal the window as it was.
 #[derive(Clone, Copy)]
 pub struct Followed {
-    pub answer: RowsAnswer,
+    pub answer: Result<usize, Refusal>,
     pub window: Window,
 }
 
@@ -97,7 +90,7 @@ pub fn reading(w: Window, x: i16) -> Taken
         let after = step(c, &mut levels, x);
         let told = tell(after);
         return Taken {
-            answer: told,
+            answer: Ok(told),
             window: Window {
                 control: after,
                 levels: levels,
@@ -126,8 +119,8 @@ fn follow(c: Control, levels: &mut [u16], xs: &[i16], out: &mut [i32]) -> Contro
     after
 }
 
-fn refuse(why: u8, w: Window) -> Followed
-    ensures { result ≡ followed_of (RowsAnswer.Refused why) w }
+fn refuse(why: Refusal, w: Window) -> Followed
+    ensures { result ≡ followed_of (Err why) w }
 {
     Followed {
         answer: Err(why),
@@ -143,16 +136,16 @@ pub fn readings(w: Window, xs: &[i16], out: &mut [i32]) -> Followed
     let mut levels = w.levels;
     if is_sound_lent(c, &levels) {
         if out.len() / 5 < xs.len() {
-            return refuse(9, w);
+            return refuse(Refusal::OutputShort, w);
         }
         let after = follow(c, &mut levels, xs, out);
         return Followed {
-            answer: RowsAnswer::Rows(xs.len()),
+            answer: Ok(xs.len()),
             window: Window {
                 control: after,
                 levels: levels,
             },
         };
     }
-    refuse(8, w)
+    refuse(Refusal::StateUnsound, w)
 }

@@ -3,7 +3,7 @@ ghost use Rattle.std.specs.Prelude.{◌≡◌};
 ghost use Rattle.wing_meters.specs.Window.{fresh_window, sound_window};
 ghost use Rattle.wing_meters.specs.Calls.{made_of, figures_answer};
 
-use crate::figures::Told;
+use crate::figures::Figures;
 use crate::kept::tell;
 use crate::sound::is_sound_lent;
 use wing_node::refusal::Refusal;
@@ -25,19 +25,6 @@ pub struct Window {
     pub levels: [u16; 256],
 }
 
-#[derive(Clone, Copy)]
-pub enum MadeAnswer {
-    Good,
-    Refused(u8),
-}
-
-// Beside a refusal stands a window of width 0, which every call refuses.
-#[derive(Clone, Copy)]
-pub struct Made {
-    pub answer: MadeAnswer,
-    pub window: Window,
-}
-
 fn fresh(width: u16) -> Window
     ensures { result ≡ fresh_window width }
 {
@@ -53,29 +40,17 @@ fn fresh(width: u16) -> Window
     }
 }
 
-fn no_window() -> Made
-    ensures { result ≡ made_of 0 }
-{
-    Made {
-        answer: Err(Refusal::WidthWrong),
-        window: fresh(0),
-    }
-}
-
 // 02: a width outside 1 to 256 is 19.
-pub fn make(width: u32) -> Made
+pub fn make(width: u32) -> Result<Window, Refusal>
     ensures { result ≡ made_of width }
 {
     if width < 1 {
-        return no_window();
+        return Err(Refusal::WidthWrong);
     }
     if 256 < width {
-        return no_window();
+        return Err(Refusal::WidthWrong);
     }
-    Made {
-        answer: MadeAnswer::Good,
-        window: fresh(width as u16),
-    }
+    Ok(fresh(width as u16))
 }
 
 // 02: whether some list of readings leaves this window.
@@ -87,12 +62,12 @@ pub fn is_sound(w: Window) -> bool
 }
 
 // The figures of the readings that the window holds, none if it is empty. 8.
-pub fn figures(w: Window) -> Told
+pub fn figures(w: Window) -> Result<Option<Figures>, Refusal>
     ensures { result ≡ figures_answer w }
 {
     let c = w.control;
     if is_sound_lent(c, &w.levels) {
-        return tell(c);
+        return Ok(tell(c));
     }
     Err(Refusal::StateUnsound)
 }

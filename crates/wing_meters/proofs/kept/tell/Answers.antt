@@ -9,4 +9,4 @@ returns-then-c-eq0 c = simp (eq-eqb _ _ c.if-c-eq0.true)
 
 pub returns : goal.returns
 unfolding told_kept
-returns c = simp (ne_eqb _ _ c.if-c-eq0.false, c.figures_in-f.ensures)
+returns c = simp (ne_eqb _ _ c.if-c-eq0.false, c.figures_in.ensures)

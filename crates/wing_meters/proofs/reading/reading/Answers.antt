@@ -8,13 +8,15 @@ use Rattle.wing_meters.specs.Afresh.{figures_of}
 use Rattle.wing_meters.specs.Window.{window, taking, kept_in, sound_window}
 use Rattle.wing_meters.specs.Kept.{told_kept}
 use Rattle.wing_meters.specs.Calls.{taken}
-use Rattle.wing_meters.specs.declared.figures.Told.{Told}
 use Rattle.wing_meters.specs.declared.window.Window.{Window}
 use Rattle.wing_meters.proofs.Soundness.{sound}
 use Rattle.wing_meters.proofs.Windows.{kept-told, sound-taking}
 use Rattle.wing_meters.proofs.Follows.{size-taking, reading-sound, reading-unsound}
 use borrow.Author.Rules.{rules}
 use Rattle.wing_meters.proofs.reading.reading.Goals as goal
+use Rattle.wing_node.specs.Result.{Result}
+use Rattle.std.specs.Prelude.{Option}
+use Rattle.wing_meters.specs.declared.figures.Figures.{Figures}
 
 pub step-after-requires : goal.step-after-requires
 step-after-requires c = (search rules, sym c.is_sound_lent.ensures.0 ∙ c.if-is_sound_lent.true)
@@ -29,9 +31,9 @@ returns-then-is_sound_lent c =
     let after : window c.step-after.result c.step-after.new.levels ≡ taking w a.x = c.step-after.ensures.0 ∙ ap (taking w) k in
     let told : told_kept (taking w a.x).control ≡ figures_of (kept_in (taking w a.x)) =
     sym (kept-told (taking w a.x) (sound-taking w (sound w e) size a.x) (size-taking w a.x size)) in
-    ap (λ (t : Told). taken t (window c.step-after.result c.step-after.new.levels)) c.tell-told.ensures ∙
+    ap (λ (t : Result (Option Figures)). taken t (window c.step-after.result c.step-after.new.levels)) c.tell-told.ensures ∙
     (ap (λ (v : Window). taken (told_kept v.control) v) after ∙
-    (ap (λ (t : Told). taken t (taking w a.x)) told ∙ sym (reading-sound w a.x e)))
+    (ap (λ (t : Result (Option Figures)). taken t (taking w a.x)) told ∙ sym (reading-sound w a.x e)))
 
 pub returns : goal.returns
 returns c =

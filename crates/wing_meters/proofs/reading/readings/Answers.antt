@@ -7,10 +7,10 @@ use lib.ListN.{length}
 use Rattle.wing_meters.specs.Calls.{after_all, rows_effect, followed}
 use Rattle.wing_meters.specs.declared.window.Window.{Window}
 use Rattle.wing_meters.specs.declared.reading.Followed.{Followed}
-use Rattle.wing_meters.specs.declared.reading.RowsAnswer.TheVariants.{Rows}
 use Rattle.wing_meters.proofs.Follows.{readings-unsound, readings-short, readings-taken}
 use borrow.Author.Rules.{rules}
 use Rattle.wing_meters.proofs.reading.readings.Goals as goal
+use Rattle.std.specs.Prelude.{Ok}
 
 pub returns-then-out-xs : goal.returns-then-out-xs
 returns-then-out-xs c =
@@ -26,8 +26,8 @@ pub returns-then-is_sound_lent : goal.returns-then-is_sound_lent
 returns-then-is_sound_lent c =
     let a = c.args in
     let e = sym c.is_sound_lent.ensures.0 ∙ c.if-is_sound_lent.true in
-    ap (λ (w : Window). rows_effect (followed (Rows (length a.xs.now)) w) c.follow-after.new.out) c.follow-after.ensures.levels_after ∙
-    (ap (λ (o : List ℤ). rows_effect (followed (Rows (length a.xs.now)) (after_all a.w a.xs.now)) o) c.follow-after.ensures.out_after ∙
+    ap (λ (w : Window). rows_effect (followed (Ok (length a.xs.now)) w) c.follow-after.new.out) c.follow-after.ensures.levels_after ∙
+    (ap (λ (o : List ℤ). rows_effect (followed (Ok (length a.xs.now)) (after_all a.w a.xs.now)) o) c.follow-after.ensures.out_after ∙
     sym (readings-taken a.w a.xs.now a.out.now e (omega (arith, c.if-out-xs.false))))
 
 pub returns : goal.returns

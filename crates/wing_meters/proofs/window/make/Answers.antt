@@ -5,11 +5,11 @@ use Rattle.wing_meters.proofs.window.make.Goals as goal
 
 pub returns-then-width-lt1 : goal.returns-then-width-lt1
 unfolding made_of
-returns-then-width-lt1 c = simp (lt-ltb _ _ c.if-width-lt1.true, c.no_window.ensures)
+returns-then-width-lt1 c = simp (lt-ltb _ _ c.if-width-lt1.true)
 
 pub returns-then-width-gt256 : goal.returns-then-width-gt256
 unfolding made_of
-returns-then-width-gt256 c = simp (le-ltb _ _ c.if-width-lt1.false, lt-ltb _ _ c.if-width-gt256.true, c.no_window-then-width-gt256.ensures)
+returns-then-width-gt256 c = simp (le-ltb _ _ c.if-width-lt1.false, lt-ltb _ _ c.if-width-gt256.true)
 
 pub returns : goal.returns
 unfolding made_of
