@@ -1,28 +1,17 @@
 -- Writes into an array, one element after the other, and into one of zeros.
 use mathlib.Core.Path.{◌≡◌, ◌∙◌, ap, sym}
 use mathlib.Core.List.{List, [], ◌∷◌, ◌++◌, append_assoc, append-nil}
-use Prim.Native.Nat.{ℕ, zero, suc, ◌+◌, ◌-◌, ◌/◌, ◌%◌, ◌≤◌, ◌<◌}
+use Prim.Native.Nat.{ℕ, zero, suc, ◌+◌, ◌-◌, ◌/◌, ◌%◌, ◌≤◌, ◌<◌, min}
 use native.Mathlib.Omega.{arith}
 use native.Mathlib.Nat.{suc-sub-suc}
 use native.Mathlib.Numerals.{add-one}
-use lib.ListN.{length, take, drop, set, replicate, length-set, length-take, take-append-drop}
-use lib.Seq.{take_all, take-suc-set, take-set-le, drop-cons, drop-set-lt, get_or-set_same, lt-length-set}
-use Rattle.wing_node.specs.Bytes.{placed, zeroed}
+use lib.ListN.{length, take, drop, set, replicate, length-drop, drop_of_length-le, take-append-drop}
+use lib.Seq.{length-take-le, take-suc-set, take-set-le, drop-cons, drop-set-lt, get_or-set_same, lt-length-set}
+use borrow.Rule.Slice.PartMut.{put_mid}
+use Rattle.std.proofs.lemmas.List.{take_min, length-take}
+use Rattle.wing_node.specs.Bytes.{placed}
 use Rattle.wing_node.specs.Decimal.{ascii, last_digits}
 use Rattle.wing_node.proofs.Numerals.Spelled.{length-last_digits, last_digits-suc, last_digits-zero}
-
--- one more zero leaves the same to do
-pub zeroed-turn : (d : List ℕ) (i : ℕ) → i < length d → zeroed (set d i 0) (i + 1) ≡ zeroed d i
-unfolding zeroed
-zeroed-turn d i h =
-    let e : length d - i ≡ suc (length d - suc i) = omega arith in
-    rw (add-one i, length-set d i 0, take-suc-set d i 0 h, e) (append_assoc (take i d) (0 ∷ []) (replicate (length d - suc i) 0))
-
-pub zeroed-end : (d : List ℕ) (i : ℕ) → length d ≤ i → zeroed d i ≡ d
-unfolding zeroed
-zeroed-end d i h =
-    let e : length d - i ≡ 0 = omega arith in
-    rw (take_all i d h, e) (append-nil d)
 
 drop-set-same : (d : List ℕ) (j a : ℕ) → j < length d → drop j (set d j a) ≡ a ∷ drop (suc j) d
 drop-set-same d j a h =
@@ -66,9 +55,12 @@ placed-cons d at a s h =
     let e : at + 1 + length s ≡ at + length (a ∷ s) = omega arith in
     rw (e, drop-set-lt (at + length (a ∷ s)) d at a (omega arith), add-one at, take-suc-set d at a h) (append_assoc (take at d) (a ∷ []) (s ++ drop (at + length (a ∷ s)) d))
 
--- the first n of m bytes, and zeros
-pub zeroed_first : (m n : ℕ) (d : List ℕ) → length d ≡ m → zeroed d n ≡ take n d ++ replicate (m - length (take n d)) 0
-unfolding zeroed
-zeroed_first m n d e =
-    let k : length d - n ≡ m - length (take n d) = omega (arith, length-take n d) in
-    rw k
+-- m bytes after zeros have filled the place of those past the first n
+pub zeros-past : (m n k : ℕ) (d z : List ℕ) → length d ≡ m → k ≡ min n m → z ≡ replicate (length (take (m - k) (drop k d))) 0 →
+    put_mid k (m - k) d z ≡ take n d ++ replicate (m - length (take n d)) 0
+zeros-past m n k d z e h f =
+    let long : length (take n d) ≡ k = omega (arith, length-take n d) in
+    let rest : length (take (m - k) (drop k d)) ≡ m - k = length-take-le (m - k) (drop k d) (omega (arith, length-drop k d)) in
+    let front : take k d ≡ take n d = ap (λ j. take j d) (omega arith) ∙ take_min n d in
+    rw (f, rest, front, long, drop_of_length-le (drop k d) {i = m - k} (omega (arith, length-drop k d)))
+    (ap (λ l. take n d ++ l) (append-nil (replicate (m - k) 0)))

@@ -115,15 +115,13 @@ pub(crate) fn past_items(body: &[u8], kind: NodeType, count: u16, first: Cursor)
     ensures { result ≡ after (items_of kind count) body.now first }
 {
     let mut c = first;
-    let mut left = count;
-    while 0 < left {
+    for _ in 0..count {
         let fault = c.fault;
         if fault.is_err() {
             return c;
         }
         let read = read_item(body, kind, c);
         c = read.next;
-        left -= 1;
     }
     c
 }

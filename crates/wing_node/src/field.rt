@@ -8,14 +8,14 @@ ghost use Rattle.wing_node.specs.Field.{big, bytes_of, field_at, put, put_at};
 pub fn left(s: &[u8], at: usize) -> usize
     ensures { result ≡ length s.now - at }
 {
-    if at < s.len() { s.len() - at } else { 0 }
+    s.len().saturating_sub(at)
 }
 
 // The smaller of two lengths.
 pub fn least(a: usize, b: usize) -> usize
     ensures { result ≡ min a b }
 {
-    if a < b { a } else { b }
+    a.min(b)
 }
 
 fn number_16(a: u8, b: u8) -> u16
@@ -34,44 +34,28 @@ fn number_32(a: u8, b: u8, c: u8, d: u8) -> u32
 pub fn to_i16(u: u16) -> i16
     ensures { result ≡ signed 15 u }
 {
-    if u < 0x8000 {
-        u as i16
-    } else {
-        !((0xffff - u) as i16)
-    }
+    u.cast_signed()
 }
 
 // The number whose 32 bits these are, in two's complement.
 pub fn to_i32(u: u32) -> i32
     ensures { result ≡ signed 31 u }
 {
-    if u < 0x8000_0000 {
-        u as i32
-    } else {
-        !((0xffff_ffff - u) as i32)
-    }
+    u.cast_signed()
 }
 
 // The 16 bits of x.
 pub fn of_i16(x: i16) -> u16
     ensures { result ≡ unsigned 15 x }
 {
-    if x < 0 {
-        0xffff - (!x) as u16
-    } else {
-        x as u16
-    }
+    x.cast_unsigned()
 }
 
 // The 32 bits of a number.
 pub fn of_i32(x: i32) -> u32
     ensures { result ≡ unsigned 31 x }
 {
-    if x < 0 {
-        0xffff_ffff - (!x) as u32
-    } else {
-        x as u32
-    }
+    x.cast_unsigned()
 }
 
 // The 16-bit number in the bytes from a place on, 0 where fewer are left.

@@ -64,39 +64,18 @@ pub fn unit_of(n: u16) -> NodeUnit
 pub fn type_number(t: NodeType) -> u8
     ensures { result ≡ type_number t }
 {
-    match t {
-        NodeType::Node => 0,
-        NodeType::LinearFloat => 1,
-        NodeType::LogarithmicFloat => 2,
-        NodeType::FaderLevel => 3,
-        NodeType::Integer => 4,
-        NodeType::StringEnum => 5,
-        NodeType::FloatEnum => 6,
-        NodeType::String => 7,
-    }
+    t as u8
 }
 
 pub fn unit_number(u: NodeUnit) -> u8
     ensures { result ≡ unit_number u }
 {
-    match u {
-        NodeUnit::None => 0,
-        NodeUnit::Db => 1,
-        NodeUnit::Percent => 2,
-        NodeUnit::Milliseconds => 3,
-        NodeUnit::Hertz => 4,
-        NodeUnit::Meters => 5,
-        NodeUnit::Seconds => 6,
-        NodeUnit::Octaves => 7,
-    }
+    u as u8
 }
 
 // 01: types 5 and 6 have items.
 pub fn has_items(kind: NodeType) -> bool
     ensures { result ≡ has_items kind }
 {
-    match kind {
-        NodeType::StringEnum | NodeType::FloatEnum => true,
-        _ => false,
-    }
+    matches!(kind, NodeType::StringEnum | NodeType::FloatEnum)
 }

@@ -1,24 +1,16 @@
 // UTF-8 (RFC 3629): how many leading bytes form whole characters, and whether all do.
 // 01: "a lead byte's class is its count of leading one bits".
 ghost use Rattle.std.specs.Prelude.{◌≡◌, ◌∷◌, [], ◌+◌, drop, replicate};
-ghost use Rattle.wing_node.specs.Utf8.{◌to◌, utf8_tail, begins, class, lead_length, second, char_length, good, utf8, Octets, Longest, Decides};
+ghost use Rattle.wing_node.specs.Utf8.{◌to◌, utf8_tail, begins, lead_length, second, char_length, good, utf8, Octets, Longest, Decides};
 
 use crate::field::{left, u32_at};
 
-// Its leading one bits are the leading zeros of 255 minus it.
-fn class_of(lead: u8) -> u32
-    ensures { result ≡ class lead }
-{
-    u8::leading_zeros(255 - lead)
-}
-
 // The length of the sequence that a lead byte begins, 0 where it begins none.
-// Its class chooses. C0 and C1 would begin a character that one byte holds, F5 to F7 one past U+10FFFF.
+// Its class, the count of its leading ones, chooses. C0 and C1 would begin a character that one byte holds, F5 to F7 one past U+10FFFF.
 fn lead_length(lead: u8) -> usize
     ensures { result ≡ lead_length lead }
 {
-    let class = class_of(lead);
-    match class {
+    match lead.leading_ones() {
         0 => 1,
         2 => if lead < 0xc2 { 0 } else { 2 },
         3 => 3,
@@ -27,60 +19,35 @@ fn lead_length(lead: u8) -> usize
     }
 }
 
-// After E0 and F0 a lower second byte would spell a character that a shorter sequence holds.
-fn second_low(lead: u8) -> u8
-    ensures { result ≡ (second lead).low }
+// The lowest and the highest byte after a lead byte. After E0 and F0 a lower one would spell a character that a shorter sequence holds,
+// after ED a higher one a surrogate, after F4 a higher one a character past U+10FFFF.
+fn second(lead: u8) -> (u8, u8)
+    ensures { result ≡ ((second lead).low, (second lead).high) }
 {
-    if lead == 0xe0 {
-        return 0xa0;
+    match lead {
+        0xe0 => (0xa0, 0xbf),
+        0xed => (0x80, 0x9f),
+        0xf0 => (0x90, 0xbf),
+        0xf4 => (0x80, 0x8f),
+        _ => (0x80, 0xbf),
     }
-    if lead == 0xf0 {
-        return 0x90;
-    }
-    0x80
-}
-
-// After ED a higher second byte would spell a surrogate, after F4 a character past U+10FFFF.
-fn second_high(lead: u8) -> u8
-    ensures { result ≡ (second lead).high }
-{
-    if lead == 0xed {
-        return 0x9f;
-    }
-    if lead == 0xf4 {
-        return 0x8f;
-    }
-    0xbf
 }
 
 // Whether a byte from low to high stands at i.
 fn is_in_range(s: &[u8], i: usize, low: u8, high: u8) -> bool
     ensures { result ≡ begins ((low to high) ∷ []) (drop i s.now) }
 {
-    if i < s.len() {
-        let byte = s[i];
-        if low <= byte {
-            return byte <= high;
-        }
+    match s.get(i) {
+        Some(&byte) => low <= byte && byte <= high,
+        None => false,
     }
-    false
 }
 
-// Whether n tail bytes stand at i.
-fn tails(s: &[u8], i: usize, n: usize) -> bool
-    ensures { result ≡ begins (replicate n utf8_tail) (drop i s.now) }
+// Whether n tail bytes stand at the front.
+fn tails(s: &[u8], n: usize) -> bool
+    ensures { result ≡ begins (replicate n utf8_tail) s.now }
 {
-    let mut at = i;
-    let mut left = n;
-    while left > 0 {
-        if is_in_range(s, at, 0x80, 0xbf) {
-            at += 1;
-            left -= 1;
-        } else {
-            return false;
-        }
-    }
-    true
+    n <= s.len() && s[..n].iter().all(|byte| matches!(*byte, 0x80..=0xbf))
 }
 
 // The length of the character at i, 0 where none stands there.
@@ -93,8 +60,9 @@ fn char_length(s: &[u8], i: usize) -> usize
         if length < 2 {
             return length;
         }
-        if is_in_range(s, i + 1, second_low(lead), second_high(lead)) {
-            if tails(s, i + 2, length - 2) {
+        let (low, high) = second(lead);
+        if is_in_range(s, i + 1, low, high) {
+            if tails(&s[i + 2..], length - 2) {
                 return length;
             }
         }

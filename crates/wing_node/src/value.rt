@@ -1,6 +1,6 @@
 // Node values and their getters (libwing's WingNodeData).
-ghost use Rattle.std.specs.Prelude.{◌≡◌, ◌+◌, ◌≤◌, length, take, nat_abs, Some};
-ghost use Rattle.wing_node.specs.Bytes.{placed, zeroed};
+ghost use Rattle.std.specs.Prelude.{◌≡◌, ◌+◌, ◌≤◌, length, take, Some};
+ghost use Rattle.wing_node.specs.Bytes.{placed};
 ghost use Rattle.wing_node.specs.Field.{put_at};
 ghost use Rattle.wing_node.specs.Decimal.{digits, last_digits};
 ghost use Rattle.wing_node.specs.Decimal.{decimal as decimal_of};
@@ -49,20 +49,10 @@ pub fn get_string(v: Value, bytes: [u8; 256]) -> Option<StringRead>
 fn first(n: u16, bytes: [u8; 256]) -> StringRead
     ensures { Some result ≡ answer_of (some (take n bytes)) }
 {
+    let len = n.min(256);
     let mut kept = bytes;
-    zero_from(n as usize, &mut kept);
-    let len = if n < 256 { n } else { 256 };
+    kept[len as usize..].fill(0);
     StringRead { len, bytes: kept }
-}
-
-fn zero_from(from: usize, out: &mut [u8])
-    ensures { out.new ≡ zeroed out.old from }
-{
-    let mut i = from;
-    while i < out.len() {
-        out[i] = 0;
-        i += 1;
-    }
 }
 
 // The decimal of x, at most eleven bytes: a minus sign and ten digits.
@@ -81,7 +71,7 @@ fn decimal(x: i32) -> StringRead
 pub fn put_decimal(out: &mut [u8], at: usize, x: i32) -> usize
     ensures { (result ≡ length (decimal_of x)) × (out.new ≡ (put_at (decimal_of x) at out.old).bytes) }
 {
-    let n = magnitude(x);
+    let n = x.unsigned_abs();
     let k = places(n);
     let room = left(out, at);
     if x < 0 {
@@ -98,24 +88,14 @@ pub fn put_decimal(out: &mut [u8], at: usize, x: i32) -> usize
     k
 }
 
-// x without its sign; that of the least i32 is no i32, so by its bits.
-fn magnitude(x: i32) -> u32
-    ensures { result ≡ nat_abs x }
-{
-    if x < 0 { (!x) as u32 + 1 } else { x as u32 }
-}
-
 // How many digits n has.
 fn places(n: u32) -> usize
     ensures { result ≡ length (digits n) }
 {
-    let mut k = 1;
-    let mut rest = n;
-    while rest >= 10 {
-        rest /= 10;
-        k += 1;
+    match n.checked_ilog10() {
+        Some(k) => k as usize + 1,
+        None => 1,
     }
-    k
 }
 
 // Puts the last k digits of n into out, the first of them at `from`.
@@ -123,10 +103,8 @@ fn put_digits(n: u32, from: usize, k: usize, out: &mut [u8])
     requires { from + k ≤ length out.old }
     ensures { out.new ≡ placed out.old from (last_digits k n) }
 {
-    let mut i = k;
     let mut rest = n;
-    while i > 0 {
-        i -= 1;
+    for i in (0..k).rev() {
         out[from + i] = 0x30 + (rest % 10) as u8;
         rest /= 10;
     }

@@ -117,8 +117,7 @@ fn items_fault(
         at: 0,
         fault: before,
     };
-    let mut left = count;
-    while 0 < left {
+    for _ in 0..count {
         if items.len() < passed.at {
             return Err(Refusal::FieldsUnfit);
         }
@@ -129,7 +128,6 @@ fn items_fault(
             at: item.at,
             fault: fault.and(next),
         };
-        left -= 1;
     }
     if passed.at != items.len() {
         return Err(Refusal::FieldsUnfit);
@@ -202,24 +200,13 @@ fn added_len(kind: NodeType) -> usize
     }
 }
 
-fn copy(out: &mut [u8], src: &[u8])
-    requires { length src.now ≤ length out.old }
-    ensures { out.new ≡ sets out.old 0 src.now }
-{
-    let mut i = 0;
-    while i < src.len() {
-        out[i] = src[i];
-        i += 1;
-    }
-}
-
 // Bytes at a place, and the place after them.
 fn lay(out: &mut [u8], at: usize, src: &[u8]) -> usize
     requires { at + length src.now ≤ length out.old }
     ensures { (result ≡ at + length src.now) × (out.new ≡ sets out.old at src.now) }
 {
     let end = at + src.len();
-    copy(&mut out[at..end], src);
+    out[at..end].copy_from_slice(src);
     end
 }
 

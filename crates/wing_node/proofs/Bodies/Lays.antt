@@ -3,8 +3,8 @@ use mathlib.Core.Path.{◌≡◌, refl, ◌∙◌, ap, sym}
 use mathlib.Core.List.{List, [], ◌∷◌, ◌++◌, append_assoc, append-nil}
 use Prim.Native.Nat.{ℕ, ◌+◌, ◌≤◌}
 use native.Mathlib.Omega.{arith}
-use lib.ListN.{length, take, drop, length-append, length-drop, drop_of_length-le}
-use lib.Seq.{sets, sets-eq, length-take-le, drop-drop}
+use lib.ListN.{length, take, drop, length-append}
+use lib.Seq.{sets, sets-eq, drop-drop}
 use borrow.Rule.Slice.PartMut.{put_mid}
 use Rattle.wing_node.specs.Bytes.{placed}
 use Rattle.wing_node.specs.Field.{bytes_of}
@@ -22,17 +22,9 @@ use Rattle.wing_node.proofs.Numerals.Placed.{sets-append}
 pub lays-then : (d e f : List ℕ) (at n : ℕ) (a b : List ℕ) → e ≡ sets d at a → n ≡ at + length a → f ≡ sets e n b → f ≡ sets d at (a ++ b)
 lays-then d e f at n a b p q r = r ∙ rw (p, q) (sets-append a b d at)
 
--- bytes over as many
-over-all : (d s : List ℕ) → length d ≡ length s → sets d 0 s ≡ s
-over-all d s h =
-    let e : 0 + length s ≡ length s = omega arith in
-    sets-eq s d 0 (omega arith) ∙ rw (e, drop_of_length-le d {i = length s} (omega arith)) (append-nil s)
-
--- a part of the output, with bytes laid over it, in its place
-pub part-sets : (d s : List ℕ) (at n : ℕ) → n ≡ length s → at + n ≤ length d → put_mid at n d (sets (take n (drop at d)) 0 s) ≡ sets d at s
-part-sets d s at n e h =
-    let long : length (take n (drop at d)) ≡ length s = length-take-le n (drop at d) (omega (arith, length-drop at d)) ∙ e in
-    rw (over-all (take n (drop at d)) s long, drop-drop, e) (sym (sets-eq s d at (omega arith) ∙ append_assoc (take at d) s (drop (at + length s) d)))
+-- bytes in the place of a part of the output that is as long
+pub part-sets : (d s : List ℕ) (at n : ℕ) → n ≡ length s → at + n ≤ length d → put_mid at n d s ≡ sets d at s
+part-sets d s at n e h = rw (drop-drop, e) (sym (sets-eq s d at (omega arith) ∙ append_assoc (take at d) s (drop (at + length s) d)))
 
 -- from the front on, the bytes are placed
 pub sets-placed : (d s : List ℕ) → length s ≤ length d → sets d 0 s ≡ placed d 0 s

@@ -1,6 +1,7 @@
 -- What the front of a list of bytes matches.
 use Prim.Native.Nat.{ℕ, zero, suc, ◌+◌, ◌-◌, ◌≤◌, ◌<◌, zero-le, suc-le-suc}
-use mathlib.Core.Bool.{Bool, true, false, true≢false}
+use mathlib.Core.Bool.{Bool, true, false, true≢false, ◌&&◌}
+use Rattle.std.specs.List.{list_all}
 use mathlib.Core.Path.{◌≡◌, refl, ap, sym}
 use mathlib.Core.List.{List, [], ◌∷◌, ◌++◌}
 use native.Mathlib.Omega.{arith}
@@ -73,6 +74,18 @@ begins-again r s i zero h = absurd (omega arith)
 begins-again r s i (suc n) h =
     let p : suc n - 1 ≡ n = omega arith in
     rw (p, ← drop-drop 1 i s) (begins-cons r (replicate n r) (drop i s))
+
+and-if : (p q x : Bool) → if (if p q false) x false ≡ ((p && q) && x)
+and-if true true x = refl
+and-if true false x = refl
+and-if false q x = refl
+
+-- n bytes of a range
+pub begins-all : (r : Range) (n : ℕ) (s : List ℕ) → n ≤ length s → begins (replicate n r) s ≡ list_all (λ b. leb r.low b && leb b r.high) (take n s)
+unfolding begins holds
+begins-all r zero s h = refl
+begins-all r (suc n) [] h = absurd (omega arith)
+begins-all r (suc n) (b ∷ s) h = rw (begins-all r n s (omega arith)) (and-if (leb r.low b) (leb b r.high) (list_all (λ c. leb r.low c && leb c r.high) (take n s)))
 
 pub begins-matches : (row : List Range) (s : List ℕ) → begins row s ≡ true → Matches row (take (length row) s)
 unfolding begins

@@ -4,7 +4,7 @@ use mathlib.Core.Bool.{Bool, true, false}
 use mathlib.Core.List.{List, [], ◌∷◌, ◌++◌, map}
 use Prim.Native.Nat.{ℕ, zero, suc, ◌+◌, ◌-◌, ◌*◌, ◌/◌, ◌%◌, ◌^◌, ◌≤◌, ◌<◌}
 use native.Mathlib.Omega.{arith}
-use native.Mathlib.Nat.{pow-suc}
+use native.Mathlib.Nat.{pow-zero, pow-suc, one-le-pow}
 use borrow.Author.Tests.{ltb-true, ltb-false, lt-ltb, le-ltb, ne_eqb}
 use lib.Dec.{ltb}
 use lib.IntN.{ℤ, pos, negsuc}
@@ -89,6 +89,15 @@ length_digits (suc w) n h =
     let g : 10 ≤ n = ltb-false n 10 e in
     let k : n / 10 < 10 ^ suc w = omega (arith, rw (pow-suc 10 (suc w)) at h) in
     omega (arith, length_more n g, length_digits w (n / 10) k))
+
+-- the digits of a number from 10 ^ k on and below 10 ^ suc k are suc k
+pub length-between : (k n : ℕ) → 10 ^ k ≤ n → n < 10 * 10 ^ k → length (digits n) ≡ suc k
+length-between zero n g h = length-small n (omega (arith, pow-zero 10))
+length-between (suc k) n g h =
+    let p = pow-suc 10 k in
+    let some = one-le-pow k 10 (omega arith) in
+    let e = length-between k (n / 10) (omega (arith, p)) (omega (arith, p)) in
+    omega (arith, length_more n (omega (arith, p)), e)
 
 pub length-last_digits : (k n : ℕ) → length (last_digits k n) ≡ k
 unfolding last_digits

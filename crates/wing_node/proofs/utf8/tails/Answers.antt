@@ -1,22 +1,26 @@
--- The invariant: n tail bytes stand at i exactly if those left stand at the place reached; a turn passes one of them (`begins-again`).
-use mathlib.Core.Path.{◌≡◌, sym, ◌∙◌}
+-- `all` tests as many bytes as are wanted (`begins-all`); fewer begin no row of that length (`begins-short`).
+use mathlib.Core.Path.{sym, ◌∙◌}
+use mathlib.Core.Bool.{◌&&◌}
 use native.Mathlib.Omega.{arith}
-use Rattle.wing_node.proofs.Characters.Fronts.{begins-inside, begins-again}
-use Rattle.wing_node.specs.Utf8.{utf8_tail, begins}
+use borrow.Author.Tests.{lt-leb}
+use lib.Dec.{leb}
+use lib.ListN.{replicate, take, length-replicate}
+use Rattle.std.proofs.Common.{rules, tests}
+use Rattle.std.proofs.lemmas.Iterator.{YieldsList-from_slice}
+use Rattle.std.proofs.lemmas.Iterator.Search.{all_from_yields_List}
+use Rattle.wing_node.specs.Utf8.{Range, utf8_tail}
+use Rattle.wing_node.proofs.Characters.Fronts.{begins-all, begins-short}
 use Rattle.wing_node.proofs.utf8.tails.Goals as goal
 
-pub overflow_add-at : goal.overflow_add-at
-overflow_add-at c =
-    omega (arith, begins-inside utf8_tail c.args.s.now c.loop-left.at (sym c.is_in_range.ensures ∙ c.if-is_in_range.true))
+pub returns-then-n-s : goal.returns-then-n-s
+returns-then-n-s c =
+    let s = c.args.s.now in
+    let n = c.args.n in
+    all_from_yields_List (λ b. leb 0x80 b && leb b 0xbf) _ _ c.all.result c.all.ensures.ran (YieldsList-from_slice (take n s) cc) (λ x b q k. search (rules, tests)) ∙
+    sym (begins-all utf8_tail n s c.if-n-s.true)
 
-pub loop-left-preserved : goal.loop-left-preserved
-loop-left-preserved c =
-    c.loop-left.invariant ∙ begins-again utf8_tail c.args.s.now c.loop-left.at c.loop-left.left c.loop-left-test.true ∙ simp (← c.is_in_range.ensures, c.if-is_in_range.true)
-
-pub returns-else-is_in_range : goal.returns-else-is_in_range
-returns-else-is_in_range c =
-    sym (c.loop-left.invariant ∙ begins-again utf8_tail c.args.s.now c.loop-left.at c.loop-left.left c.loop-left-test.true ∙ simp (← c.is_in_range.ensures, c.if-is_in_range.false))
-
-pub returns : goal.returns
-unfolding begins
-returns c = let z : c.loop-left.left ≡ 0 = omega arith in sym (c.loop-left.invariant ∙ rw z)
+pub returns-else-n-s : goal.returns-else-n-s
+returns-else-n-s c =
+    let s = c.args.s.now in
+    let n = c.args.n in
+    lt-leb _ _ c.if-n-s.false ∙ sym (begins-short (replicate n utf8_tail) s (omega (arith, length-replicate {A = Range} n utf8_tail)))

@@ -1,20 +1,18 @@
--- The contract of `zero_from` leaves the first n bytes and zeros after them (`zeroed_first`), and the length is that of those bytes (`answered`).
-use mathlib.Core.Path.{◌≡◌, ◌∙◌}
+-- `fill` leaves the first n bytes and zeros after them (`zeros-past`), and the length is that of those bytes (`answered`).
+use mathlib.Core.Path.{◌≡◌}
+use Prim.Native.Nat.{◌-◌}
 use native.Mathlib.Omega.{arith}
 use borrow.Author.Rules.{rules}
-use lib.ListN.{length, take, length-take}
-use Rattle.wing_node.proofs.Arrays.{zeroed_first}
+use borrow.Rule.Slice.PartMut.{put_mid}
+use lib.ListN.{length, take}
+use Rattle.std.proofs.lemmas.List.{length-take}
+use Rattle.wing_node.proofs.Arrays.{zeros-past}
 use Rattle.wing_node.proofs.Numerals.Answers.{answered}
 use Rattle.wing_node.proofs.value.first.Goals as goal
 
-pub returns-then-n-lt256 : goal.returns-then-n-lt256
-returns-then-n-lt256 c =
+pub returns : goal.returns
+returns c =
     let a = c.args in
+    let k = c.min-len.result in
     let l : length a.bytes ≡ 256 = search rules in
-    answered (take a.n a.bytes) c.zero_from.new.out a.n (omega (arith, length-take a.n a.bytes, l, c.if-n-lt256.true)) (c.zero_from.ensures ∙ zeroed_first 256 a.n a.bytes l)
-
-pub returns-else-n-lt256 : goal.returns-else-n-lt256
-returns-else-n-lt256 c =
-    let a = c.args in
-    let l : length a.bytes ≡ 256 = search rules in
-    answered (take a.n a.bytes) c.zero_from.new.out 256 (omega (arith, length-take a.n a.bytes, l, c.if-n-lt256.false)) (c.zero_from.ensures ∙ zeroed_first 256 a.n a.bytes l)
+    answered (take a.n a.bytes) (put_mid k (256 - k) a.bytes c.fill.new.self) k (omega (arith, length-take a.n a.bytes)) (zeros-past 256 a.n k a.bytes c.fill.new.self l c.min-len.ensures (c.fill.ensures.after (λ y e. e)))

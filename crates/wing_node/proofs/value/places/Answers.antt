@@ -1,13 +1,10 @@
--- The invariant: the digits counted and those of the rest are one more than those of n; a turn takes one digit from the rest (`length_more`).
+-- The logarithm in base 10 is one below the number of digits (`length-between`), and 0 has one digit.
 use native.Mathlib.Omega.{arith}
-use Rattle.wing_node.proofs.Numerals.Spelled.{length_more, length-small, length_digits}
+use Rattle.wing_node.proofs.Numerals.Spelled.{length-between, length-small}
 use Rattle.wing_node.proofs.value.places.Goals as goal
 
-pub overflow_add-k : goal.overflow_add-k
-overflow_add-k c = omega (arith, length_digits 9 c.args.n (omega arith), c.loop-rest.invariant)
+pub returns-in-Some : goal.returns-in-Some
+returns-in-Some c = let e = c.in-Some.ensures in omega (arith, length-between c.in-Some.k c.args.n e.power_le e.next_power_gt)
 
-pub loop-rest-preserved : goal.loop-rest-preserved
-loop-rest-preserved c = omega (arith, length_more c.loop-rest.rest c.loop-rest-test.true, c.loop-rest.invariant)
-
-pub returns : goal.returns
-returns c = omega (arith, length-small c.loop-rest.rest c.loop-rest-test.false, c.loop-rest.invariant)
+pub returns-in-None : goal.returns-in-None
+returns-in-None c = let e = c.in-None.ensures in omega (arith, length-small c.args.n (omega (arith, e.none)))

@@ -1,4 +1,4 @@
--- `copy` lays the bytes over the part of the output that it is lent, which is that place of the whole (`part-sets`).
+-- The part of the output at that place becomes the bytes (`part-sets`).
 use mathlib.Core.Path.{◌≡◌, refl, ◌∙◌, ap}
 use Prim.Native.Nat.{◌+◌, ◌-◌}
 use native.Mathlib.Omega.{arith}
@@ -11,4 +11,4 @@ pub returns : goal.returns
 returns c =
     let args = c.args in
     let n : args.at + length args.src.now - args.at ≡ length args.src.now = omega arith in
-    (refl, ap (put_mid args.at (args.at + length args.src.now - args.at) args.out.now) c.copy.ensures ∙ part-sets args.out.now args.src.now args.at _ n (omega arith))
+    (refl, ap (put_mid args.at (args.at + length args.src.now - args.at) args.out.now) c.copy_from_slice.ensures.after ∙ part-sets args.out.now args.src.now args.at _ n (omega arith))
