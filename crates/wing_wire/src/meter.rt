@@ -97,11 +97,8 @@ fn lay_meters(out: &mut [u8], at: usize, meters: [Meter; 64], count: usize) -> u
     ensures upper_bound { result ≤ at + 3 * count }
 {
     let mut next = at;
-    let mut i = 0;
-    while i < count {
-        let m = meters[i];
+    for &m in &meters[..count] {
         next = lay_meter(out, next, m);
-        i += 1;
     }
     next
 }
@@ -184,10 +181,8 @@ fn keep_alives_len(last_id: u16, port: u16) -> usize
 {
     let mut scratch = [0u8; 1];
     let mut total = 0;
-    let mut id = last_id;
-    while id > 0 {
+    for id in (1..=last_id).rev() {
         total += lay_keep_alive(&mut scratch, port, id);
-        id -= 1;
     }
     total
 }
@@ -198,11 +193,8 @@ fn lay_keep_alives(out: &mut [u8], last_id: u16, port: u16) -> usize
     ensures { Laid (keep_alives port last_id) 0 out.old out.new result }
 {
     let mut at = 0;
-    let mut id = last_id;
-    while id > 0 {
-        let n = lay_keep_alive(&mut out[at..], port, id);
-        at += n;
-        id -= 1;
+    for id in (1..=last_id).rev() {
+        at += lay_keep_alive(&mut out[at..], port, id);
     }
     at
 }
@@ -242,11 +234,8 @@ fn fill_readings(packet: &[u8], out: &mut [i16], count: usize)
     requires { (4 + 2 * count ≤ length packet.now) × (count ≤ length out.old) }
     ensures { out.new ≡ take count (readings (drop 4 packet.now)) ++ drop count out.old }
 {
-    let mut i = 0;
-    while i < count {
-        let v = reading_at(packet, 4 + 2 * i);
-        out[i] = v;
-        i += 1;
+    for i in 0..count {
+        out[i] = reading_at(packet, 4 + 2 * i);
     }
 }
 

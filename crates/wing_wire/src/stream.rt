@@ -51,15 +51,7 @@ fn after_unit(e: Escape, t: Taken) -> Answered
 pub fn is_more(a: Answer) -> bool
     ensures { result ≡ is_more a }
 {
-    match a {
-        Answer::More => true,
-        Answer::Integer(_) => false,
-        Answer::Float(_) => false,
-        Answer::String(_) => false,
-        Answer::Body(_) => false,
-        Answer::End => false,
-        Answer::Refused(_) => false,
-    }
+    matches!(a, Answer::More)
 }
 
 // The token after a run of plain bytes, and the place of the byte after them.
@@ -88,21 +80,13 @@ fn is_pending(p: Pending) -> bool
 fn is_nothing(u: Unit) -> bool
     ensures { result ≡ is_nothing u }
 {
-    match u {
-        Unit::Nothing => true,
-        Unit::Bare(_) => false,
-        Unit::Appended(_) => false,
-    }
+    matches!(u, Unit::Nothing)
 }
 
 fn is_appended(u: Unit) -> bool
     ensures { result ≡ is_appended u }
 {
-    match u {
-        Unit::Nothing => false,
-        Unit::Bare(_) => false,
-        Unit::Appended(_) => true,
-    }
+    matches!(u, Unit::Appended(_))
 }
 
 fn value_of(u: Unit) -> u8
@@ -110,8 +94,7 @@ fn value_of(u: Unit) -> u8
 {
     match u {
         Unit::Nothing => 0,
-        Unit::Bare(b) => b,
-        Unit::Appended(b) => b,
+        Unit::Bare(b) | Unit::Appended(b) => b,
     }
 }
 
@@ -132,13 +115,11 @@ fn take(c: Control, store: &mut [u8], after: Escape, unit: Unit) -> Answered
 }
 
 // Whether a plain byte is a unit of its token but not the last.
+#[tactic(auto, unfolding(crate::specs::Plain::is_inner))]
 fn is_inner(left: u16, b: u8) -> bool
     ensures { result ≡ is_inner left b }
 {
-    if left <= 1 {
-        return false;
-    }
-    b != 0xdf
+    1 < left && b != 0xdf
 }
 
 // The units of a number up to its last, from plain bytes: these change nothing else, so they go fast.
@@ -148,14 +129,10 @@ fn number_ahead(class: Class, left: u16, value: u32, bytes: &[u8], at: usize) ->
     let mut l = left;
     let mut v = value;
     let mut i = at;
-    while i < bytes.len() {
-        if is_inner(l, bytes[i]) {
-            v = shift_in(v, bytes[i]);
-            l -= 1;
-            i += 1;
-        } else {
-            break;
-        }
+    while i < bytes.len() && is_inner(l, bytes[i]) {
+        v = shift_in(v, bytes[i]);
+        l -= 1;
+        i += 1;
     }
     TokenAt {
         token: Token::Number {
@@ -173,14 +150,10 @@ fn string_ahead(want: u16, left: u16, store: &mut [u8], bytes: &[u8], at: usize)
 {
     let mut l = left;
     let mut i = at;
-    while i < bytes.len() {
-        if is_inner(l, bytes[i]) {
-            put(store, collected(want, l), bytes[i]);
-            l -= 1;
-            i += 1;
-        } else {
-            break;
-        }
+    while i < bytes.len() && is_inner(l, bytes[i]) {
+        put(store, collected(want, l), bytes[i]);
+        l -= 1;
+        i += 1;
     }
     TokenAt {
         token: Token::String {
@@ -191,21 +164,14 @@ fn string_ahead(want: u16, left: u16, store: &mut [u8], bytes: &[u8], at: usize)
     }
 }
 
+#[tactic(auto, unfolding(crate::specs::Plain::token_ahead))]
 fn token_ahead(token: Token, store: &mut [u8], bytes: &[u8], at: usize) -> TokenAt
     ensures { ahead_effect result store.new ≡ token_ahead token store.old at (drop at bytes.now) }
 {
     match token {
-        Token::Between => TokenAt {
-            token: token,
-            at: at,
-        },
         Token::Number { class, left, value } => number_ahead(class, left, value, bytes, at),
         Token::String { want, left } => string_ahead(want, left, store, bytes, at),
-        Token::Body {
-            want: _,
-            left: _,
-            stored: _,
-        } => TokenAt {
+        _ => TokenAt {
             token: token,
             at: at,
         },
@@ -216,24 +182,14 @@ fn token_ahead(token: Token, store: &mut [u8], bytes: &[u8], at: usize) -> Token
 fn is_plain(e: Escape) -> bool
     ensures { result ≡ is_plain e }
 {
-    if e.escaped {
-        return false;
-    }
-    let pending = e.pending;
-    !is_pending(pending)
+    !e.escaped && !is_pending(e.pending)
 }
 
 // No answer yet, and the next byte is plain or df.
 fn is_free(t: Answered) -> bool
     ensures { result ≡ is_free t }
 {
-    let a = t.answer;
-    if is_more(a) {
-        let c = t.control;
-        let e = c.escape;
-        return is_plain(e);
-    }
-    false
+    is_more(t.answer) && is_plain(t.control.escape)
 }
 
 fn ahead(c: Control, store: &mut [u8], bytes: &[u8], at: usize) -> Stepped
@@ -277,17 +233,7 @@ fn step(c: Control, store: &mut [u8], bytes: &[u8], at: usize) -> Stepped
 fn is_on(t: Answered, at: usize, end: usize) -> bool
     ensures { result ≡ is_on t at end }
 {
-    let a = t.answer;
-    if is_more(a) {
-        if at < end {
-            return true;
-        }
-        let c = t.control;
-        let e = c.escape;
-        let pending = e.pending;
-        return is_pending(pending);
-    }
-    false
+    is_more(t.answer) && (at < end || is_pending(t.control.escape.pending))
 }
 
 // The next answer. The store then holds the bytes of a string or body: release gives them up.
@@ -315,16 +261,12 @@ pub fn advance(c: Control, store: &mut [u8], bytes: &[u8]) -> Advanced
 }
 
 // Gives up the bytes of an answer's string or body, so that the store is clear for the next token.
+#[tactic(auto, unfolding(crate::specs::Stream::released))]
 pub fn release(store: &mut [u8], a: Answer)
     ensures { store.new ≡ released a store.old }
 {
     match a {
-        Answer::More => {}
-        Answer::Integer(_) => {}
-        Answer::Float(_) => {}
-        Answer::String(n) => clear(store, n as usize),
-        Answer::Body(n) => clear(store, n as usize),
-        Answer::End => {}
-        Answer::Refused(_) => {}
+        Answer::String(n) | Answer::Body(n) => clear(store, n as usize),
+        _ => {}
     }
 }

@@ -46,40 +46,23 @@ fn refuse(why: Refusal, node: i32) -> Taken
 }
 
 // What a first unit that is its whole token gives.
+#[tactic(auto, unfolding(crate::specs::Unit::single_of))]
 fn single(class: Class, t: u8) -> Answer
     ensures { result ≡ single_of class t }
 {
     match class {
-        Class::NoEvent => Answer::More,
         Class::Integer => Answer::Integer(t as i32),
         Class::String => Answer::String(0),
-        Class::Length => Answer::More,
-        Class::Int16 => Answer::More,
-        Class::Int32 => Answer::More,
-        Class::Float => Answer::More,
-        Class::Node => Answer::More,
         Class::End => Answer::End,
-        Class::Count => Answer::More,
-        Class::LongCount => Answer::More,
+        _ => Answer::More,
     }
 }
 
+#[tactic(auto, unfolding(crate::specs::Unit::is_string))]
 fn is_string(class: Class) -> bool
     ensures { result ≡ is_string class }
 {
-    match class {
-        Class::NoEvent => false,
-        Class::Integer => false,
-        Class::String => true,
-        Class::Length => false,
-        Class::Int16 => false,
-        Class::Int32 => false,
-        Class::Float => false,
-        Class::Node => false,
-        Class::End => false,
-        Class::Count => false,
-        Class::LongCount => false,
-    }
+    matches!(class, Class::String)
 }
 
 // A token that wants units.
@@ -218,12 +201,8 @@ pub(crate) fn put(store: &mut [u8], at: usize, u: u8)
 pub(crate) fn clear(store: &mut [u8], n: usize)
     ensures { store.new ≡ cleared n store.old }
 {
-    let end = if n < store.len() { n } else { store.len() };
-    let mut i = 0;
-    while i < end {
-        store[i] = 0;
-        i += 1;
-    }
+    let end = n.min(store.len());
+    store[..end].fill(0);
 }
 
 fn string_done(node: i32, want: u16, store: &mut [u8]) -> Taken
@@ -257,15 +236,11 @@ fn string_unit(node: i32, want: u16, left: u16, store: &mut [u8], u: u8) -> Take
 }
 
 // Whether a body's unit goes into the store.
+#[tactic(auto, unfolding(crate::specs::Unit::keeps))]
 fn is_kept(want: u32, stored: u16, appended: bool) -> bool
     ensures { result ≡ keeps want stored appended }
 {
-    if appended {
-        if want as usize <= State::BODY_LIMIT {
-            return (stored as usize) < State::BODY_LIMIT;
-        }
-    }
-    false
+    appended && want as usize <= State::BODY_LIMIT && (stored as usize) < State::BODY_LIMIT
 }
 
 fn body_done(node: i32, want: u32, stored: u16) -> Taken

@@ -14,15 +14,14 @@ pub loop-i-preserved : goal.loop-i-preserved
 loop-i-preserved c =
     let a = c.args in
     let p = a.packet.now in
-    let v : to_z w16 (of_z w16 c.reading_at-v.result) ≡ c.reading_at-v.result = search rules in
-    let r = c.reading_at-v.ensures ∙ reading-at p c.loop-i.i (omega arith) in
+    let v : to_z w16 (of_z w16 c.reading_at.result) ≡ c.reading_at.result = search rules in
+    let r = c.reading_at.ensures ∙ reading-at p c.loop-i.i (omega arith) in
     let l = readings-length (drop 4 p) in (
       search rules,
-      search rules,
-      rw (v, r, c.loop-i.invariant.2) (one-reading (readings (drop 4 p)) a.out.now c.loop-i.i (omega (arith, length-drop 4 p)) (omega arith)),
+      rw (v, r, c.loop-i.invariant.1) (one-reading (readings (drop 4 p)) a.out.now c.loop-i.i (omega (arith, length-drop 4 p)) (omega arith)),
     )
 
 pub returns : goal.returns
 returns c =
     let e : c.loop-i.i ≡ c.args.count = omega arith in
-    rw e at c.loop-i.invariant.2
+    rw e at c.loop-i.invariant.1
