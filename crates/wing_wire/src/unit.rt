@@ -3,7 +3,7 @@ ghost use Rattle.std.specs.Prelude.{◌≡◌, ◌-◌, set};
 ghost use Rattle.wing_wire.specs.Unit.{taken, single_of, is_string, token_of, begin_of, counted, count_of, long_count_of, number_of, shift_in, number_unit, unit_effect, cleared, string_done, string_unit, keeps, body_done, body_next, body_unit, unit_of};
 
 use crate::state::{State, Token, collected};
-use crate::token::{Class, first_rule};
+use crate::token::{Class, rule_of};
 use wing_node::field::{to_i16, to_i32};
 use wing_node::refusal::{Fault, Refusal, string_fault};
 
@@ -85,7 +85,7 @@ fn token_of(class: Class, wants: u16) -> Token
 fn begin(node: i32, t: u8) -> Taken
     ensures { result ≡ begin_of node t }
 {
-    let rule = first_rule(t);
+    let rule = rule_of(t);
     let class = rule.class;
     let wants = rule.wants;
     if wants == 0 {
