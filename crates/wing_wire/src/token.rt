@@ -1,6 +1,6 @@
 // The token table: the class of a first unit and how many units its token wants.
 ghost use Rattle.std.specs.Prelude.{◌≡◌};
-ghost use Rattle.wing_wire.specs.Token.{rule, rule_of, width_of};
+ghost use Rattle.wing_wire.specs.Token.{rule, rule_of, class_number, IsNumbered, width_of};
 
 // What a token is. LongCount is in no table row: it is the 32-bit count after a count of 0.
 #[derive(Debug, Clone, Copy, PartialEq, Eq)]
@@ -16,6 +16,38 @@ pub enum Class {
     End,
     Count,
     LongCount,
+}
+
+impl From<Class> for u8 {
+    ghost from_gives = { λ class n. n ≡ class_number class };
+
+    fn from(class: Class) -> u8 {
+        class as u8
+    }
+}
+
+// The class of a number, or the number again where no class has it.
+impl TryFrom<u8> for Class {
+    type Error = u8;
+
+    ghost try_from_gives = { IsNumbered };
+
+    fn try_from(n: u8) -> Result<Self, u8> {
+        match n {
+            0 => Ok(Class::NoEvent),
+            1 => Ok(Class::Integer),
+            2 => Ok(Class::String),
+            3 => Ok(Class::Length),
+            4 => Ok(Class::Int16),
+            5 => Ok(Class::Int32),
+            6 => Ok(Class::Float),
+            7 => Ok(Class::Node),
+            8 => Ok(Class::End),
+            9 => Ok(Class::Count),
+            10 => Ok(Class::LongCount),
+            _ => Err(n),
+        }
+    }
 }
 
 #[derive(Debug, Clone, Copy, PartialEq, Eq)]
