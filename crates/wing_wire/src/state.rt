@@ -8,14 +8,14 @@ use crate::token;
 use crate::token::Class;
 
 // A byte that waits to be the next unit.
-#[derive(Clone, Copy)]
+#[derive(Debug, Clone, Copy, PartialEq, Eq)]
 pub enum Pending {
     None,
     Byte(u8),
 }
 
 // What the escapes keep between bytes.
-#[derive(Clone, Copy)]
+#[derive(Debug, Clone, Copy, PartialEq, Eq)]
 pub struct Escape {
     pub escaped: bool,
     pub channel: i8,
@@ -24,7 +24,7 @@ pub struct Escape {
 
 // The token in progress, by the units that it still wants. A string's bytes, and those that a body's units
 // appended, stand at the front of the store. How many are stored of a body comes first: so a token has 12 bytes and not 16.
-#[derive(Clone, Copy)]
+#[derive(Debug, Clone, Copy, PartialEq, Eq)]
 pub enum Token {
     Between,
     Number { class: Class, left: u16, value: u32 },
@@ -33,7 +33,7 @@ pub enum Token {
 }
 
 // The state without its store.
-#[derive(Clone, Copy)]
+#[derive(Debug, Clone, Copy, PartialEq, Eq)]
 pub struct Control {
     pub escape: Escape,
     pub node: i32,
