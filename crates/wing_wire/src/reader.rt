@@ -73,23 +73,20 @@ fn refuse(s: State, why: u8) -> Reply
 fn read_on(s: State, bytes: &[u8]) -> Reply
     ensures { result ≡ next_from (advance_of s.control s.store bytes.now) }
 {
-    let c = s.control;
     let mut store = s.store;
-    let r = advance(c, &mut store, bytes);
-    let a = r.answer;
-    let d = r.control;
-    let string = string_beside(a, &store);
-    let body = body_beside(a, &store);
-    release(&mut store, a);
+    let r = advance(s.control, &mut store, bytes);
+    let string = string_beside(r.answer, &store);
+    let body = body_beside(r.answer, &store);
+    release(&mut store, r.answer);
     Reply {
-        answer: a,
+        answer: r.answer,
         taken: r.taken,
         state: State {
-            control: d,
-            store: store,
+            control: r.control,
+            store,
         },
-        string: string,
-        body: body,
+        string,
+        body,
     }
 }
 

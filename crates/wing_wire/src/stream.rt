@@ -24,26 +24,17 @@ pub struct Advanced {
     pub taken: usize,
 }
 
-fn control_of(e: Escape, node: i32, token: Token) -> Control
-    ensures { result ≡ control e node token }
-{
-    Control {
-        escape: e,
-        node: node,
-        token: token,
-    }
-}
-
 // What a unit gave, with the escapes as they now are.
 fn after_unit(e: Escape, t: Taken) -> Answered
     ensures { result ≡ answered t.answer (control e t.node t.token) }
 {
-    let answer = t.answer;
-    let token = t.token;
-    let c = control_of(e, t.node, token);
     Answered {
-        answer: answer,
-        control: c,
+        answer: t.answer,
+        control: Control {
+            escape: e,
+            node: t.node,
+            token: t.token,
+        },
     }
 }
 
@@ -102,15 +93,13 @@ fn value_of(u: Unit) -> u8
 fn take(c: Control, store: &mut [u8], after: Escape, unit: Unit) -> Answered
     ensures { step_effect result store.new ≡ given_of unit after c store.old }
 {
-    let token = c.token;
     if is_nothing(unit) {
-        let same = control_of(after, c.node, token);
         return Answered {
             answer: Answer::More,
-            control: same,
+            control: Control { escape: after, ..c },
         };
     }
-    let t = take_unit(c.node, token, store, value_of(unit), is_appended(unit));
+    let t = take_unit(c.node, c.token, store, value_of(unit), is_appended(unit));
     after_unit(after, t)
 }
 
@@ -195,17 +184,15 @@ fn is_free(t: Answered) -> bool
 fn ahead(c: Control, store: &mut [u8], bytes: &[u8], at: usize) -> Stepped
     ensures { stepped result store.new ≡ ahead_of c store.old at (drop at bytes.now) }
 {
-    let e = c.escape;
-    let token = c.token;
-    let g = token_ahead(token, store, bytes, at);
-    let after = g.token;
-    let d = control_of(e, c.node, after);
-    let t = Answered {
-        answer: Answer::More,
-        control: d,
-    };
+    let g = token_ahead(c.token, store, bytes, at);
     Stepped {
-        answered: t,
+        answered: Answered {
+            answer: Answer::More,
+            control: Control {
+                token: g.token,
+                ..c
+            },
+        },
         at: g.at,
     }
 }
@@ -214,14 +201,10 @@ fn ahead(c: Control, store: &mut [u8], bytes: &[u8], at: usize) -> Stepped
 fn step(c: Control, store: &mut [u8], bytes: &[u8], at: usize) -> Stepped
     ensures { stepped result store.new ≡ once_of c store.old bytes.now at }
 {
-    let e = c.escape;
-    let g = decode_next(e, bytes, at);
-    let after = g.escape;
-    let unit = g.unit;
-    let t = take(c, store, after, unit);
+    let g = decode_next(c.escape, bytes, at);
+    let t = take(c, store, g.escape, g.unit);
     if is_free(t) {
-        let d = t.control;
-        return ahead(d, store, bytes, g.at);
+        return ahead(t.control, store, bytes, g.at);
     }
     Stepped {
         answered: t,
@@ -246,16 +229,13 @@ pub fn advance(c: Control, store: &mut [u8], bytes: &[u8]) -> Advanced
     };
     let mut i = 0;
     while is_on(t, i, bytes.len()) {
-        let d = t.control;
-        let g = step(d, store, bytes, i);
+        let g = step(t.control, store, bytes, i);
         t = g.answered;
         i = g.at;
     }
-    let a = t.answer;
-    let d = t.control;
     Advanced {
-        answer: a,
-        control: d,
+        answer: t.answer,
+        control: t.control,
         taken: i,
     }
 }

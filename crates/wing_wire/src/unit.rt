@@ -140,13 +140,11 @@ fn long_count(node: i32, c: u32) -> Taken
 }
 
 // What a number gives when its last unit is there.
+#[tactic(auto, unfolding(crate::specs::Unit::number_of))]
 fn number(node: i32, class: Class, v: u32) -> Taken
     ensures { result ≡ number_of node class v }
 {
     match class {
-        Class::NoEvent => taken_of(Answer::More, node, Token::Between),
-        Class::Integer => taken_of(Answer::More, node, Token::Between),
-        Class::String => taken_of(Answer::More, node, Token::Between),
         Class::Length => {
             let n = (v % 0x100) as u16 + 1;
             taken_of(Answer::More, node, Token::String { want: n, left: n })
@@ -158,9 +156,9 @@ fn number(node: i32, class: Class, v: u32) -> Taken
         Class::Int32 => taken_of(Answer::Integer(to_i32(v)), node, Token::Between),
         Class::Float => taken_of(Answer::Float(v), node, Token::Between),
         Class::Node => taken_of(Answer::More, to_i32(v), Token::Between),
-        Class::End => taken_of(Answer::More, node, Token::Between),
         Class::Count => count(node, (v % 0x10000) as u16),
         Class::LongCount => long_count(node, v),
+        _ => taken_of(Answer::More, node, Token::Between),
     }
 }
 
