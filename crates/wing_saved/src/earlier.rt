@@ -14,31 +14,18 @@ use wing_wire::state::{Control, State, Token};
 pub const EARLIER_VERSION: u8 = 1;
 
 // Whether a body's counts have 16 bits.
+#[tactic(auto, unfolding(crate::specs::Earlier::is_narrow))]
 fn is_narrow(token: Token) -> bool
     ensures { result ≡ is_narrow token }
 {
     match token {
-        Token::Between => true,
-        Token::Number {
-            class: _,
-            left: _,
-            value: _,
-        } => true,
-        Token::String { want: _, left: _ } => true,
-        Token::Body {
-            want,
-            left,
-            stored: _,
-        } => {
-            if want < 0x10000 {
-                return left < 0x10000;
-            }
-            false
-        }
+        Token::Body { want, left, .. } => want < 0x10000 && left < 0x10000,
+        _ => true,
     }
 }
 
 // The token as it was, a body's counts in 16 bits.
+#[tactic(auto, unfolding(crate::specs::Earlier::narrowed))]
 fn narrow(token: Token) -> earlier::Token
     ensures { result ≡ narrowed token }
 {

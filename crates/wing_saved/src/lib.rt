@@ -3,12 +3,10 @@
 
 ghost use Rattle.std.specs.Prelude.{◌≡◌, ◌+◌, ◌%◌, ◌≤◌, length};
 ghost use Rattle.std.proofs.lemmas.List.Edits.{sets};
-ghost use Rattle.wing_node.specs.Signed.{signed, unsigned};
-ghost use Rattle.wing_wire.specs.Token.{class_number};
 ghost use Rattle.wing_wire.specs.State.{body_limit, state_of};
 ghost use Rattle.wing_wire.specs.Write.{write_effect, write_of};
-ghost use Rattle.wing_saved.specs.Saved.{saved_size, flag as flag_of, pending_flag, pending_byte_of, fields_of, head_under, head_bytes, state_bytes};
-ghost use Rattle.wing_saved.specs.Saved.{pending_in, class_in, token_in, fields_in, control_in, begins, sound_only, head_from_under, head_from, state_from, save_of};
+ghost use Rattle.wing_saved.specs.Saved.{saved_size, pending_flag, pending_byte_of, fields_of, head_under, head_bytes, state_bytes};
+ghost use Rattle.wing_saved.specs.Saved.{pending_in, token_in, fields_in, control_in, sound_only, head_from_under, head_from, state_from, save_of};
 
 use wing_node::field::{i32_at, put_i32, put_u32, u16_at, u32_at};
 use wing_node::refusal::Refusal;
@@ -27,7 +25,7 @@ pub const HEAD: usize = 27;
 pub const SIZE: usize = HEAD + State::BODY_LIMIT;
 
 // A token by numbers: 0 for what it has not.
-#[derive(Clone, Copy)]
+#[derive(Clone, Copy, Default)]
 struct TokenFields {
     kind: u8,
     class: u8,
@@ -35,30 +33,6 @@ struct TokenFields {
     left: u32,
     stored: u16,
     value: u32,
-}
-
-// The 8 bits of x.
-fn of_i8(x: i8) -> u8
-    ensures { result ≡ unsigned 7 x }
-{
-    if x < 0 { 0xff - (!x) as u8 } else { x as u8 }
-}
-
-// The number whose 8 bits are u, by two's complement.
-fn to_i8(u: u8) -> i8
-    ensures { result ≡ signed 7 u }
-{
-    if u < 0x80 {
-        u as i8
-    } else {
-        !((0xff - u) as i8)
-    }
-}
-
-fn flag(b: bool) -> u8
-    ensures { result ≡ flag_of b }
-{
-    if b { 1 } else { 0 }
 }
 
 fn pending_flag(p: Option<u8>) -> u8
@@ -79,59 +53,31 @@ fn pending_byte(p: Option<u8>) -> u8
     }
 }
 
-fn class_number(class: Class) -> u8
-    ensures { result ≡ class_number class }
-{
-    match class {
-        Class::NoEvent => 0,
-        Class::Integer => 1,
-        Class::String => 2,
-        Class::Length => 3,
-        Class::Int16 => 4,
-        Class::Int32 => 5,
-        Class::Float => 6,
-        Class::Node => 7,
-        Class::End => 8,
-        Class::Count => 9,
-        Class::LongCount => 10,
-    }
-}
-
+#[tactic(auto, unfolding(crate::specs::Saved::fields_of))]
 fn fields_of(token: Token) -> TokenFields
     ensures { result ≡ fields_of token }
 {
     match token {
-        Token::Between => TokenFields {
-            kind: 0,
-            class: 0,
-            want: 0,
-            left: 0,
-            stored: 0,
-            value: 0,
-        },
+        Token::Between => TokenFields::default(),
         Token::Number { class, left, value } => TokenFields {
             kind: 1,
-            class: class_number(class),
-            want: 0,
-            left: left as u32,
-            stored: 0,
+            class: u8::from(class),
+            left: u32::from(left),
             value: value,
+            ..TokenFields::default()
         },
         Token::String { want, left } => TokenFields {
             kind: 2,
-            class: 0,
-            want: want as u32,
-            left: left as u32,
-            stored: 0,
-            value: 0,
+            want: u32::from(want),
+            left: u32::from(left),
+            ..TokenFields::default()
         },
         Token::Body { want, left, stored } => TokenFields {
             kind: 3,
-            class: 0,
             want: want,
             left: left,
             stored: stored,
-            value: 0,
+            ..TokenFields::default()
         },
     }
 }
@@ -146,8 +92,8 @@ fn head_of(version: u8, c: Control) -> [u8; HEAD]
     let k = fields_of(token);
     let mut head = [0u8; HEAD];
     head[0] = version;
-    head[1] = flag(escape.escaped);
-    head[2] = of_i8(escape.channel);
+    head[1] = u8::from(escape.escaped);
+    head[2] = escape.channel.cast_unsigned();
     head[3] = pending_flag(pending);
     head[4] = pending_byte(pending);
     put_i32(&mut head, 5, c.node);
@@ -165,11 +111,7 @@ fn lay(out: &mut [u8], at: usize, src: &[u8])
     requires { at + length src.now ≤ length out.old }
     ensures { out.new ≡ sets out.old at src.now }
 {
-    let mut i = 0;
-    while i < src.len() {
-        out[at + i] = src[i];
-        i += 1;
-    }
+    out[at..at + src.len()].copy_from_slice(src);
 }
 
 // The bytes of a control's fields to the front of the output: with the store after them, a state's bytes. 9.
@@ -216,25 +158,6 @@ fn pending_in(mark: u8, byte: u8) -> Option<u8>
     None
 }
 
-fn class_in(n: u8) -> Class
-    ensures { result ≡ class_in n }
-{
-    match n {
-        0 => Class::NoEvent,
-        1 => Class::Integer,
-        2 => Class::String,
-        3 => Class::Length,
-        4 => Class::Int16,
-        5 => Class::Int32,
-        6 => Class::Float,
-        7 => Class::Node,
-        8 => Class::End,
-        9 => Class::Count,
-        10 => Class::LongCount,
-        _ => Class::NoEvent,
-    }
-}
-
 // The last 16 bits of n.
 fn low_16(n: u32) -> u16
     ensures { result ≡ n % 0x10000 }
@@ -248,9 +171,8 @@ fn token_in(k: TokenFields) -> Token
     let kind = k.kind;
     match kind {
         1 => {
-            let class = class_in(k.class);
             Token::Number {
-                class: class,
+                class: Class::try_from(k.class).unwrap_or(Class::NoEvent),
                 left: low_16(k.left),
                 value: k.value,
             }
@@ -294,26 +216,12 @@ fn control_in(s: &[u8]) -> Control
     Control {
         escape: Escape {
             escaped: s[1] == 1,
-            channel: to_i8(s[2]),
+            channel: s[2].cast_signed(),
             pending: pending,
         },
         node: i32_at(s, 5),
         token: token,
     }
-}
-
-fn begins_with(s: &[u8], front: &[u8]) -> bool
-    requires { length front.now ≤ length s.now }
-    ensures { result ≡ begins front.now s.now }
-{
-    let mut i = 0;
-    while i < front.len() {
-        if s[i] != front[i] {
-            return false;
-        }
-        i += 1;
-    }
-    true
 }
 
 // The control of a state's bytes under a version, which are its fields and then the store; 8 if they are not as many, or begin with no control's
@@ -324,7 +232,7 @@ fn head_under(version: u8, bytes: &[u8]) -> Result<Control, Refusal>
     if bytes.len() == SIZE {
         let c = control_in(bytes);
         let front = head_of(version, c);
-        if begins_with(bytes, &front) {
+        if bytes.starts_with(&front) {
             return Ok(c);
         }
     }

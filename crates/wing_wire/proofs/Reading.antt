@@ -1,6 +1,5 @@
 -- From bytes to answers.
 pub mod Nine
-pub mod Columns
 pub mod Zeros
 pub mod Powers
 pub mod Underway

@@ -1,5 +1,5 @@
 -- 01's token table: the class of a first unit t, and how many units its token wants after it.
-use Rattle.std.specs.Prelude.{ℕ, ◌+◌, ◌-◌, List, [], ◌∷◌, leb, get_or}
+use Rattle.std.specs.Prelude.{◌≡◌, ℕ, ◌+◌, ◌-◌, ◌<◌, List, [], ◌∷◌, leb, Result, MatchResult}
 use Rattle.wing_node.specs.Bool.{if}
 use Rattle.wing_wire.specs.declared.token.Class.{Class}
 use Rattle.wing_wire.specs.declared.token.Class.TheVariants.{NoEvent, Integer, String, Length, Int16, Int32, Float, Node, End, Count, LongCount}
@@ -49,16 +49,12 @@ rule_in (r ∷ rs) t = if (leb r.low t) (if (leb t r.high) (r.rule_at t) (rule_i
 unfoldable pub rule_of : ℕ → Rule
 rule_of t = rule_in table t
 
--- the classes, in the order of the code's numbers
+-- the classes that the table has, in the order of their numbers
 abbrev pub classes : List Class
 classes = NoEvent ∷ Integer ∷ String ∷ Length ∷ Int16 ∷ Int32 ∷ Float ∷ Node ∷ End ∷ Count ∷ []
 
--- a class by its number in the columns
-unfoldable pub class_of : ℕ → Class
-class_of n = get_or classes n NoEvent
-
--- the number of a class there; no row has LongCount, the 32-bit count of 02 after a count of 0
-unfoldable pub class_number : Class → ℕ
+-- the number of a class; no row has LongCount, the 32-bit count of 02 after a count of 0
+abbrev pub class_number : Class → ℕ
 class_number NoEvent = 0
 class_number Integer = 1
 class_number String = 2
@@ -70,6 +66,10 @@ class_number Node = 7
 class_number End = 8
 class_number Count = 9
 class_number LongCount = 10
+
+-- the class with this number, or the number again where no class has it
+abbrev pub IsNumbered : ℕ → Result Class ℕ → Type 0
+IsNumbered n r = MatchResult r (λ class. class_number class ≡ n) (λ e. (e ≡ n) × (10 < n))
 
 -- the most units that a number of a class is made of; a class that is no number has none
 unfoldable pub width_of : Class → ℕ

@@ -1,7 +1,7 @@
 // A decoder state of the time when a body's counts had 16 bits, and a count of 0 took four units more and was refused (02, Job 4); and how it is
 // carried over.
 ghost use Rattle.std.specs.Prelude.{◌≡◌};
-ghost use Rattle.wing_wire.specs.Earlier.{is_long_count, is_started, carried_token, carried, carry_of};
+ghost use Rattle.wing_wire.specs.Earlier.{is_started, carried_token, carried, carry_of};
 
 use crate::state;
 use crate::state::{Escape, is_sound};
@@ -31,47 +31,12 @@ pub struct State {
     pub store: [u8; state::State::BODY_LIMIT],
 }
 
-fn is_long_count(class: Class) -> bool
-    ensures { result ≡ is_long_count class }
-{
-    match class {
-        Class::NoEvent => false,
-        Class::Integer => false,
-        Class::String => false,
-        Class::Length => false,
-        Class::Int16 => false,
-        Class::Int32 => false,
-        Class::Float => false,
-        Class::Node => false,
-        Class::End => false,
-        Class::Count => false,
-        Class::LongCount => true,
-    }
-}
-
 // Whether any of the four units after a count of 0 is taken.
+#[tactic(auto, unfolding(crate::specs::Earlier::is_started, crate::specs::Earlier::is_long_count))]
 fn is_started(token: Token) -> bool
     ensures { result ≡ is_started token }
 {
-    match token {
-        Token::Between => false,
-        Token::Number {
-            class,
-            left,
-            value: _,
-        } => {
-            if is_long_count(class) {
-                return left < 4;
-            }
-            false
-        }
-        Token::String { want: _, left: _ } => false,
-        Token::Body {
-            want: _,
-            left: _,
-            stored: _,
-        } => false,
-    }
+    matches!(token, Token::Number { class: Class::LongCount, left, .. } if left < 4)
 }
 
 // The same token, a body's counts in 32 bits.
@@ -102,15 +67,12 @@ fn carried_state(s: State) -> state::State
     ensures { result ≡ carried s }
 {
     let c = s.control;
-    let escape = c.escape;
-    let token = c.token;
-    let over = carried_token(token);
     let store = s.store;
     state::State {
         control: state::Control {
-            escape: escape,
+            escape: c.escape,
             node: c.node,
-            token: over,
+            token: carried_token(c.token),
         },
         store: store,
     }

@@ -41,8 +41,10 @@ fn escape_of(escaped: bool, channel: i8, pending: Option<u8>) -> Escape
 fn end_escape(e: Escape) -> Escape
     ensures { result ≡ ended e }
 {
-    let pending = e.pending;
-    escape_of(false, e.channel, pending)
+    Escape {
+        escaped: false,
+        ..e
+    }
 }
 
 // A byte after df that is none of d0 to df.
@@ -72,46 +74,39 @@ fn decoded_of(e: Escape, unit: Unit) -> Decoded
     }
 }
 
+#[tactic(auto, unfolding(crate::specs::Escape::escaped_of))]
 fn decode_escaped(e: Escape, b: u8) -> Decoded
     ensures { result ≡ escaped_of e b }
 {
     // 01: df df is still escaped; anything else ends escaped.
     let ended = end_escape(e);
-    if b == 0xdf {
-        return decoded_of(e, Unit::Bare(0xdf));
+    match b {
+        0xdf => decoded_of(e, Unit::Bare(0xdf)),
+        0xde => decoded_of(ended, Unit::Appended(0xdf)),
+        0xd0..=0xdd => {
+            let after = Escape {
+                channel: (b - 0xd0) as i8,
+                ..ended
+            };
+            decoded_of(after, Unit::Nothing)
+        }
+        _ => other(e, b),
     }
-    if b == 0xde {
-        return decoded_of(ended, Unit::Appended(0xdf));
-    }
-    if b < 0xd0 {
-        return other(e, b);
-    }
-    if b < 0xde {
-        let pending = e.pending;
-        let after = escape_of(false, (b - 0xd0) as i8, pending);
-        return decoded_of(after, Unit::Nothing);
-    }
-    other(e, b)
 }
 
+#[tactic(auto, unfolding(crate::specs::Escape::plain_of))]
 fn decode_plain(e: Escape, b: u8) -> Decoded
     ensures { result ≡ plain_of e b }
 {
     if b == 0xdf {
-        let pending = e.pending;
-        let after = escape_of(true, e.channel, pending);
-        return Decoded {
-            escape: after,
-            unit: Unit::Nothing,
-        };
+        let after = Escape { escaped: true, ..e };
+        return decoded_of(after, Unit::Nothing);
     }
-    Decoded {
-        escape: e,
-        unit: Unit::Appended(b),
-    }
+    decoded_of(e, Unit::Appended(b))
 }
 
 // One byte, where nothing is pending.
+#[tactic(auto, unfolding(crate::specs::Escape::decode_of))]
 fn decode_byte(e: Escape, b: u8) -> Decoded
     ensures { result ≡ decode_of e b }
 {
@@ -132,11 +127,9 @@ pub fn decode_next(e: Escape, bytes: &[u8], at: usize) -> NextUnit
         None => {
             if at < bytes.len() {
                 let d = decode_byte(e, bytes[at]);
-                let after = d.escape;
-                let unit = d.unit;
                 return NextUnit {
-                    escape: after,
-                    unit: unit,
+                    escape: d.escape,
+                    unit: d.unit,
                     at: at + 1,
                 };
             }

@@ -27,13 +27,11 @@ pub(crate) fn lay_escaped(out: &mut [u8], at: usize, bytes: &[u8]) -> usize
     ensures upper_bound { result ≤ at + 2 * length bytes.now }
 {
     let mut next = at;
-    let mut i = 0;
-    while i < bytes.len() {
-        next = lay(out, next, bytes[i]);
-        if bytes[i] == 0xdf {
+    for &b in bytes {
+        next = lay(out, next, b);
+        if b == 0xdf {
             next = lay(out, next, 0xde);
         }
-        i += 1;
     }
     next
 }

@@ -1,12 +1,10 @@
 // Meters: requests, keep-alive and packets.
-ghost use Rattle.std.specs.Prelude.{◌≡◌, ◌++◌, ◌∷◌, [], ◌+◌, ◌*◌, ◌≤◌, length, take, drop, get_or};
-ghost use Rattle.wing_node.specs.Field.{big, field_at};
-ghost use Rattle.wing_node.specs.Signed.{signed};
+ghost use Rattle.std.specs.Prelude.{◌≡◌, ◌++◌, ◌∷◌, ◌+◌, ◌*◌, ◌≤◌, length, take, drop};
 ghost use Rattle.wing_wire.specs.Write.{Laid, write_effect, write_of};
 ghost use Rattle.wing_wire.specs.Meter.{item_of, item_bytes, meters_bytes, request_head, meter_request, request_effect, request_meter, keep_alive, keep_alives, readings, packet_effect, packet_of};
 
 use crate::laying::{hand_over, lay, lay_8, lay_16};
-use wing_node::field::{to_i16, u16_at};
+use wing_node::field::u16_at;
 use wing_node::refusal::Refusal;
 
 #[derive(Clone, Copy)]
@@ -96,11 +94,8 @@ fn lay_meters(out: &mut [u8], at: usize, meters: [Meter; 64], count: usize) -> u
     ensures upper_bound { result ≤ at + 3 * count }
 {
     let mut next = at;
-    let mut i = 0;
-    while i < count {
-        let m = meters[i];
+    for &m in &meters[..count] {
         next = lay_meter(out, next, m);
-        i += 1;
     }
     next
 }
@@ -180,10 +175,8 @@ fn keep_alives_len(last_id: u16, port: u16) -> usize
 {
     let mut scratch = [0u8; 1];
     let mut total = 0;
-    let mut id = last_id;
-    while id > 0 {
+    for id in (1..=last_id).rev() {
         total += lay_keep_alive(&mut scratch, port, id);
-        id -= 1;
     }
     total
 }
@@ -194,11 +187,8 @@ fn lay_keep_alives(out: &mut [u8], last_id: u16, port: u16) -> usize
     ensures { Laid (keep_alives port last_id) 0 out.old out.new result }
 {
     let mut at = 0;
-    let mut id = last_id;
-    while id > 0 {
-        let n = lay_keep_alive(&mut out[at..], port, id);
-        at += n;
-        id -= 1;
+    for id in (1..=last_id).rev() {
+        at += lay_keep_alive(&mut out[at..], port, id);
     }
     at
 }
@@ -215,34 +205,14 @@ pub fn keep_alive_meters(out: &mut [u8], last_id: u16, port: u16) -> Result<usiz
     Ok(lay_keep_alives(out, last_id, port))
 }
 
-// The two bytes of a reading the wrong way round, as the processor has them: in a function of its own this compiles to
-// one load, and eight readings are then taken at a time, which they are not when joined the right way round.
-fn pair_at(s: &[u8], at: usize) -> u16
-    requires { at + 2 ≤ length s.now }
-    ensures { result ≡ big (get_or s.now (at + 1) 0 ∷ get_or s.now at 0 ∷ []) }
-{
-    s[at] as u16 + s[at + 1] as u16 * 256
-}
-
-// The reading at a place, with no test for the end of the packet.
-fn reading_at(packet: &[u8], at: usize) -> i16
-    requires { at + 2 ≤ length packet.now }
-    ensures { result ≡ signed 15 (field_at 2 packet.now at) }
-{
-    let pair = pair_at(packet, at);
-    to_i16(pair % 256 * 256 + pair / 256)
-}
-
 // The first count readings of a packet, after its four bytes of head.
 fn fill_readings(packet: &[u8], out: &mut [i16], count: usize)
     requires { (4 + 2 * count ≤ length packet.now) × (count ≤ length out.old) }
     ensures { out.new ≡ take count (readings (drop 4 packet.now)) ++ drop count out.old }
 {
-    let mut i = 0;
-    while i < count {
-        let v = reading_at(packet, 4 + 2 * i);
-        out[i] = v;
-        i += 1;
+    for i in 0..count {
+        let at = 4 + 2 * i;
+        out[i] = i16::from_be_bytes([packet[at], packet[at + 1]]);
     }
 }
 

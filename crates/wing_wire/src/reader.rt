@@ -7,7 +7,6 @@ ghost use Rattle.wing_wire.specs.Reader.{over, filled, string_beside, body_besid
 use crate::state::{State, is_sound};
 use crate::stream::{advance, release};
 use crate::unit::Answer;
-use wing_node::field::least;
 use wing_node::refusal::Refusal;
 
 // The answer, the bytes taken, the state after it, and the string or body, zero-filled.
@@ -22,58 +21,39 @@ pub struct Reply {
 }
 
 // The first n bytes of s to the front of out, as far as both reach.
-pub(crate) fn copy_front(out: &mut [u8], s: &[u8], n: usize)
+pub fn copy_front(out: &mut [u8], s: &[u8], n: usize)
     ensures { out.new ≡ over (take n s.now) out.old }
 {
-    let most = least(least(n, s.len()), out.len());
-    let mut i = 0;
-    while i < most {
-        out[i] = s[i];
-        i += 1;
-    }
+    let most = n.min(s.len()).min(out.len());
+    out[..most].copy_from_slice(&s[..most]);
 }
 
-fn string_front(store: &[u8], n: u16) -> [u8; 256]
-    ensures { result ≡ filled 256 (take n store.now) }
+// The first n bytes of the store, zero-filled.
+fn front<const N: usize>(store: &[u8], n: u16) -> [u8; N]
+    ensures { result ≡ filled N (take n store.now) }
 {
-    let mut out = [0u8; 256];
+    let mut out = [0u8; N];
     copy_front(&mut out, store, n as usize);
     out
 }
 
-fn body_front(store: &[u8], n: u16) -> [u8; State::BODY_LIMIT]
-    ensures { result ≡ filled body_limit (take n store.now) }
-{
-    let mut out = [0u8; State::BODY_LIMIT];
-    copy_front(&mut out, store, n as usize);
-    out
-}
-
+#[tactic(auto, unfolding(crate::specs::Reader::string_beside))]
 fn string_beside(a: Answer, store: &[u8]) -> [u8; 256]
     ensures { result ≡ string_beside a store.now }
 {
     match a {
-        Answer::More => [0u8; 256],
-        Answer::Integer(_) => [0u8; 256],
-        Answer::Float(_) => [0u8; 256],
-        Answer::String(n) => string_front(store, n),
-        Answer::Body(_) => [0u8; 256],
-        Answer::End => [0u8; 256],
-        Answer::Refused(_) => [0u8; 256],
+        Answer::String(n) => front(store, n),
+        _ => [0u8; 256],
     }
 }
 
+#[tactic(auto, unfolding(crate::specs::Reader::body_beside))]
 fn body_beside(a: Answer, store: &[u8]) -> [u8; State::BODY_LIMIT]
     ensures { result ≡ body_beside a store.now }
 {
     match a {
-        Answer::More => [0u8; State::BODY_LIMIT],
-        Answer::Integer(_) => [0u8; State::BODY_LIMIT],
-        Answer::Float(_) => [0u8; State::BODY_LIMIT],
-        Answer::String(_) => [0u8; State::BODY_LIMIT],
-        Answer::Body(n) => body_front(store, n),
-        Answer::End => [0u8; State::BODY_LIMIT],
-        Answer::Refused(_) => [0u8; State::BODY_LIMIT],
+        Answer::Body(n) => front(store, n),
+        _ => [0u8; State::BODY_LIMIT],
     }
 }
 
@@ -93,23 +73,20 @@ fn refuse(s: State, why: Refusal) -> Reply
 fn read_on(s: State, bytes: &[u8]) -> Reply
     ensures { result ≡ next_from (advance_of s.control s.store bytes.now) }
 {
-    let c = s.control;
     let mut store = s.store;
-    let r = advance(c, &mut store, bytes);
-    let a = r.answer;
-    let d = r.control;
-    let string = string_beside(a, &store);
-    let body = body_beside(a, &store);
-    release(&mut store, a);
+    let r = advance(s.control, &mut store, bytes);
+    let string = string_beside(r.answer, &store);
+    let body = body_beside(r.answer, &store);
+    release(&mut store, r.answer);
     Reply {
-        answer: a,
+        answer: r.answer,
         taken: r.taken,
         state: State {
-            control: d,
-            store: store,
+            control: r.control,
+            store,
         },
-        string: string,
-        body: body,
+        string,
+        body,
     }
 }
 

@@ -37,10 +37,7 @@ pub fn format_id(out: &mut [u8], id: i32, prefix: u8, suffix: Option<u8>) -> Res
 fn is_from(low: i32, high: i32, x: i32) -> bool
     ensures { result ≡ from◌to◌ low high x }
 {
-    if low <= x {
-        return x <= high;
-    }
-    false
+    low <= x && x <= high
 }
 
 // 01: integers 0 to 63 are one byte; −32768 to 32767 are d3 and two bytes; others d4 and four.

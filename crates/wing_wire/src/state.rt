@@ -8,7 +8,7 @@ use crate::token;
 use crate::token::Class;
 
 // What the escapes keep between bytes; a pending byte waits to be the next unit.
-#[derive(Clone, Copy)]
+#[derive(Debug, Clone, Copy, PartialEq, Eq)]
 pub struct Escape {
     pub escaped: bool,
     pub channel: i8,
@@ -17,7 +17,7 @@ pub struct Escape {
 
 // The token in progress, by the units that it still wants. A string's bytes, and those that a body's units
 // appended, stand at the front of the store. How many are stored of a body comes first: so a token has 12 bytes and not 16.
-#[derive(Clone, Copy)]
+#[derive(Debug, Clone, Copy, PartialEq, Eq)]
 pub enum Token {
     Between,
     Number { class: Class, left: u16, value: u32 },
@@ -26,7 +26,7 @@ pub enum Token {
 }
 
 // The state without its store.
-#[derive(Clone, Copy)]
+#[derive(Debug, Clone, Copy, PartialEq, Eq)]
 pub struct Control {
     pub escape: Escape,
     pub node: i32,
@@ -89,39 +89,26 @@ fn sound_pending(e: Escape) -> bool
 }
 
 // Channel −1 to 13.
+#[tactic(auto, unfolding(crate::specs::State::sound_escape))]
 fn sound_escape(e: Escape) -> bool
     ensures { result ≡ sound_escape e }
 {
-    if -1 <= e.channel {
-        if e.channel <= 13 {
-            return sound_pending(e);
-        }
-        return false;
-    }
-    false
+    -1 <= e.channel && e.channel <= 13 && sound_pending(e)
 }
 
 // Fewer units collected than wanted.
+#[tactic(auto, unfolding(crate::specs::State::underway))]
 fn is_underway(left: u32, want: u32) -> bool
     ensures { result ≡ underway left want }
 {
-    if 1 <= left {
-        return left <= want;
-    }
-    false
+    1 <= left && left <= want
 }
 
 // A number of 32 bits is below 256 to any four units or more.
 fn is_within(value: u32, units: u16) -> bool
     ensures { result ≡ ltb value (256 ^ units) }
 {
-    match units {
-        0 => value < 1,
-        1 => value < 0x100,
-        2 => value < 0x10000,
-        3 => value < 0x1000000,
-        _ => true,
-    }
+    4 <= units || value < 256u32.pow(u32::from(units))
 }
 
 // A number has fewer units than its class, and no more bits than they gave.
@@ -129,35 +116,30 @@ fn sound_number(class: Class, left: u16, value: u32) -> bool
     ensures { result ≡ sound_number class left value }
 {
     let width = token::width_of(class);
-    if is_underway(left as u32, width as u32) {
-        return is_within(value, width - left);
-    }
-    false
+    is_underway(left as u32, width as u32) && is_within(value, width - left)
 }
 
 // A string wants at most 256 units.
+#[tactic(auto, unfolding(crate::specs::State::sound_string))]
 fn sound_string(want: u16, left: u16) -> bool
     ensures { result ≡ sound_string want left }
 {
-    if is_underway(left as u32, want as u32) {
-        return want <= 256;
-    }
-    false
+    is_underway(left as u32, want as u32) && want <= 256
 }
 
 // No more bytes stored than units collected, and none where the count is over the limit.
 fn sound_body(want: u32, left: u32, stored: u16) -> bool
     ensures { result ≡ sound_body want left stored }
 {
-    if is_underway(left, want) {
-        if want as usize <= State::BODY_LIMIT {
-            return stored as u32 <= want - left;
+    is_underway(left, want)
+        && if want as usize <= State::BODY_LIMIT {
+            stored as u32 <= want - left
+        } else {
+            stored == 0
         }
-        return stored == 0;
-    }
-    false
 }
 
+#[tactic(auto, unfolding(crate::specs::State::sound_counts))]
 fn sound_counts(token: Token) -> bool
     ensures { result ≡ sound_counts token }
 {
@@ -173,30 +155,18 @@ fn sound_counts(token: Token) -> bool
 pub(crate) fn collected(want: u16, left: u16) -> usize
     ensures { result ≡ want - left }
 {
-    if left < want {
-        (want - left) as usize
-    } else {
-        0
-    }
+    want.saturating_sub(left) as usize
 }
 
 // A string keeps every unit, so what it stores is what it collected.
+#[tactic(auto, unfolding(crate::specs::State::stored_by))]
 fn stored_by(token: Token) -> usize
     ensures { result ≡ stored_by token }
 {
     match token {
-        Token::Between => 0,
-        Token::Number {
-            class: _,
-            left: _,
-            value: _,
-        } => 0,
         Token::String { want, left } => collected(want, left),
-        Token::Body {
-            want: _,
-            left: _,
-            stored,
-        } => stored as usize,
+        Token::Body { stored, .. } => stored as usize,
+        _ => 0,
     }
 }
 
@@ -205,40 +175,31 @@ fn stored_by(token: Token) -> usize
 pub fn zeros_from(store: &[u8], at: usize) -> bool
     ensures { result ≡ zeros (drop at store.now) }
 {
-    let mut bits: u8 = 0;
-    let mut i = at;
-    while i < store.len() {
-        bits |= store[i];
-        i += 1;
+    let mut bits = 0;
+    for &b in &store[at.min(store.len())..] {
+        bits |= b;
     }
     bits == 0
 }
 
+#[tactic(auto, unfolding(crate::specs::State::sound_token))]
 fn sound_token(token: Token, store: &[u8]) -> bool
     ensures { result ≡ sound_token token store.now }
 {
-    if sound_counts(token) {
-        return zeros_from(store, stored_by(token));
-    }
-    false
+    sound_counts(token) && zeros_from(store, stored_by(token))
 }
 
 // The states that a caller may hand back, by control and lent store; any other is refused (refusal 8).
+#[tactic(auto, unfolding(crate::specs::State::sound_state))]
 pub fn is_sound_lent(control: Control, store: &[u8]) -> bool
     ensures { result ≡ sound_state (state_of control store.now) }
 {
-    let escape = control.escape;
-    if sound_escape(escape) {
-        let token = control.token;
-        return sound_token(token, store);
-    }
-    false
+    sound_escape(control.escape) && sound_token(control.token, store)
 }
 
 // The same of a state by value.
 pub fn is_sound(s: State) -> bool
     ensures { result ≡ sound_state s }
 {
-    let control = s.control;
-    is_sound_lent(control, &s.store)
+    is_sound_lent(s.control, &s.store)
 }

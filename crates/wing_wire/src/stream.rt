@@ -24,26 +24,17 @@ pub struct Advanced {
     pub taken: usize,
 }
 
-fn control_of(e: Escape, node: i32, token: Token) -> Control
-    ensures { result ≡ control e node token }
-{
-    Control {
-        escape: e,
-        node: node,
-        token: token,
-    }
-}
-
 // What a unit gave, with the escapes as they now are.
 fn after_unit(e: Escape, t: Taken) -> Answered
     ensures { result ≡ answered t.answer (control e t.node t.token) }
 {
-    let answer = t.answer;
-    let token = t.token;
-    let c = control_of(e, t.node, token);
     Answered {
-        answer: answer,
-        control: c,
+        answer: t.answer,
+        control: Control {
+            escape: e,
+            node: t.node,
+            token: t.token,
+        },
     }
 }
 
@@ -51,15 +42,7 @@ fn after_unit(e: Escape, t: Taken) -> Answered
 pub fn is_more(a: Answer) -> bool
     ensures { result ≡ is_more a }
 {
-    match a {
-        Answer::More => true,
-        Answer::Integer(_) => false,
-        Answer::Float(_) => false,
-        Answer::String(_) => false,
-        Answer::Body(_) => false,
-        Answer::End => false,
-        Answer::Refused(_) => false,
-    }
+    matches!(a, Answer::More)
 }
 
 // The token after a run of plain bytes, and the place of the byte after them.
@@ -88,21 +71,13 @@ fn is_pending(p: Option<u8>) -> bool
 fn is_nothing(u: Unit) -> bool
     ensures { result ≡ is_nothing u }
 {
-    match u {
-        Unit::Nothing => true,
-        Unit::Bare(_) => false,
-        Unit::Appended(_) => false,
-    }
+    matches!(u, Unit::Nothing)
 }
 
 fn is_appended(u: Unit) -> bool
     ensures { result ≡ is_appended u }
 {
-    match u {
-        Unit::Nothing => false,
-        Unit::Bare(_) => false,
-        Unit::Appended(_) => true,
-    }
+    matches!(u, Unit::Appended(_))
 }
 
 fn value_of(u: Unit) -> u8
@@ -110,8 +85,7 @@ fn value_of(u: Unit) -> u8
 {
     match u {
         Unit::Nothing => 0,
-        Unit::Bare(b) => b,
-        Unit::Appended(b) => b,
+        Unit::Bare(b) | Unit::Appended(b) => b,
     }
 }
 
@@ -119,26 +93,22 @@ fn value_of(u: Unit) -> u8
 fn take(c: Control, store: &mut [u8], after: Escape, unit: Unit) -> Answered
     ensures { step_effect result store.new ≡ given_of unit after c store.old }
 {
-    let token = c.token;
     if is_nothing(unit) {
-        let same = control_of(after, c.node, token);
         return Answered {
             answer: Answer::More,
-            control: same,
+            control: Control { escape: after, ..c },
         };
     }
-    let t = take_unit(c.node, token, store, value_of(unit), is_appended(unit));
+    let t = take_unit(c.node, c.token, store, value_of(unit), is_appended(unit));
     after_unit(after, t)
 }
 
 // Whether a plain byte is a unit of its token but not the last.
+#[tactic(auto, unfolding(crate::specs::Plain::is_inner))]
 fn is_inner(left: u16, b: u8) -> bool
     ensures { result ≡ is_inner left b }
 {
-    if left <= 1 {
-        return false;
-    }
-    b != 0xdf
+    1 < left && b != 0xdf
 }
 
 // The units of a number up to its last, from plain bytes: these change nothing else, so they go fast.
@@ -148,14 +118,10 @@ fn number_ahead(class: Class, left: u16, value: u32, bytes: &[u8], at: usize) ->
     let mut l = left;
     let mut v = value;
     let mut i = at;
-    while i < bytes.len() {
-        if is_inner(l, bytes[i]) {
-            v = shift_in(v, bytes[i]);
-            l -= 1;
-            i += 1;
-        } else {
-            break;
-        }
+    while i < bytes.len() && is_inner(l, bytes[i]) {
+        v = shift_in(v, bytes[i]);
+        l -= 1;
+        i += 1;
     }
     TokenAt {
         token: Token::Number {
@@ -173,14 +139,10 @@ fn string_ahead(want: u16, left: u16, store: &mut [u8], bytes: &[u8], at: usize)
 {
     let mut l = left;
     let mut i = at;
-    while i < bytes.len() {
-        if is_inner(l, bytes[i]) {
-            put(store, collected(want, l), bytes[i]);
-            l -= 1;
-            i += 1;
-        } else {
-            break;
-        }
+    while i < bytes.len() && is_inner(l, bytes[i]) {
+        put(store, collected(want, l), bytes[i]);
+        l -= 1;
+        i += 1;
     }
     TokenAt {
         token: Token::String {
@@ -191,21 +153,14 @@ fn string_ahead(want: u16, left: u16, store: &mut [u8], bytes: &[u8], at: usize)
     }
 }
 
+#[tactic(auto, unfolding(crate::specs::Plain::token_ahead))]
 fn token_ahead(token: Token, store: &mut [u8], bytes: &[u8], at: usize) -> TokenAt
     ensures { ahead_effect result store.new ≡ token_ahead token store.old at (drop at bytes.now) }
 {
     match token {
-        Token::Between => TokenAt {
-            token: token,
-            at: at,
-        },
         Token::Number { class, left, value } => number_ahead(class, left, value, bytes, at),
         Token::String { want, left } => string_ahead(want, left, store, bytes, at),
-        Token::Body {
-            want: _,
-            left: _,
-            stored: _,
-        } => TokenAt {
+        _ => TokenAt {
             token: token,
             at: at,
         },
@@ -216,40 +171,28 @@ fn token_ahead(token: Token, store: &mut [u8], bytes: &[u8], at: usize) -> Token
 fn is_plain(e: Escape) -> bool
     ensures { result ≡ is_plain e }
 {
-    if e.escaped {
-        return false;
-    }
-    let pending = e.pending;
-    !is_pending(pending)
+    !e.escaped && !is_pending(e.pending)
 }
 
 // No answer yet, and the next byte is plain or df.
 fn is_free(t: Answered) -> bool
     ensures { result ≡ is_free t }
 {
-    let a = t.answer;
-    if is_more(a) {
-        let c = t.control;
-        let e = c.escape;
-        return is_plain(e);
-    }
-    false
+    is_more(t.answer) && is_plain(t.control.escape)
 }
 
 fn ahead(c: Control, store: &mut [u8], bytes: &[u8], at: usize) -> Stepped
     ensures { stepped result store.new ≡ ahead_of c store.old at (drop at bytes.now) }
 {
-    let e = c.escape;
-    let token = c.token;
-    let g = token_ahead(token, store, bytes, at);
-    let after = g.token;
-    let d = control_of(e, c.node, after);
-    let t = Answered {
-        answer: Answer::More,
-        control: d,
-    };
+    let g = token_ahead(c.token, store, bytes, at);
     Stepped {
-        answered: t,
+        answered: Answered {
+            answer: Answer::More,
+            control: Control {
+                token: g.token,
+                ..c
+            },
+        },
         at: g.at,
     }
 }
@@ -258,14 +201,10 @@ fn ahead(c: Control, store: &mut [u8], bytes: &[u8], at: usize) -> Stepped
 fn step(c: Control, store: &mut [u8], bytes: &[u8], at: usize) -> Stepped
     ensures { stepped result store.new ≡ once_of c store.old bytes.now at }
 {
-    let e = c.escape;
-    let g = decode_next(e, bytes, at);
-    let after = g.escape;
-    let unit = g.unit;
-    let t = take(c, store, after, unit);
+    let g = decode_next(c.escape, bytes, at);
+    let t = take(c, store, g.escape, g.unit);
     if is_free(t) {
-        let d = t.control;
-        return ahead(d, store, bytes, g.at);
+        return ahead(t.control, store, bytes, g.at);
     }
     Stepped {
         answered: t,
@@ -277,17 +216,7 @@ fn step(c: Control, store: &mut [u8], bytes: &[u8], at: usize) -> Stepped
 fn is_on(t: Answered, at: usize, end: usize) -> bool
     ensures { result ≡ is_on t at end }
 {
-    let a = t.answer;
-    if is_more(a) {
-        if at < end {
-            return true;
-        }
-        let c = t.control;
-        let e = c.escape;
-        let pending = e.pending;
-        return is_pending(pending);
-    }
-    false
+    is_more(t.answer) && (at < end || is_pending(t.control.escape.pending))
 }
 
 // The next answer. The store then holds the bytes of a string or body: release gives them up.
@@ -300,31 +229,24 @@ pub fn advance(c: Control, store: &mut [u8], bytes: &[u8]) -> Advanced
     };
     let mut i = 0;
     while is_on(t, i, bytes.len()) {
-        let d = t.control;
-        let g = step(d, store, bytes, i);
+        let g = step(t.control, store, bytes, i);
         t = g.answered;
         i = g.at;
     }
-    let a = t.answer;
-    let d = t.control;
     Advanced {
-        answer: a,
-        control: d,
+        answer: t.answer,
+        control: t.control,
         taken: i,
     }
 }
 
 // Gives up the bytes of an answer's string or body, so that the store is clear for the next token.
+#[tactic(auto, unfolding(crate::specs::Stream::released))]
 pub fn release(store: &mut [u8], a: Answer)
     ensures { store.new ≡ released a store.old }
 {
     match a {
-        Answer::More => {}
-        Answer::Integer(_) => {}
-        Answer::Float(_) => {}
-        Answer::String(n) => clear(store, n as usize),
-        Answer::Body(n) => clear(store, n as usize),
-        Answer::End => {}
-        Answer::Refused(_) => {}
+        Answer::String(n) | Answer::Body(n) => clear(store, n as usize),
+        _ => {}
     }
 }

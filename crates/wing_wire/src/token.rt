@@ -1,11 +1,9 @@
 // The token table: the class of a first unit and how many units its token wants.
 ghost use Rattle.std.specs.Prelude.{◌≡◌};
-ghost use Rattle.wing_wire.specs.Token.{rule, class_of, rule_of, width_of};
-
-mod rows;
+ghost use Rattle.wing_wire.specs.Token.{rule, rule_of, class_number, IsNumbered, width_of};
 
 // What a token is. LongCount is in no table row: it is the 32-bit count after a count of 0.
-#[derive(Clone, Copy)]
+#[derive(Debug, Clone, Copy, PartialEq, Eq)]
 pub enum Class {
     NoEvent,
     Integer,
@@ -20,88 +18,87 @@ pub enum Class {
     LongCount,
 }
 
-#[derive(Clone, Copy)]
+impl From<Class> for u8 {
+    ghost from_gives = { λ class n. n ≡ class_number class };
+
+    fn from(class: Class) -> u8 {
+        class as u8
+    }
+}
+
+// The class of a number, or the number again where no class has it.
+impl TryFrom<u8> for Class {
+    type Error = u8;
+
+    ghost try_from_gives = { IsNumbered };
+
+    fn try_from(n: u8) -> Result<Self, u8> {
+        match n {
+            0 => Ok(Class::NoEvent),
+            1 => Ok(Class::Integer),
+            2 => Ok(Class::String),
+            3 => Ok(Class::Length),
+            4 => Ok(Class::Int16),
+            5 => Ok(Class::Int32),
+            6 => Ok(Class::Float),
+            7 => Ok(Class::Node),
+            8 => Ok(Class::End),
+            9 => Ok(Class::Count),
+            10 => Ok(Class::LongCount),
+            _ => Err(n),
+        }
+    }
+}
+
+#[derive(Debug, Clone, Copy, PartialEq, Eq)]
 pub struct Rule {
     pub class: Class,
     pub wants: u16,
 }
 
-fn class_of(n: u8) -> Class
-    ensures { result ≡ class_of n }
-{
-    match n {
-        0 => Class::NoEvent,
-        1 => Class::Integer,
-        2 => Class::String,
-        3 => Class::Length,
-        4 => Class::Int16,
-        5 => Class::Int32,
-        6 => Class::Float,
-        7 => Class::Node,
-        8 => Class::End,
-        9 => Class::Count,
-        _ => Class::NoEvent,
+impl Rule {
+    fn new(class: Class, wants: u8) -> Self
+        ensures { result ≡ rule class wants }
+    {
+        Self {
+            class: class,
+            wants: u16::from(wants),
+        }
     }
 }
 
-// The row of a first unit. The table is looked up here alone.
+// The row of a first unit in the token table.
+#[tactic(auto, unfolding(crate::specs::Token::rule_of, crate::specs::Token::rule_in))]
 pub fn rule_of(t: u8) -> Rule
     ensures { result ≡ rule_of t }
 {
-    let i = t as usize;
-    let table = rows::TOKENS;
-    let class = class_of(table.class[i]);
-    Rule {
-        class: class,
-        wants: table.wants[i] as u16,
-    }
-}
-
-fn rule_with(class: Class, wants: u16) -> Rule
-    ensures { result ≡ rule class wants }
-{
-    Rule {
-        class: class,
-        wants: wants,
-    }
-}
-
-// The same row. The commonest first units are answered before the table, which each lookup lays out anew.
-pub(crate) fn first_rule(t: u8) -> Rule
-    ensures { result ≡ rule_of t }
-{
-    if t < 0x40 {
-        return rule_with(Class::Integer, 0);
-    }
-    if t < 0x80 {
-        return rule_with(Class::NoEvent, 0);
-    }
-    if t < 0xc0 {
-        return rule_with(Class::String, (t - 0x80) as u16 + 1);
-    }
     match t {
-        0xd3 => rule_with(Class::Int16, 2),
-        0xd5 => rule_with(Class::Float, 4),
-        0xd7 => rule_with(Class::Node, 4),
-        _ => rule_of(t),
+        0x00..=0x3f => Rule::new(Class::Integer, 0),
+        0x80..=0xbf => Rule::new(Class::String, t - 0x80 + 1),
+        0xc0..=0xcf => Rule::new(Class::String, t - 0xc0 + 1),
+        0xd0 => Rule::new(Class::String, 0),
+        0xd1 => Rule::new(Class::Length, 1),
+        0xd2 => Rule::new(Class::NoEvent, 2),
+        0xd3 => Rule::new(Class::Int16, 2),
+        0xd4 => Rule::new(Class::Int32, 4),
+        0xd5..=0xd6 => Rule::new(Class::Float, 4),
+        0xd7 => Rule::new(Class::Node, 4),
+        0xd9 => Rule::new(Class::NoEvent, 1),
+        0xde => Rule::new(Class::End, 0),
+        0xdf => Rule::new(Class::Count, 2),
+        _ => Rule::new(Class::NoEvent, 0),
     }
 }
 
 // The units that a number of a class is made of, at most; a class that is no number has none.
+#[tactic(auto, unfolding(crate::specs::Token::width_of))]
 pub(crate) fn width_of(class: Class) -> u16
     ensures { result ≡ width_of class }
 {
     match class {
-        Class::NoEvent => 2,
-        Class::Integer => 0,
-        Class::String => 0,
         Class::Length => 1,
-        Class::Int16 => 2,
-        Class::Int32 => 4,
-        Class::Float => 4,
-        Class::Node => 4,
-        Class::End => 0,
-        Class::Count => 2,
-        Class::LongCount => 4,
+        Class::NoEvent | Class::Int16 | Class::Count => 2,
+        Class::Int32 | Class::Float | Class::Node | Class::LongCount => 4,
+        Class::Integer | Class::String | Class::End => 0,
     }
 }

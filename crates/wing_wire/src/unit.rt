@@ -3,7 +3,7 @@ ghost use Rattle.std.specs.Prelude.{◌≡◌, ◌-◌, set};
 ghost use Rattle.wing_wire.specs.Unit.{taken, single_of, is_string, token_of, begin_of, counted, count_of, long_count_of, number_of, shift_in, number_unit, unit_effect, cleared, string_done, string_unit, keeps, body_done, body_next, body_unit, unit_of};
 
 use crate::state::{State, Token, collected};
-use crate::token::{Class, first_rule};
+use crate::token::{Class, rule_of};
 use wing_node::field::{to_i16, to_i32};
 use wing_node::refusal::{Refusal, string_fault};
 
@@ -46,40 +46,23 @@ fn refuse(why: Refusal, node: i32) -> Taken
 }
 
 // What a first unit that is its whole token gives.
+#[tactic(auto, unfolding(crate::specs::Unit::single_of))]
 fn single(class: Class, t: u8) -> Answer
     ensures { result ≡ single_of class t }
 {
     match class {
-        Class::NoEvent => Answer::More,
         Class::Integer => Answer::Integer(t as i32),
         Class::String => Answer::String(0),
-        Class::Length => Answer::More,
-        Class::Int16 => Answer::More,
-        Class::Int32 => Answer::More,
-        Class::Float => Answer::More,
-        Class::Node => Answer::More,
         Class::End => Answer::End,
-        Class::Count => Answer::More,
-        Class::LongCount => Answer::More,
+        _ => Answer::More,
     }
 }
 
+#[tactic(auto, unfolding(crate::specs::Unit::is_string))]
 fn is_string(class: Class) -> bool
     ensures { result ≡ is_string class }
 {
-    match class {
-        Class::NoEvent => false,
-        Class::Integer => false,
-        Class::String => true,
-        Class::Length => false,
-        Class::Int16 => false,
-        Class::Int32 => false,
-        Class::Float => false,
-        Class::Node => false,
-        Class::End => false,
-        Class::Count => false,
-        Class::LongCount => false,
-    }
+    matches!(class, Class::String)
 }
 
 // A token that wants units.
@@ -102,7 +85,7 @@ fn token_of(class: Class, wants: u16) -> Token
 fn begin(node: i32, t: u8) -> Taken
     ensures { result ≡ begin_of node t }
 {
-    let rule = first_rule(t);
+    let rule = rule_of(t);
     let class = rule.class;
     let wants = rule.wants;
     if wants == 0 {
@@ -157,13 +140,11 @@ fn long_count(node: i32, c: u32) -> Taken
 }
 
 // What a number gives when its last unit is there.
+#[tactic(auto, unfolding(crate::specs::Unit::number_of))]
 fn number(node: i32, class: Class, v: u32) -> Taken
     ensures { result ≡ number_of node class v }
 {
     match class {
-        Class::NoEvent => taken_of(Answer::More, node, Token::Between),
-        Class::Integer => taken_of(Answer::More, node, Token::Between),
-        Class::String => taken_of(Answer::More, node, Token::Between),
         Class::Length => {
             let n = (v % 0x100) as u16 + 1;
             taken_of(Answer::More, node, Token::String { want: n, left: n })
@@ -175,9 +156,9 @@ fn number(node: i32, class: Class, v: u32) -> Taken
         Class::Int32 => taken_of(Answer::Integer(to_i32(v)), node, Token::Between),
         Class::Float => taken_of(Answer::Float(v), node, Token::Between),
         Class::Node => taken_of(Answer::More, to_i32(v), Token::Between),
-        Class::End => taken_of(Answer::More, node, Token::Between),
         Class::Count => count(node, (v % 0x10000) as u16),
         Class::LongCount => long_count(node, v),
+        _ => taken_of(Answer::More, node, Token::Between),
     }
 }
 
@@ -218,12 +199,8 @@ pub(crate) fn put(store: &mut [u8], at: usize, u: u8)
 pub(crate) fn clear(store: &mut [u8], n: usize)
     ensures { store.new ≡ cleared n store.old }
 {
-    let end = if n < store.len() { n } else { store.len() };
-    let mut i = 0;
-    while i < end {
-        store[i] = 0;
-        i += 1;
-    }
+    let end = n.min(store.len());
+    store[..end].fill(0);
 }
 
 fn string_done(node: i32, want: u16, store: &mut [u8]) -> Taken
@@ -257,15 +234,11 @@ fn string_unit(node: i32, want: u16, left: u16, store: &mut [u8], u: u8) -> Take
 }
 
 // Whether a body's unit goes into the store.
+#[tactic(auto, unfolding(crate::specs::Unit::keeps))]
 fn is_kept(want: u32, stored: u16, appended: bool) -> bool
     ensures { result ≡ keeps want stored appended }
 {
-    if appended {
-        if want as usize <= State::BODY_LIMIT {
-            return (stored as usize) < State::BODY_LIMIT;
-        }
-    }
-    false
+    appended && want as usize <= State::BODY_LIMIT && (stored as usize) < State::BODY_LIMIT
 }
 
 fn body_done(node: i32, want: u32, stored: u16) -> Taken

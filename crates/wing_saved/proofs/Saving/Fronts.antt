@@ -1,14 +1,15 @@
 -- Bytes that begin with others, and bytes laid into a buffer one part after the other.
-use Prim.Native.Nat.{ℕ, suc, ◌+◌, ◌≤◌, ◌<◌}
-use mathlib.Core.Bool.{true, false}
+use Prim.Native.Nat.{ℕ, ◌+◌, ◌-◌, ◌≤◌}
+use mathlib.Core.Bool.{Bool, true, false, ◌&&◌}
 use mathlib.Core.Path.{◌≡◌, refl, ◌∙◌, ap₂, sym}
-use mathlib.Core.List.{List, [], ◌∷◌, ◌++◌, append-nil}
+use mathlib.Core.List.{List, [], ◌∷◌, ◌++◌, append-nil, append_assoc}
 use native.Mathlib.Omega.{arith}
-use native.Mathlib.Numerals.{add-one}
-use borrow.Author.Tests.{eq-eqb, ne_eqb, eqb-true}
+use borrow.Author.Tests.{eq-eqb, ne_eqb, eqb-true, eqb-false}
+use borrow.Rule.Slice.PartMut.{put_mid}
 use lib.Dec.{eqb}
-use lib.ListN.{length, drop, get_or, drop_of_length-le}
-use lib.Seq.{drop-cons, sets, sets-eq}
+use lib.ListN.{length, take, drop, drop_of_length-le}
+use lib.Seq.{sets, sets-eq, drop-drop}
+use Rattle.std.specs.List.{starts_with}
 use Rattle.wing_node.specs.Bool.{and}
 use Rattle.wing_node.proofs.Branches.{and_left, and_right}
 use Rattle.wing_wire.specs.Write.{Laid, write_effect, write_of}
@@ -30,19 +31,29 @@ begins-parts (a ∷ front) [] e = absurd (let z : ◌≡◌ {A = ℕ} 0 1 = cc i
 begins-parts (a ∷ front) (b ∷ s) e =
     ap₂ {C = List ℕ} (λ x l. x ∷ l) (sym (eqb-true b a (and_left (eqb b a) (begins front s) e))) (begins-parts front s (and_right (eqb b a) (begins front s) e))
 
-module _ (front s : List ℕ) (i : ℕ) (h : i < length front) (k : i < length s) where
-  -- one byte of both
-  begins-at : begins (drop i front) (drop i s) ≡ and (eqb (get_or s i 0) (get_or front i 0)) (begins (drop (suc i) front) (drop (suc i) s))
-  unfolding begins
-  begins-at = rw (drop-cons front i 0 h, drop-cons s i 0 k)
+eqb-sym : (a b : ℕ) → eqb a b ≡ eqb b a
+eqb-sym a b = go (eqb b a) refl
+  where
+    go : (p : Bool) → eqb b a ≡ p → eqb a b ≡ p
+    go true e = eq-eqb a b (sym (eqb-true b a e))
+    go false e = ne_eqb a b (λ p. eqb-false b a e (sym p))
 
-  -- a byte that is the same
-  pub begins-turn : get_or s i 0 ≡ get_or front i 0 → begins (drop i front) (drop i s) ≡ begins (drop (i + 1) front) (drop (i + 1) s)
-  begins-turn e = rw (add-one i) (begins-at ∙ simp (eq-eqb (get_or s i 0) (get_or front i 0) e))
+-- the library's test, which has the two the other way round
+pub starts_begins : (front s : List ℕ) → starts_with eqb s front ≡ begins front s
+unfolding begins
+starts_begins [] s = refl
+starts_begins (a ∷ front) [] = refl
+starts_begins (a ∷ front) (b ∷ s) = rw (eqb-sym a b, starts_begins front s) (joined (eqb b a) (begins front s))
+  where
+    joined : (p q : Bool) → (p && q) ≡ and p q
+    joined true q = refl
+    joined false q = refl
 
-  -- and one that is another
-  pub begins-other : (get_or s i 0 ≡ get_or front i 0 → ⊥) → begins (drop i front) (drop i s) ≡ false
-  begins-other n = begins-at ∙ simp (ne_eqb (get_or s i 0) (get_or front i 0) n)
+-- bytes put in the place of as many
+pub put_sets : (d s : List ℕ) (at : ℕ) → at + length s ≤ length d → put_mid at (at + length s - at) d s ≡ sets d at s
+put_sets d s at h =
+    let k : at + length s - at ≡ length s = omega arith in
+    rw (k, drop-drop) (sym (sets-eq s d at h ∙ append_assoc (take at d) s (drop (at + length s) d)))
 
 -- bytes laid over as many leave themselves
 pub laid_same : (s d : List ℕ) → length d ≡ length s → sets d 0 s ≡ s

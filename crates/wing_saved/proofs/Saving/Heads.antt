@@ -1,14 +1,17 @@
 -- The fields before the store: how they are laid, and that they read back.
 use Prim.Native.Nat.{ℕ, ◌+◌, ◌%◌, ◌^◌, ◌≤◌, ◌<◌}
 use mathlib.Core.Bool.{Bool, true, false}
-use mathlib.Core.Path.{◌≡◌, refl, ◌∙◌, ap}
-use mathlib.Core.List.{List, ◌∷◌, ◌++◌}
+use mathlib.Core.Path.{◌≡◌, refl, sym, ◌∙◌, ap}
+use mathlib.Core.List.{List, [], ◌∷◌, ◌++◌}
 use native.Mathlib.Omega.{arith}
 use borrow.Author.Tests.{leb-true}
 use lib.Dec.{eqb}
 use lib.IntN.{ℤ, pos, negsuc}
 use lib.Signed.{le_z}
-use lib.ListN.{length, drop, get_or, set, replicate, length-append}
+use lib.ListN.{length, drop, get_or, set, replicate, length-append, get_or-eq_default}
+use Rattle.std.specs.Prelude.{Result, Ok, Err}
+use Rattle.std.specs.Result.{result_unwrap_or}
+use Rattle.std.specs.Int.{w8, cast_unsigned, from_bool}
 use Rattle.wing_node.specs.Digits.{digits_in}
 use Rattle.wing_node.specs.Bytes.{placed}
 use Rattle.wing_node.specs.Field.{big, bytes_of, field_at, Put, put, put_at}
@@ -16,7 +19,7 @@ use Rattle.wing_node.specs.Signed.{signed, unsigned, InBits}
 use Rattle.wing_node.proofs.Numerals.Numbers.{number_digits}
 use Rattle.wing_node.proofs.Numerals.Placed.{field-whole}
 use Rattle.wing_node.proofs.Numerals.Signs.{signed-unsigned}
-use Rattle.wing_wire.specs.Token.{class_number}
+use Rattle.wing_wire.specs.Token.{classes, class_number, IsNumbered}
 use Rattle.wing_wire.specs.State.{escape}
 use Rattle.wing_saved.specs.Saved.{flag, pending_flag, pending_byte_of, fields_of, head_under, pending_in, class_in, token_in, fields_in, control_in}
 use Rattle.wing_wire.specs.declared.token.Class.{Class}
@@ -56,6 +59,15 @@ pub head-size : (v : ℕ) (c : Control) → length (head_under v c) ≡ 27
 unfolding head_under digits_in
 head-size v c = refl
 
+-- the library's numbers of a Boolean and of eight bits
+pub flag_same : (b : Bool) → from_bool b ≡ flag b
+flag_same true = refl
+flag_same false = refl
+
+pub bits_same : (x : ℤ) → cast_unsigned w8 x ≡ unsigned 7 x
+bits_same (pos n) = refl
+bits_same (negsuc n) = refl
+
 -- what comes after them
 pub after-head : (v : ℕ) (c : Control) (t : List ℕ) → drop 27 (head_under v c ++ t) ≡ t
 unfolding head_under digits_in
@@ -73,7 +85,7 @@ pending-back None = refl
 pending-back (Some b) = refl
 
 class_back : (c : Class) → class_in (class_number c) ≡ c
-unfolding class_in class_number
+unfolding class_in
 class_back NoEvent = refl
 class_back Integer = refl
 class_back String = refl
@@ -85,6 +97,12 @@ class_back Node = refl
 class_back End = refl
 class_back Count = refl
 class_back LongCount = refl
+
+-- what stands for a number that no class has is the class that it says
+pub class_said : (n : ℕ) (r : Result Class ℕ) → IsNumbered n r → result_unwrap_or r NoEvent ≡ class_in n
+unfolding class_in
+class_said n (Ok class) h = sym (class_back class) ∙ ap class_in h
+class_said n (Err e) h = sym (get_or-eq_default (classes ++ (LongCount ∷ [])) NoEvent (omega arith))
 
 -- the counts of a number and of a string have 16 bits
 abbrev pub Narrow : Token → Type 0

@@ -4,7 +4,7 @@ use mathlib.Core.Path.{◌≡◌, ◌∙◌}
 use mir.Val.{to_z, of_z}
 use mir.Syntax.{w8, w32}
 use Rattle.wing_saved.specs.Saved.{head_under}
-use Rattle.wing_saved.proofs.Saving.Heads.{fields-put}
+use Rattle.wing_saved.proofs.Saving.Heads.{fields-put, flag_same, bits_same}
 use borrow.Author.Rules.{rules}
 use Rattle.wing_saved.proofs.head_of.Goals as goal
 
@@ -15,4 +15,4 @@ returns c =
     let k : to_z w8 (of_z w8 a.escape.channel) ≡ a.escape.channel = search rules in
     let l : to_z w32 (of_z w32 a.node) ≡ a.node = search rules in
     fields-put _ _ _ _ _ _ _ _ _ _ _ _ c.put_i32.ensures c.put_u32.ensures c.put_u32-2.ensures c.put_u32-3.ensures c.put_u32-4.ensures
-    ∙ rw (c.flag.ensures, c.of_i8.ensures, c.pending_flag.ensures, c.pending_byte.ensures, c.fields_of-k.ensures, k, l)
+    ∙ rw (c.from.ensures, flag_same a.escape.escaped, c.cast_unsigned.ensures, k, bits_same a.escape.channel, c.pending_flag.ensures, c.pending_byte.ensures, c.fields_of-k.ensures, l)

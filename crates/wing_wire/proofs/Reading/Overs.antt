@@ -42,3 +42,11 @@ pub over-whole : (s d : List ℕ) → length s ≤ length d → over s d ≡ s +
 over-whole [] d h = refl
 over-whole (a ∷ s) [] h = absurd (not-suc-le-zero h)
 over-whole (a ∷ s) (b ∷ d) h = ap (λ (l : List ℕ). a ∷ l) (over-whole s d (le_of_suc-le-suc h))
+
+-- the bytes before the rest of the others, as far as both reach
+pub over_copied : (n : ℕ) (s d : List ℕ) →
+    take (min (min n (length s)) (length d)) s ++ drop (min (min n (length s)) (length d)) d ≡ over (take n s) d
+over_copied zero s d = rw (zero-min, zero-min)
+over_copied (suc n) [] d = rw (min-zero, zero-min)
+over_copied (suc n) (a ∷ s) [] = rw min-zero
+over_copied (suc n) (a ∷ s) (b ∷ d) = rw (suc-min-suc, suc-min-suc) (ap (λ (l : List ℕ). a ∷ l) (over_copied n s d))

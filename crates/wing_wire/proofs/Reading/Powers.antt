@@ -1,11 +1,9 @@
 -- A number of 32 bits is below 256 to any four units or more.
-use mathlib.Core.Path.{◌≡◌}
 use Prim.Native.Nat.{ℕ, ◌≤◌, ◌<◌, ◌^◌}
 use native.Mathlib.Omega.{arith}
 use native.Mathlib.Nat.{pow-le-pow_right}
 
-pub below_power : (v n : ℕ) → v < 2 ^ 32 → (n ≡ 0 → ⊥) → (n ≡ 1 → ⊥) → (n ≡ 2 → ⊥) → (n ≡ 3 → ⊥) → v < 256 ^ n
-below_power v n f a b c d =
-    let h : 4 ≤ n = omega arith in
+pub below_power : (v n : ℕ) → v < 2 ^ 32 → 4 ≤ n → v < 256 ^ n
+below_power v n f h =
     let g : 256 ^ 4 ≤ 256 ^ n = pow-le-pow_right (omega arith) h in
     omega arith

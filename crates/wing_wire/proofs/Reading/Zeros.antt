@@ -1,8 +1,9 @@
 -- Whether all bytes from a place on are 0: the bytes so far joined by or, and those that are left.
 use mathlib.Core.Bool.{Bool, true, false}
 use mathlib.Core.Path.{◌≡◌, refl}
-use mathlib.Core.List.{List}
-use Prim.Native.Nat.{ℕ, suc, ◌+◌, ◌≤◌, ◌<◌}
+use mathlib.Core.List.{List, [], ◌∷◌}
+use Prim.Native.Nat.{ℕ, zero, suc, ◌+◌, ◌≤◌, ◌<◌, min}
+use native.Mathlib.Nat.{zero-min, min-zero, suc-min-suc}
 use native.Mathlib.Numerals.{add-one}
 use native.Mathlib.Omega.{arith}
 use borrow.Author.Tests.{eq-eqb, ne_eqb, eqb-true, eqb-false}
@@ -39,3 +40,9 @@ and-true false = refl
 pub no_more : (s : List ℕ) (i bits : ℕ) → length s ≤ i → and (eqb bits 0) (zeros (drop i s)) ≡ eqb bits 0
 unfolding zeros
 no_more s i bits h = rw (drop_of_length-le s h) (and-true (eqb bits 0))
+
+-- from the end on there is nothing, as from a place past it
+pub drop_least : (n : ℕ) (s : List ℕ) → drop (min n (length s)) s ≡ drop n s
+drop_least zero s = rw zero-min
+drop_least (suc n) [] = rw min-zero
+drop_least (suc n) (a ∷ s) = rw suc-min-suc (drop_least n s)

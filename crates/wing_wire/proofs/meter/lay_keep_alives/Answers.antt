@@ -14,9 +14,9 @@ pub loop-id-preserved : goal.loop-id-preserved
 loop-id-preserved c =
     let e = one-alive c.args.port c.loop-id.id (omega arith) in
     let l = ap length e ∙ length-append (keep_alive c.args.port c.loop-id.id) (keep_alives c.args.port (c.loop-id.id - 1)) in
-    let p = in-part c.loop-id.at c.lay_keep_alive-n.ensures.laid in (
+    let p = in-part c.loop-id.at c.lay_keep_alive-at.ensures.laid in (
       ap length p.bytes ∙ length-sets c.loop-id.out c.loop-id.at (keep_alive c.args.port c.loop-id.id) ∙ c.loop-id.invariant.0,
-      omega (arith, c.lay_keep_alive-n.ensures.laid.next),
+      omega (arith, c.lay_keep_alive-at.ensures.laid.next),
       goes_on p (keep_alives c.args.port (c.loop-id.id - 1)) ∙ ap (sets c.loop-id.out c.loop-id.at) (sym e) ∙ c.loop-id.invariant.2,
     )
 

@@ -1,31 +1,23 @@
--- Each arm is the line of `body_beside` with that variant, and the contract of `body_front` gives the body's bytes.
+-- Beside any answer but a body stand zeros.
+use mathlib.Core.Path.{◌≡◌, refl}
+use mathlib.Core.List.{List}
+use Prim.Native.Nat.{ℕ}
+use lib.ListN.{replicate}
+use Rattle.wing_wire.specs.State.{body_limit}
 use Rattle.wing_wire.specs.Reader.{body_beside}
+use Rattle.wing_wire.specs.declared.unit.Answer.{Answer}
+use Rattle.wing_wire.specs.declared.unit.Answer.TheVariants.{More, Integer, Float, String, Body, End, Refused}
 use Rattle.wing_wire.proofs.reader.body_beside.Goals as goal
 
-pub returns-in-More : goal.returns-in-More
+none : (a : Answer) (s : List ℕ) → ((n : ℕ) → a ≡ Body n → ⊥) → replicate body_limit 0 ≡ body_beside a s
 unfolding body_beside
-returns-in-More c = simp c.in-More.is
+none More s h = refl
+none (Integer x) s h = refl
+none (Float bits) s h = refl
+none (String n) s h = refl
+none (Body n) s h = absurd (h n refl)
+none End s h = refl
+none (Refused why) s h = refl
 
-pub returns-in-Integer : goal.returns-in-Integer
-unfolding body_beside
-returns-in-Integer c = simp c.in-Integer.is
-
-pub returns-in-Float : goal.returns-in-Float
-unfolding body_beside
-returns-in-Float c = simp c.in-Float.is
-
-pub returns-in-String : goal.returns-in-String
-unfolding body_beside
-returns-in-String c = simp c.in-String.is
-
-pub returns-in-Body : goal.returns-in-Body
-unfolding body_beside
-returns-in-Body c = simp (c.in-Body.is, c.body_front.ensures)
-
-pub returns-in-End : goal.returns-in-End
-unfolding body_beside
-returns-in-End c = simp c.in-End.is
-
-pub returns-in-Refused : goal.returns-in-Refused
-unfolding body_beside
-returns-in-Refused c = simp c.in-Refused.is
+pub returns-in_default : goal.returns-in_default
+returns-in_default c = none c.args.a c.args.store.now c.in_default.not-Body

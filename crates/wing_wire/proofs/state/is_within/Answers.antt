@@ -1,22 +1,18 @@
--- The arms for 0 to 3 units are the tests with those powers of 256, and for four or more units any number of 32 bits is below (`below_power`).
-use mathlib.Core.Path.{sym}
-use borrow.Author.Tests.{lt-ltb}
+-- A number of 32 bits is below 256 to any four units or more (`below_power`), and 256 to fewer has 32 bits.
+use Prim.Native.Nat.{◌≤◌, ◌^◌}
+use native.Mathlib.Omega.{arith}
+use native.Mathlib.Nat.{pow-le-pow_right}
+use borrow.Author.Tests.{lt-ltb, le-leb}
 use Rattle.wing_wire.proofs.Reading.Powers.{below_power}
 use Rattle.wing_wire.proofs.state.is_within.Goals as goal
 
-pub returns-in-0 : goal.returns-in-0
-returns-in-0 c = rw c.in-0.is
+pub pow-requires : goal.pow-requires
+pow-requires c =
+    let n = c.from.result in
+    let h : n ≤ 3 = omega (arith, c.from.ensures) in
+    let g : 256 ^ n ≤ 256 ^ 3 = pow-le-pow_right (omega arith) h in
+    omega arith
 
-pub returns-in-1 : goal.returns-in-1
-returns-in-1 c = rw c.in-1.is
-
-pub returns-in-2 : goal.returns-in-2
-returns-in-2 c = rw c.in-2.is
-
-pub returns-in-3 : goal.returns-in-3
-returns-in-3 c = rw c.in-3.is
-
-pub returns-in_default : goal.returns-in_default
-returns-in_default c =
-    let r = c.in_default.in_default-own.rest in
-    sym (lt-ltb _ _ (below_power c.args.value c.args.units c.ranges.value.fits r.0.0.0.1 r.0.0.1 r.0.1 r.1))
+pub returns-then-units-ge4 : goal.returns-then-units-ge4
+returns-then-units-ge4 c =
+    simp (le-leb _ _ c.if-units-ge4.true, lt-ltb _ _ (below_power c.args.value c.args.units c.ranges.value.fits c.if-units-ge4.true))

@@ -7,24 +7,18 @@ use Rattle.wing_wire.proofs.Reading.Underway.{underway-le}
 use Rattle.wing_wire.proofs.state.sound_body.Goals as goal
 
 pub overflow_sub-result : goal.overflow_sub-result
-overflow_sub-result c =
-    let u = sym c.is_underway.ensures ∙ c.if-is_underway.true in
-    omega (arith, underway-le _ _ u)
+overflow_sub-result c = omega (arith, underway-le _ _ (sym c.is_underway.ensures ∙ c.if-is_underway.true))
 
 pub returns-then-want-le-BODY_LIMIT : goal.returns-then-want-le-BODY_LIMIT
 unfolding sound_body
 returns-then-want-le-BODY_LIMIT c =
-    let u = sym c.is_underway.ensures ∙ c.if-is_underway.true in
-    simp (u, le-leb _ _ c.if-want-le-BODY_LIMIT.true)
+    simp (sym c.is_underway.ensures ∙ c.if-is_underway.true, le-leb _ _ c.if-want-le-BODY_LIMIT.true)
 
-pub returns-then-is_underway : goal.returns-then-is_underway
+pub returns-else-want-le-BODY_LIMIT : goal.returns-else-want-le-BODY_LIMIT
 unfolding sound_body
-returns-then-is_underway c =
-    let u = sym c.is_underway.ensures ∙ c.if-is_underway.true in
-    simp (u, lt-leb _ _ c.if-want-le-BODY_LIMIT.false)
+returns-else-want-le-BODY_LIMIT c =
+    simp (sym c.is_underway.ensures ∙ c.if-is_underway.true, lt-leb _ _ c.if-want-le-BODY_LIMIT.false)
 
-pub returns : goal.returns
+pub returns-else-is_underway : goal.returns-else-is_underway
 unfolding sound_body
-returns c =
-    let u = sym c.is_underway.ensures ∙ c.if-is_underway.false in
-    simp u
+returns-else-is_underway c = simp (c.if-is_underway.false, sym c.is_underway.ensures ∙ c.if-is_underway.false)

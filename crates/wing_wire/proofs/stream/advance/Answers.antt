@@ -6,19 +6,19 @@ use Rattle.wing_wire.specs.Stream.{follow_of, advance_of}
 use Rattle.wing_wire.proofs.Reading.Plains.{whole, once-whole, once-less, whole-ends}
 use Rattle.wing_wire.proofs.stream.advance.Goals as goal
 
-pub loop-d-init : goal.loop-d-init
-loop-d-init c = (refl, refl)
+pub loop-t-init : goal.loop-t-init
+loop-t-init c = (refl, refl)
 
-pub loop-d-smaller : goal.loop-d-smaller
-loop-d-smaller c =
-    let on = sym c.is_on.ensures ∙ c.loop-d-test.true in
-    rw (← c.step-g.ensures) at (once-less c.loop-d.t c.loop-d.store c.args.bytes.now c.loop-d.i on)
+pub loop-t-smaller : goal.loop-t-smaller
+loop-t-smaller c =
+    let on = sym c.is_on.ensures ∙ c.loop-t-test.true in
+    rw (← c.step-g.ensures) at (once-less c.loop-t.t c.loop-t.store c.args.bytes.now c.loop-t.i on)
 
-pub loop-d-preserved : goal.loop-d-preserved
-loop-d-preserved c =
-    let on = sym c.is_on.ensures ∙ c.loop-d-test.true in
-    (search rules, c.loop-d.invariant.1 ∙ once-whole c.loop-d.t c.loop-d.store _ c.loop-d.i on ∙ ap (whole _) (sym c.step-g.ensures))
+pub loop-t-preserved : goal.loop-t-preserved
+loop-t-preserved c =
+    let on = sym c.is_on.ensures ∙ c.loop-t-test.true in
+    (search rules, c.loop-t.invariant.1 ∙ once-whole c.loop-t.t c.loop-t.store _ c.loop-t.i on ∙ ap (whole _) (sym c.step-g.ensures))
 
 pub returns : goal.returns
 unfolding advance_of follow_of
-returns c = sym (c.loop-d.invariant.1 ∙ whole-ends _ _ _ _ (sym c.is_on.ensures ∙ c.loop-d-test.false))
+returns c = sym (c.loop-t.invariant.1 ∙ whole-ends _ _ _ _ (sym c.is_on.ensures ∙ c.loop-t-test.false))

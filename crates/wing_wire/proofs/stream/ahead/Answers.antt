@@ -1,4 +1,4 @@
--- The contract of `token_ahead` gives the token, the store and the place of `ahead_of`, and that of `control_of` the control around the token.
+-- The contract of `token_ahead` gives the token, the store and the place of `ahead_of`.
 use mathlib.Core.Path.{◌≡◌}
 use mir.Val.{to_z, of_z}
 use mir.Syntax.{w32}
@@ -11,4 +11,4 @@ unfolding ahead_of
 returns c =
     let k = c.args.c in
     let back : to_z w32 (of_z w32 k.node) ≡ k.node = search rules in
-    simp (c.control_of-d.ensures, ← c.token_ahead-g.ensures) (rw back)
+    simp (← c.token_ahead-g.ensures) (rw back)

@@ -13,7 +13,7 @@ returns-then-is_nothing c =
     let k = a.c in
     let back : to_z w32 (of_z w32 k.node) ≡ k.node = search rules in
     let nothing = sym c.is_nothing.ensures ∙ c.if-is_nothing.true in
-    simp (c.control_of-same.ensures, given_nothing a.unit a.after k a.store.now nothing) (rw back)
+    simp (given_nothing a.unit a.after k a.store.now nothing) (rw back)
 
 pub returns : goal.returns
 returns c =

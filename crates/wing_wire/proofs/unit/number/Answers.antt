@@ -16,21 +16,9 @@ overflow_cast-x c =
     let fits : SFits w16 x = search rules in
     rw back (record { sfits = omega (arith, fits.sfits) })
 
-pub returns-in-NoEvent : goal.returns-in-NoEvent
-unfolding number_of
-returns-in-NoEvent c = simp (c.in-NoEvent.is, c.taken_of.ensures) (rw (to_z-of_z c.ranges.node))
-
-pub returns-in-Integer : goal.returns-in-Integer
-unfolding number_of
-returns-in-Integer c = simp (c.in-Integer.is, c.taken_of-in-Integer.ensures) (rw (to_z-of_z c.ranges.node))
-
-pub returns-in-String : goal.returns-in-String
-unfolding number_of
-returns-in-String c = simp (c.in-String.is, c.taken_of-in-String.ensures) (rw (to_z-of_z c.ranges.node))
-
 pub returns-in-Length : goal.returns-in-Length
 unfolding number_of
-returns-in-Length c = simp (c.in-Length.is, c.taken_of-in-Length.ensures) (rw (to_z-of_z c.ranges.node))
+returns-in-Length c = simp (c.in-Length.is, c.taken_of.ensures) (rw (to_z-of_z c.ranges.node))
 
 pub returns-in-Int16 : goal.returns-in-Int16
 unfolding number_of
@@ -58,10 +46,6 @@ returns-in-Node c =
     let x = c.to_i32-in-Node.result in
     let back : to_z w32 (of_z w32 x) ≡ x = search rules in
     simp (c.taken_of-in-Node.ensures, c.in-Node.is) (rw (back, c.to_i32-in-Node.ensures))
-
-pub returns-in-End : goal.returns-in-End
-unfolding number_of
-returns-in-End c = simp (c.in-End.is, c.taken_of-in-End.ensures) (rw (to_z-of_z c.ranges.node))
 
 pub returns-in-Count : goal.returns-in-Count
 unfolding number_of
