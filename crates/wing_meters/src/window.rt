@@ -52,6 +52,7 @@ fn fresh(width: u16) -> Window
     }
 }
 
+#[tactic(auto, unfolding(crate::specs::Calls::made_of))]
 fn no_window() -> Made
     ensures { result ≡ made_of 0 }
 {
@@ -62,13 +63,11 @@ fn no_window() -> Made
 }
 
 // 02: a width outside 1 to 256 is 19.
+#[tactic(auto, unfolding(crate::specs::Calls::made_of))]
 pub fn make(width: u32) -> Made
     ensures { result ≡ made_of width }
 {
-    if width < 1 {
-        return no_window();
-    }
-    if 256 < width {
+    if width < 1 || 256 < width {
         return no_window();
     }
     Made {
