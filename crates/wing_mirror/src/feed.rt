@@ -49,22 +49,23 @@ fn feed_on(
 }
 
 // The number that a feed is refused by, 0 if by none. A store of another size than a state's is 8.
+#[tactic(auto, unfolding(crate::specs::Mirror::lent_feed, crate::specs::Mirror::mirror_feed))]
 fn feed_fault(c: Control, store: &[u8], table: &[u8], count: usize, bytes: &[u8]) -> u8
     ensures { (lent_feed full (state_of c store.now) (table_of table.now count) bytes.now ≡ if (eqb result 0) (taken_feed (fed_all full (state_of c store.now) (table_of table.now count) bytes.now)) (refused_feed result (state_of c store.now) (table_of table.now count))) × (result ≡ 0 → (sound_state (state_of c store.now) ≡ true) × (length store.now ≡ body_limit) × (usable full (table_of table.now count) ≡ true) × (length bytes.now ≤ 65536)) }
 {
     if store.len() != State::BODY_LIMIT {
         return 8;
     }
-    if is_sound_lent(c, store) {
-        if is_usable(table, count) {
-            if bytes.len() <= 65536 {
-                return 0;
-            }
-            return 14;
-        }
+    if !is_sound_lent(c, store) {
+        return 8;
+    }
+    if !is_usable(table, count) {
         return 7;
     }
-    8
+    if bytes.len() > 65536 {
+        return 14;
+    }
+    0
 }
 
 // A feed whose state's store is lent, so that nothing of it is copied. 01: a refused feed changes and counts nothing. 8, 7, 14.
