@@ -30,14 +30,7 @@ pub struct Judged {
 pub(crate) fn find(s: &[u8], b: u8) -> usize
     ensures { result ≡ length (part b 0 s.now) }
 {
-    let mut i = 0;
-    while i < s.len() {
-        if s[i] == b {
-            return i;
-        }
-        i += 1;
-    }
-    i
+    s.iter().position(|a| *a == b).unwrap_or(s.len())
 }
 
 fn is_value(kind: u8, s: &[u8]) -> bool
@@ -104,6 +97,7 @@ fn value_fault(kind: u8, s: &[u8]) -> Fault
 }
 
 // 02: above the id before, if there is one.
+#[tactic(auto, unfolding(crate::specs::Reading::above, crate::specs::Steps::id_before))]
 fn rises(any: bool, before: i32, id: i32) -> bool
     ensures { result ≡ above (id_before any before) id }
 {

@@ -1,7 +1,6 @@
 // A text looked through, before anything is written: the first bad line decides.
 ghost use Rattle.std.specs.Prelude.{◌≡◌};
 ghost use Rattle.wing_mirror.specs.Rows.{nothing};
-ghost use Rattle.wing_mirror.specs.Query.{same_bytes};
 ghost use Rattle.wing_listing.specs.Parts.{newline, parted};
 ghost use Rattle.wing_listing.specs.Reading.{lines_from, reading_of};
 ghost use Rattle.wing_listing.specs.Steps.{scanned_as, scanned_bad};
@@ -56,31 +55,12 @@ fn scan_lines(text: &[u8]) -> Scanned
     }
 }
 
-fn is_same(a: &[u8], b: &[u8]) -> bool
-    ensures { result ≡ same_bytes a.now b.now }
-{
-    if a.len() != b.len() {
-        return false;
-    }
-    let mut i = 0;
-    while i < a.len() {
-        if a[i] != b[i] {
-            return false;
-        }
-        i += 1;
-    }
-    true
-}
-
 pub(crate) fn scan(text: &[u8]) -> Scanned
     ensures { result ≡ scanned_as (reading_of text.now) }
 {
     let n = find(text, 0x0a);
-    if n < text.len() {
-        if is_same(&text[..n], b"id,kind,value") {
-            return scan_lines(&text[n + 1..]);
-        }
-        return bad(Refusal::Number(17), 1);
+    if n < text.len() && text[..n] == b"id,kind,value"[..] {
+        return scan_lines(&text[n + 1..]);
     }
     bad(Refusal::Number(17), 1)
 }
