@@ -31,10 +31,8 @@ use Rattle.wing_listing.specs.Listing.{printed}
 use Rattle.wing_listing.specs.Reading.{Reading, good, bad, above, value_fault, reading_of, entries_in}
 use Rattle.wing_listing.specs.FirstBad.{entry_fault, BadHeader, BadForm, FirstBad}
 use Rattle.wing_listing.specs.Calls.{LoadEffect, load_effect, reply_of, sent_back, load_entries, load_read, load_of, print_of}
-use Rattle.wing_listing.specs.Answers.{loaded_result, line_in}
+use Rattle.wing_listing.specs.Answers.{loaded_result, line_in, Loaded}
 use Rattle.wing_listing.specs.BothWays.{EqualMirror}
-use Rattle.wing_listing.specs.declared.answer.Loaded.{Loaded}
-use Rattle.wing_listing.specs.declared.answer.Loaded.TheVariants.{Records, Refused}
 use Rattle.wing_listing.proofs.Texts.Rounds.{both_ways, loaded-rest}
 use Rattle.wing_listing.proofs.Texts.Faults.{Wrong, Known, known-reading}
 use Rattle.promises.specs.Lines.{Line, ◌gives◌, by, sends, Answers}
@@ -91,8 +89,8 @@ print-call t out b = record {
 
 -- the reason of a refused load, or another
 abbrev why_in : Refusal → Loaded → Refusal
-why_in other (Records n) = other
-why_in other (Refused why line) = why
+why_in other (Ok n) = other
+why_in other (Err (record { why = why; line = line })) = why
 
 abbrev loads : LoadEffect → Result ℕ
 loads x = loaded_result x.reply.answer
@@ -106,7 +104,7 @@ module _ (memory : List ℕ) where
   unfolding by reading_fault load_read load_entries entries_in loaded_result
   read-answered (good es) =
       line loads W (length es) false no_place _ (sent_back no_place 0 memory) (load_read (good es) memory) refl refl
-      (unless loads W (length es) (leb (length es) (length memory / width)) no_place _ _ _ refl refl (taken loads W (length es) (load_effect (reply_of (Records (length es))) (laid width (map record_of es) memory)) refl))
+      (unless loads W (length es) (leb (length es) (length memory / width)) no_place _ _ _ refl refl (taken loads W (length es) (load_effect (reply_of (Ok (length es))) (laid width (map record_of es) memory)) refl))
   read-answered (bad why line) = record { result = refl; as_it_was = λ n p. refl }
 
   load-answered : (text : List ℕ) → Answers (load_lines text memory) (length (entries_in (reading_of text))) (loads (load_of text memory)) (W (load_of text memory))
@@ -146,16 +144,16 @@ module _ (memory : List ℕ) where
 
   -- which line
   abbrev About : List ℕ → LoadEffect → Type 0
-  About text x = (why : Refusal) (line : ℕ) → x.reply.answer ≡ Refused why line → (reading_of text ≡ bad why line) ⊎ (line ≡ 0)
+  About text x = (why : Refusal) (line : ℕ) → x.reply.answer ≡ Err (record { why = why; line = line }) → (reading_of text ≡ bad why line) ⊎ (line ≡ 0)
 
-  about-none : (text : List ℕ) (a : Loaded) → line_in a ≡ 0 → (why : Refusal) (line : ℕ) → a ≡ Refused why line → (reading_of text ≡ bad why line) ⊎ (line ≡ 0)
+  about-none : (text : List ℕ) (a : Loaded) → line_in a ≡ 0 → (why : Refusal) (line : ℕ) → a ≡ Err (record { why = why; line = line }) → (reading_of text ≡ bad why line) ⊎ (line ≡ 0)
   unfolding line_in
   about-none text a z why line e = inr (sym (ap line_in e) ∙ z)
 
   about-read : (text : List ℕ) (r : Reading) → reading_of text ≡ r → About text (load_read r memory)
   unfolding load_read load_entries line_in
   about-read text (good es) g =
-      branch (About text) (leb (length es) (length memory / width)) _ _ (λ _. about-none text (Records (length es)) refl) (λ _. about-none text (Refused no_place 0) refl)
+      branch (About text) (leb (length es) (length memory / width)) _ _ (λ _. about-none text (Ok (length es)) refl) (λ _. about-none text (Err (record { why = no_place; line = 0 })) refl)
   about-read text (bad why line) g = λ w l e.
       let a : why ≡ w = ap (why_in why) e in
       let b : line ≡ l = ap line_in e in
@@ -165,10 +163,10 @@ module _ (memory : List ℕ) where
   unfolding load_of line_in
   load-about text =
       branch (About text) (places_allowed (length memory / width)) _ _
-      (λ _. branch (About text) (leb (length text) 65536) _ _ (λ _. about-read text (reading_of text) refl) (λ _. about-none text (Refused number_over 0) refl))
-      (λ _. about-none text (Refused table_unsound 0) refl)
+      (λ _. branch (About text) (leb (length text) 65536) _ _ (λ _. about-read text (reading_of text) refl) (λ _. about-none text (Err (record { why = number_over; line = 0 })) refl))
+      (λ _. about-none text (Err (record { why = table_unsound; line = 0 })) refl)
 
-  load_line : (text : List ℕ) (why : Refusal) (line : ℕ) → places_allowed (length memory / width) ≡ true → length text ≤ 65536 → reading_of text ≡ bad why line → (load_of text memory).reply.answer ≡ Refused why line
+  load_line : (text : List ℕ) (why : Refusal) (line : ℕ) → places_allowed (length memory / width) ≡ true → length text ≤ 65536 → reading_of text ≡ bad why line → (load_of text memory).reply.answer ≡ Err (record { why = why; line = line })
   unfolding load_of load_read
   load_line text why line a s g = rw (a, le-leb (length text) 65536 s, g)
 
@@ -178,7 +176,7 @@ module _ (memory : List ℕ) where
   some-line text why line (inr (inl f)) z = omega (arith, f.next)
   some-line text why line (inr (inr f)) z = omega (arith, f.next)
 
-  load-first : (text : List ℕ) (why : Refusal) (line : ℕ) → places_allowed (length memory / width) ≡ true → length text ≤ 65536 → ((((load_of text memory).reply.answer ≡ Refused why line) × (line ≡ 0 → ⊥)) ↔ FirstBad text why line)
+  load-first : (text : List ℕ) (why : Refusal) (line : ℕ) → places_allowed (length memory / width) ≡ true → length text ≤ 65536 → ((((load_of text memory).reply.answer ≡ Err (record { why = why; line = line })) × (line ≡ 0 → ⊥)) ↔ FirstBad text why line)
   load-first text why line a s = (
     (λ p. (both_ways.wrong text why line).0 (⊎_elim (λ r. r) (λ z. absurd (p.1 z)) (load-about text why line p.0))),
     (λ f. (load_line text why line a s ((both_ways.wrong text why line).1 f), some-line text why line f)),
@@ -213,10 +211,10 @@ module _ (memory : List ℕ) where
       among n (inr (inr (inr e))) (inr (inl f)) = omega arith
       among n (inr (inr (inr e))) (inr (inr f)) = omega arith
 
-  no_line_lem : (text : List ℕ) (a : Loaded) → ((w : Refusal) (l : ℕ) → a ≡ Refused w l → (reading_of text ≡ bad w l) ⊎ (l ≡ 0)) → (why : Refusal) → loaded_result a ≡ refused why → ((why ≡ table_unsound) ⊎ ((why ≡ number_over) ⊎ (why ≡ no_place))) → line_in a ≡ 0
+  no_line_lem : (text : List ℕ) (a : Loaded) → ((w : Refusal) (l : ℕ) → a ≡ Err (record { why = w; line = l }) → (reading_of text ≡ bad w l) ⊎ (l ≡ 0)) → (why : Refusal) → loaded_result a ≡ refused why → ((why ≡ table_unsound) ⊎ ((why ≡ number_over) ⊎ (why ≡ no_place))) → line_in a ≡ 0
   unfolding loaded_result line_in
-  no_line_lem text (Records n) f why e k = refl
-  no_line_lem text (Refused w l) f why e k =
+  no_line_lem text (Ok n) f why e k = refl
+  no_line_lem text (Err (record { why = w; line = l })) f why e k =
       ⊎_elim (λ r. absurd (not_line why (subst Wrong (ap (reason w) e) (subst Known r (known-reading text))) k)) (λ y. y) (f w l refl)
 
   load_fresh : (text : List ℕ) → (load_of text memory).reply.state ≡ fresh_state
@@ -229,7 +227,7 @@ module _ (memory : List ℕ) where
       read-fresh (good es) = unfold load_read in (unfold load_entries in (branch (λ (x : LoadEffect). x.reply.state ≡ fresh_state) (leb (length es) (length memory / width)) _ _ (λ _. refl) (λ _. refl)))
       read-fresh (bad why line) = unfold load_read in refl
 
-  load-prints : (text : List ℕ) (n : ℕ) → (load_of text memory).reply.answer ≡ Records n → (out : List ℕ) → length text ≤ length out →
+  load-prints : (text : List ℕ) (n : ℕ) → (load_of text memory).reply.answer ≡ Ok n → (out : List ℕ) → length text ≤ length out →
       print_of (table (load_of text memory).memory n) out ≡ write_effect (Ok (length text)) (text ++ drop (length text) out)
   unfolding print_of write_of
   load-prints text n e out h =

@@ -1,5 +1,5 @@
 -- What is promised of a listing (02), printed and loaded, by each call's arguments, its answer and the lent buffer after it.
-use Rattle.std.specs.Prelude.{ℕ, ◌*◌, ◌/◌, ◌≤◌, true, not, ◌≡◌, ◌⊎◌, ◌↔◌, List, [], ◌∷◌, ◌++◌, map, leb, ℤ, length, take, drop, Ok}
+use Rattle.std.specs.Prelude.{ℕ, ◌*◌, ◌/◌, ◌≤◌, true, not, ◌≡◌, ◌⊎◌, ◌↔◌, List, [], ◌∷◌, ◌++◌, map, leb, ℤ, length, take, drop, Ok, Err}
 use Rattle.wing_node.specs.Refusal.{good_beside, no_fault, because}
 use Rattle.wing_node.specs.Utf8.{utf8, good as good_of}
 use Rattle.wing_node.specs.Value.{NodeValue, integer, float, string}
@@ -18,7 +18,6 @@ use Rattle.wing_listing.specs.FirstBad.{entry_fault, BadHeader, BadForm, FirstBa
 use Rattle.wing_listing.specs.Calls.{load_effect, print_of, load_of}
 use Rattle.wing_listing.specs.Answers.{loaded_result, line_in}
 use Rattle.wing_listing.specs.BothWays.{EqualMirror}
-use Rattle.wing_listing.specs.declared.answer.Loaded.TheVariants.{Records, Refused}
 use Rattle.wing_listing.specs.declared.answer.LoadReply.{LoadReply}
 use Rattle.promises.specs.Refusals.{string_wrong, no_place, table_unsound, string_long, number_over, line_wrong, id_not_above}
 use Rattle.promises.specs.Lines.{Line, ◌gives◌, sends, Answers}
@@ -75,7 +74,7 @@ pub record LoadCall (text memory : List ℕ) (reply : LoadReply) (after : List �
       In why (table_unsound ∷ number_over ∷ line_wrong ∷ id_not_above ∷ string_long ∷ string_wrong (good_beside why) ∷ no_place ∷ [])
   -- 02: after 7 and 14 the first bad line decides, and no other: what is wrong with it, and which line it is
   pub first : (why : Refusal) (line : ℕ) → places_allowed (length memory / width) ≡ true → length text ≤ 65536 →
-      (((reply.answer ≡ Refused why line) × (line ≡ 0 → ⊥)) ↔ FirstBad text why line)
+      (((reply.answer ≡ Err (record { why = why; line = line })) × (line ≡ 0 → ⊥)) ↔ FirstBad text why line)
   -- 02: the places that a load takes are 1 to 1,024 of 264 bytes each
   pub allowed : places_allowed (length memory / width) ≡ true ↔ ((1 ≤ length memory / 264) × (length memory / 264 ≤ 1024))
   -- 02: a header or line out of form is 17
@@ -87,12 +86,12 @@ pub record LoadCall (text memory : List ℕ) (reply : LoadReply) (after : List �
   -- 02: a fresh decoder
   pub fresh : reply.state ≡ fresh_state
   -- the table is sound, and the bytes past its last record are as they were
-  pub sound : (n : ℕ) → reply.answer ≡ Records n → usable full (table after n) ≡ true
-  pub rest : (n : ℕ) → reply.answer ≡ Records n → drop (width * n) after ≡ drop (width * n) memory
+  pub sound : (n : ℕ) → reply.answer ≡ Ok n → usable full (table after n) ≡ true
+  pub rest : (n : ℕ) → reply.answer ≡ Ok n → drop (width * n) after ≡ drop (width * n) memory
   -- 02: its origins are 0
-  pub origins : (n : ℕ) → reply.answer ≡ Records n → All (λ (e : Entry). e.origin ≡ Console) (map entry_in (rows full (table after n)))
+  pub origins : (n : ℕ) → reply.answer ≡ Ok n → All (λ (e : Entry). e.origin ≡ Console) (map entry_in (rows full (table after n)))
   -- 02: printing a loaded text gives its bytes again
-  pub prints : (n : ℕ) → reply.answer ≡ Records n → (out : List ℕ) → length text ≤ length out →
+  pub prints : (n : ℕ) → reply.answer ≡ Ok n → (out : List ℕ) → length text ≤ length out →
       print_of (table after n) out ≡ write_effect (Ok (length text)) (text ++ drop (length text) out)
   -- it is the call that BothWays of wing_listing's specs/ speaks of
   pub same : load_effect reply after ≡ load_of text memory

@@ -29,8 +29,6 @@ use Rattle.wing_mirror.specs.Origin.{origin_number}
 use Rattle.wing_mirror.specs.Record.{full}
 use Rattle.wing_mirror.specs.Mirror.{mirror_set}
 use Rattle.wing_listing.specs.Calls.{load_of}
-use Rattle.wing_listing.specs.declared.answer.Loaded.{Loaded}
-use Rattle.wing_listing.specs.declared.answer.Loaded.TheVariants.{Records, Refused as LoadRefused}
 use Rattle.wing_c.specs.Numbers.{minus, sent_back, written_numbers, body_numbers, set_numbers, feed_status, fed_numbers, lookup_numbers, same_number, record_numbers, event_numbers, requested_numbers, meters_numbers, loaded_numbers}
 use Rattle.wing_c.specs.Meanings.{by_status_and_good, written_in, body_in, set_in, feed_answer_in, counts_in, lookup_in, same_in, value_in, origin_in, record_in, kind_in, answer_in, requested_in, meters_in, loaded_in}
 use Rattle.wing_c.specs.Meanings.{OfRefusal, OfWritten, OfBody, OfFeed, OfLookup, OfSame, OfRecord, OfNext, OfRequested, OfMeters, OfLoaded, NextBeside, NumbersSay}
@@ -39,6 +37,7 @@ use Rattle.wing_c.proofs.Read.{next-told}
 use Rattle.wing_c.proofs.Sent.{order-told, set_told}
 use Rattle.wing_node.specs.Result.{Result}
 use Rattle.std.specs.Prelude.{ℕ, Ok, Err, Some, Option, None, Bool}
+use Rattle.wing_listing.specs.Answers.{Loaded}
 
 -- a refusal's status is below 0, and its number without the sign is the refusal's
 pub below : (n : ℕ) → 1 ≤ n → minus n ≡ negsuc (n - 1)
@@ -152,8 +151,8 @@ meters (Err n) h = rw (below n h) (ap Err (again n h))
 
 load : (a : Loaded) → OfLoaded a → loaded_in (loaded_numbers a) ≡ a
 unfolding loaded_in
-load (Records n) h = refl
-load (LoadRefused why line) h = both (λ x. LoadRefused x line) _ why h
+load (Ok n) h = refl
+load (Err (record { why = why; line = line })) h = both (λ x. Err (record { why = x; line = line })) _ why h
 
 -- every answer is what its numbers mean
 pub numbers-say : NumbersSay

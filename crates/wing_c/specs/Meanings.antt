@@ -28,8 +28,6 @@ use Rattle.wing_mirror.specs.declared.answer.RecordAnswer.TheVariants.{Record, R
 use Rattle.wing_mirror.specs.declared.origin.Origin.{Origin}
 use Rattle.wing_mirror.specs.declared.origin.Origin.TheVariants.{Console, SetOrder}
 use Rattle.wing_listing.specs.Calls.{load_of}
-use Rattle.wing_listing.specs.declared.answer.Loaded.{Loaded}
-use Rattle.wing_listing.specs.declared.answer.Loaded.TheVariants.{Records, Refused as LoadRefused}
 use Rattle.wing_c.specs.Numbers.{written_numbers, body_numbers, set_numbers, feed_status, fed_numbers, lookup_numbers, same_number, record_numbers, event_numbers, requested_numbers, meters_numbers, loaded_numbers}
 use Rattle.wing_c.specs.declared.answers.WingWritten.{WingWritten}
 use Rattle.wing_c.specs.declared.answers.WingSet.{WingSet}
@@ -41,6 +39,7 @@ use Rattle.wing_c.specs.declared.answers.WingRequested.{WingRequested}
 use Rattle.wing_c.specs.declared.answers.WingMeters.{WingMeters}
 use Rattle.wing_c.specs.declared.answers.WingLoaded.{WingLoaded}
 use Rattle.wing_node.specs.Result.{Result}
+use Rattle.wing_listing.specs.Answers.{Loaded}
 
 -- ---- what the numbers mean
 
@@ -126,7 +125,7 @@ meters_in r = by_status r.status Err (λ _. Ok (record { id = r.id; count = r.co
 
 -- a load: how many records the table has now; or a refusal, and the number of the line that it is about
 unfoldable pub loaded_in : WingLoaded → Loaded
-loaded_in r = by_status_and_good r.status r.good (λ why. LoadRefused why r.line) (λ _. Records r.count)
+loaded_in r = by_status_and_good r.status r.good (λ why. Err (record { why = why; line = r.line })) (λ _. Ok r.count)
 
 -- ---- which answers there are: a refusal's number is 1 or more, 1 and 5 have a good, an integer has 32 bits
 
@@ -196,8 +195,8 @@ OfMeters (Err n) = 1 ≤ n
 
 -- of a load
 abbrev pub OfLoaded : Loaded → Type 0
-OfLoaded (Records n) = Unit {0}
-OfLoaded (LoadRefused why line) = OfRefusal why
+OfLoaded (Ok n) = Unit {0}
+OfLoaded (Err (record { why = why; line = line })) = OfRefusal why
 
 -- ---- what holds of them
 
@@ -217,7 +216,7 @@ pub record GoodBeside (why : Refusal) : Type 0 where
   pub body : (body_numbers (Err why)).good ≡ good_beside why
   pub set : (count : ℕ) → (set_numbers (Err why) count).good ≡ good_beside why
   pub next : (node : ℤ) (taken : ℕ) → (event_numbers (NextRefused why) node taken).good ≡ good_beside why
-  pub load : (line : ℕ) → (loaded_numbers (LoadRefused why line)).good ≡ good_beside why
+  pub load : (line : ℕ) → (loaded_numbers (Err (record { why = why; line = line }))).good ≡ good_beside why
 
 -- where the status is a refusal, all other fields are 0, but for the good of 1 and 5, the count of a set or a feed, a record's bytes, an event's node and
 -- taken, a load's line
@@ -230,7 +229,7 @@ pub record RefusedZero (n : ℕ) (why : Refusal) : Type 0 where
   pub next : (node : ℤ) (taken : ℕ) → let r = event_numbers (NextRefused why) node taken in (r.value ≡ 0) × (r.len ≡ 0) × (r.kind ≡ 0)
   pub requested : ((requested_numbers (Err n)).id ≡ 0) × ((requested_numbers (Err n)).len ≡ 0)
   pub meters : ((meters_numbers (Err n)).id ≡ 0) × ((meters_numbers (Err n)).count ≡ 0)
-  pub load : (line : ℕ) → (loaded_numbers (LoadRefused why line)).count ≡ 0
+  pub load : (line : ℕ) → (loaded_numbers (Err (record { why = why; line = line }))).count ≡ 0
 
 -- what a case has not is 0: a call that is taken its good, a lookup of none its number, a number its length, a string or a body its value, an end both, a
 -- load that is taken its line
@@ -248,7 +247,7 @@ pub record OtherZero : Type 0 where
   pub next_string : (n : ℕ) (node : ℤ) (taken : ℕ) → let r = event_numbers (StringAt n) node taken in (r.good ≡ 0) × (r.value ≡ 0)
   pub next_body : (n : ℕ) (node : ℤ) (taken : ℕ) → let r = event_numbers (Body n) node taken in (r.good ≡ 0) × (r.value ≡ 0)
   pub next_end : (node : ℤ) (taken : ℕ) → let r = event_numbers End node taken in (r.good ≡ 0) × (r.value ≡ 0) × (r.len ≡ 0)
-  pub loaded : (n : ℕ) → ((loaded_numbers (Records n)).good ≡ 0) × ((loaded_numbers (Records n)).line ≡ 0)
+  pub loaded : (n : ℕ) → ((loaded_numbers (Ok n)).good ≡ 0) × ((loaded_numbers (Ok n)).line ≡ 0)
 
 -- every answer is what its numbers mean
 pub record NumbersSay : Type 0 where

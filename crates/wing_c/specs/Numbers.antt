@@ -17,8 +17,6 @@ use Rattle.wing_mirror.specs.declared.answer.FeedAnswer.TheVariants.{Taken, Refu
 use Rattle.wing_mirror.specs.declared.answer.RecordAnswer.{RecordAnswer}
 use Rattle.wing_mirror.specs.declared.answer.RecordAnswer.TheVariants.{Record, Refused as RecordRefused}
 use Rattle.wing_mirror.specs.Origin.{origin_number}
-use Rattle.wing_listing.specs.declared.answer.Loaded.{Loaded}
-use Rattle.wing_listing.specs.declared.answer.Loaded.TheVariants.{Records, Refused as LoadRefused}
 use Rattle.wing_c.specs.declared.answers.Outcome.{Outcome}
 use Rattle.wing_c.specs.declared.answers.WingWritten.{WingWritten}
 use Rattle.wing_c.specs.declared.answers.WingSet.{WingSet}
@@ -30,6 +28,7 @@ use Rattle.wing_c.specs.declared.answers.WingRequested.{WingRequested}
 use Rattle.wing_c.specs.declared.answers.WingMeters.{WingMeters}
 use Rattle.wing_c.specs.declared.answers.WingLoaded.{WingLoaded}
 use Rattle.wing_node.specs.Result.{Result}
+use Rattle.wing_listing.specs.Answers.{Loaded}
 
 -- a refusal's number with a minus sign
 abbrev pub minus : ℕ → ℤ
@@ -142,5 +141,5 @@ loaded_as o count line = record { status = o.status; good = o.good; count = coun
 
 -- a load: 0 and the records there are; or a refusal and the line that it is about
 abbrev pub loaded_numbers : Loaded → WingLoaded
-loaded_numbers (Records n) = loaded_as no_refusal n 0
-loaded_numbers (LoadRefused why line) = loaded_as (sent_back why) 0 line
+loaded_numbers (Ok n) = loaded_as no_refusal n 0
+loaded_numbers (Err (record { why = why; line = line })) = loaded_as (sent_back why) 0 line

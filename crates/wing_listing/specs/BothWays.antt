@@ -1,5 +1,5 @@
 -- 02: loading what was printed, and printing what was loaded.
-use Rattle.std.specs.Prelude.{ℕ, ◌*◌, ◌/◌, ◌≤◌, true, ◌≡◌, ◌↔◌, List, map, length, drop}
+use Rattle.std.specs.Prelude.{ℕ, ◌*◌, ◌/◌, ◌≤◌, true, ◌≡◌, ◌↔◌, List, map, length, drop, Ok}
 use Rattle.wing_node.specs.declared.refusal.Refusal.{Refusal}
 use Rattle.wing_node.specs.Utf8.{Decides}
 use Rattle.wing_wire.specs.State.{fresh_state}
@@ -15,7 +15,6 @@ use Rattle.wing_listing.specs.Listing.{listing_of, printed}
 use Rattle.wing_listing.specs.Reading.{is_line, good, bad, reading_of}
 use Rattle.wing_listing.specs.FirstBad.{PrintedLine, TakenEntries, FirstBad}
 use Rattle.wing_listing.specs.Calls.{LoadEffect, load_of}
-use Rattle.wing_listing.specs.declared.answer.Loaded.TheVariants.{Records}
 
 -- the table that a load of n records leaves
 abbrev pub loaded_table : LoadEffect → ℕ → Table
@@ -23,7 +22,7 @@ loaded_table l n = table l.memory n
 
 -- 02: an equal mirror, its origins 0 whatever the others were, with a fresh decoder; the bytes past its last record are as they were
 pub record EqualMirror (t : Table) (memory : List ℕ) (l : LoadEffect) : Type 0 where
-  pub counted : l.reply.answer ≡ Records t.count
+  pub counted : l.reply.answer ≡ Ok t.count
   pub fresh : l.reply.state ≡ fresh_state
   pub sound : usable full (loaded_table l t.count) ≡ true
   pub equal : EqualButOrigins full (loaded_table l t.count) t
@@ -49,4 +48,4 @@ pub record BothWays : Type 0 where
   -- 02: a listing carries no origin
   pub origins : (t u : Table) → Taken full t → Taken full u → SameButOrigins full t u → printed t ≡ printed u
   -- 02: printing a loaded text gives its bytes again
-  pub again : (text memory : List ℕ) (n : ℕ) → (load_of text memory).reply.answer ≡ Records n → PrintsAgain text (load_of text memory) n
+  pub again : (text memory : List ℕ) (n : ℕ) → (load_of text memory).reply.answer ≡ Ok n → PrintsAgain text (load_of text memory) n

@@ -1,5 +1,5 @@
 -- 02: printing a table, and loading a text into one.
-use Rattle.std.specs.Prelude.{ℕ, ◌/◌, List, map, leb, length, Err}
+use Rattle.std.specs.Prelude.{ℕ, ◌/◌, List, map, leb, length, Err, Ok}
 use Rattle.wing_node.specs.declared.refusal.Refusal.{Refusal}
 use Rattle.wing_node.specs.Bool.{if}
 use Rattle.wing_wire.specs.State.{fresh_state}
@@ -10,10 +10,9 @@ use Rattle.wing_mirror.specs.Record.{width, record_of, full}
 use Rattle.wing_mirror.specs.Table.{places_allowed, usable}
 use Rattle.wing_listing.specs.Listing.{printed}
 use Rattle.wing_listing.specs.Reading.{Reading, good, bad, reading_of}
-use Rattle.wing_listing.specs.declared.answer.Loaded.{Loaded}
-use Rattle.wing_listing.specs.declared.answer.Loaded.TheVariants.{Records, Refused}
 use Rattle.wing_listing.specs.declared.answer.LoadReply.{LoadReply}
 use Rattle.wing_node.specs.declared.refusal.Refusal.TheVariants.{NoPlace, NumberOver, TableUnsound}
+use Rattle.wing_listing.specs.Answers.{Loaded}
 
 -- 01, 02: 7 for a table that is not usable; else its listing, or 9 with the output as it was
 unfoldable pub print_of : Table → List ℕ → WriteEffect
@@ -34,12 +33,12 @@ reply_of answer = record { answer = answer; state = fresh_state }
 
 -- 02: a text that is sent back leaves the table memory untouched
 abbrev pub sent_back : Refusal → ℕ → List ℕ → LoadEffect
-sent_back why line memory = load_effect (reply_of (Refused why line)) memory
+sent_back why line memory = load_effect (reply_of (Err (record { why = why; line = line }))) memory
 
 -- 02: old records are replaced; the bytes past the last record are as they were. 6 only when no line is bad
 unfoldable pub load_entries : List Entry → List ℕ → LoadEffect
 load_entries es memory =
-    if (leb (length es) (length memory / width)) (load_effect (reply_of (Records (length es))) (laid width (map record_of es) memory)) (sent_back NoPlace 0 memory)
+    if (leb (length es) (length memory / width)) (load_effect (reply_of (Ok (length es))) (laid width (map record_of es) memory)) (sent_back NoPlace 0 memory)
 
 -- the entries of a text that is read to its end; else what is wrong with the first bad line, and its number
 unfoldable pub load_read : Reading → List ℕ → LoadEffect

@@ -16,10 +16,8 @@ use Rattle.wing_listing.specs.Reading.{is_line, line_fault, Reading, good, bad, 
 use Rattle.wing_listing.specs.declared.integer.IntegerRead.{IntegerRead}
 use Rattle.wing_listing.specs.declared.line.Line.{Line}
 use Rattle.wing_listing.specs.declared.line.Judged.{Judged}
-use Rattle.wing_listing.specs.declared.scan.Scanned.{Scanned}
-use Rattle.wing_listing.specs.declared.answer.Loaded.{Loaded}
-use Rattle.wing_listing.specs.declared.answer.Loaded.TheVariants.{Records, Refused}
 use Rattle.wing_node.specs.declared.refusal.Refusal.TheVariants.{NoPlace, NumberOver, TableUnsound}
+use Rattle.wing_listing.specs.Answers.{Loaded}
 
 -- ---- integers
 
@@ -71,30 +69,22 @@ judged_as before line = record { fault = line_fault before line; id = (integer_r
 -- ---- a text
 
 -- a text that is sent back
-abbrev pub scanned_bad : Refusal → ℕ → Scanned
-scanned_bad why line = record { fault = because why; line = line; count = 0 }
+abbrev pub scanned_bad : Refusal → ℕ → Loaded
+scanned_bad why line = Err (record { why = why; line = line })
 
 -- what is wrong with it, or how many entries it has
-unfoldable pub scanned_as : Reading → Scanned
-scanned_as (good es) = record { fault = no_fault; line = 0; count = length es }
+unfoldable pub scanned_as : Reading → Loaded
+scanned_as (good es) = Ok (length es)
 scanned_as (bad why line) = scanned_bad why line
 
--- 6 where the records outnumber the places; a text that is sent back has count 0 and stays what it is
-unfoldable pub fitting : Scanned → ℕ → Scanned
-fitting s places = if (leb s.count places) s (scanned_bad NoPlace 0)
+-- 6 where the records outnumber the places; a text that is sent back stays what it is
+unfoldable pub fitting : Loaded → ℕ → Loaded
+fitting (Ok n) places = if (leb n places) (Ok n) (scanned_bad NoPlace 0)
+fitting (Err b) places = Err b
 
 -- all that a load is refused for, as `load_of` has it
-unfoldable pub checked_as : List ℕ → ℕ → Scanned
+unfoldable pub checked_as : List ℕ → ℕ → Loaded
 checked_as text places = if (places_allowed places) (if (leb (length text) 65536) (fitting (scanned_as (reading_of text)) places) (scanned_bad NumberOver 0)) (scanned_bad TableUnsound 0)
-
--- the answer of a load, by what is wrong
-abbrev pub loaded_by : Fault → Scanned → Loaded
-loaded_by (Ok u) s = Records s.count
-loaded_by (Err why) s = Refused why s.line
-
--- the answer of a load
-unfoldable pub loaded_as : Scanned → Loaded
-loaded_as s = loaded_by s.fault s
 
 -- ---- records
 

@@ -1,5 +1,5 @@
 // 02: integers fit 32 bits and have no leading zero, no plus sign and no minus zero.
-ghost use Rattle.std.specs.Prelude.{◌≡◌, min};
+ghost use Rattle.std.specs.Prelude.{◌≡◌};
 ghost use Rattle.wing_listing.specs.Integers.{no_leading_zero};
 ghost use Rattle.wing_listing.specs.Steps.{number_up_to, not_read, natural_read, negative_read, integer_read};
 
@@ -15,28 +15,16 @@ pub struct IntegerRead {
 // More than any number that fits.
 const TOO_MUCH: u64 = 0x1_0000_0000;
 
-fn least(a: u64, b: u64) -> u64
-    ensures { result ≡ min a b }
-{
-    if a < b { a } else { b }
-}
-
 // The number that digits spell; 2^32 for one that is no less, and for a text that is not of digits alone.
 fn number_in(s: &[u8]) -> u64
     ensures { result ≡ number_up_to s.now }
 {
     let mut n: u64 = 0;
-    let mut i = 0;
-    while i < s.len() {
-        let a = s[i];
-        if a < 0x30 {
+    for a in s {
+        if !a.is_ascii_digit() {
             return TOO_MUCH;
         }
-        if a > 0x39 {
-            return TOO_MUCH;
-        }
-        n = least(n * 10 + (a - 0x30) as u64, TOO_MUCH);
-        i += 1;
+        n = (n * 10 + u64::from(*a - b'0')).min(TOO_MUCH);
     }
     n
 }
@@ -51,16 +39,11 @@ fn not_read() -> IntegerRead
 }
 
 // 02: 0 comes first only alone.
+#[tactic(auto, unfolding(crate::specs::Integers::no_leading_zero))]
 fn is_led(s: &[u8]) -> bool
     ensures { result ≡ no_leading_zero s.now }
 {
-    if s.len() == 0 {
-        return false;
-    }
-    if s.len() == 1 {
-        return true;
-    }
-    s[0] != 0x30
+    s.len() == 1 || 1 < s.len() && s[0] != b'0'
 }
 
 fn natural_in(s: &[u8]) -> IntegerRead
@@ -82,15 +65,13 @@ fn natural_in(s: &[u8]) -> IntegerRead
 fn negative_in(s: &[u8]) -> IntegerRead
     ensures { result ≡ negative_read s.now }
 {
-    if s.len() > 0 {
-        if s[0] != 0x30 {
-            let n = number_in(s);
-            if n <= 0x8000_0000 {
-                return IntegerRead {
-                    formed: true,
-                    value: to_i32((TOO_MUCH - n) as u32),
-                };
-            }
+    if s.len() > 0 && s[0] != b'0' {
+        let n = number_in(s);
+        if n <= 0x8000_0000 {
+            return IntegerRead {
+                formed: true,
+                value: to_i32((TOO_MUCH - n) as u32),
+            };
         }
     }
     not_read()
@@ -99,10 +80,8 @@ fn negative_in(s: &[u8]) -> IntegerRead
 pub(crate) fn integer_in(s: &[u8]) -> IntegerRead
     ensures { result ≡ integer_read s.now }
 {
-    if s.len() > 0 {
-        if s[0] == 0x2d {
-            return negative_in(&s[1..]);
-        }
+    if s.len() > 0 && s[0] == b'-' {
+        return negative_in(&s[1..]);
     }
     natural_in(s)
 }

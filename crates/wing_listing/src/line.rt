@@ -31,14 +31,7 @@ pub struct Judged {
 pub(crate) fn find(s: &[u8], b: u8) -> usize
     ensures { result ≡ length (part b 0 s.now) }
 {
-    let mut i = 0;
-    while i < s.len() {
-        if s[i] == b {
-            return i;
-        }
-        i += 1;
-    }
-    i
+    s.iter().position(|a| *a == b).unwrap_or(s.len())
 }
 
 fn is_value(kind: u8, s: &[u8]) -> bool
@@ -105,6 +98,7 @@ fn value_fault(kind: u8, s: &[u8]) -> Result<(), Refusal>
 }
 
 // 02: above the id before, if there is one.
+#[tactic(auto, unfolding(crate::specs::Reading::above, crate::specs::Steps::id_before))]
 fn rises(any: bool, before: i32, id: i32) -> bool
     ensures { result ≡ above (id_before any before) id }
 {
@@ -134,7 +128,7 @@ pub(crate) fn judge(s: &[u8], any: bool, before: i32) -> Judged
     let l = line_in(s);
     let id = l.id;
     let fault = form_fault(l.formed, rises(any, before, id));
-    if is_refused(fault) {
+    if fault.is_err() {
         return Judged {
             fault: fault,
             id: id,

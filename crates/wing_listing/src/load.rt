@@ -4,13 +4,13 @@ ghost use Rattle.wing_mirror.specs.Rows.{laid};
 ghost use Rattle.wing_mirror.specs.Record.{width, record_of};
 ghost use Rattle.wing_mirror.specs.Table.{places_allowed};
 ghost use Rattle.wing_listing.specs.Reading.{reading_of, entries_in};
-ghost use Rattle.wing_listing.specs.Steps.{checked_as, loaded_as};
+ghost use Rattle.wing_listing.specs.Steps.{checked_as};
 ghost use Rattle.wing_listing.specs.Calls.{load_effect, load_of};
 
 use crate::answer::{LoadReply, Loaded};
 use crate::line::find;
-use crate::place::lay_line;
-use crate::scan::{Scanned, bad, scan};
+use crate::place::record_in;
+use crate::scan::{bad, scan};
 use wing_mirror::table::places;
 use wing_node::refusal::Refusal;
 use wing_wire::state::State;
@@ -18,30 +18,29 @@ use wing_wire::state::State;
 // The header's line.
 const HEADER: usize = 14;
 
+#[tactic(auto, unfolding(wing_mirror::specs::Table::places_allowed))]
 fn is_allowed(places: usize) -> bool
     ensures { result ≡ places_allowed places }
 {
-    if 1 <= places {
-        return places <= 1024;
-    }
-    false
+    1 <= places && places <= 1024
 }
 
-// All that a load is refused for. 02: 7, 14, the first bad line, 6.
-fn check(text: &[u8], places: usize) -> Scanned
+// How many entries a text has that may be loaded. 02: 7, 14, the first bad line, 6.
+#[tactic(auto, unfolding(crate::specs::Steps::checked_as, crate::specs::Steps::fitting))]
+fn check(text: &[u8], places: usize) -> Loaded
     ensures { result ≡ checked_as text.now places }
 {
-    if is_allowed(places) {
-        if text.len() <= 65536 {
-            let s = scan(text);
-            if s.count <= places {
-                return s;
-            }
-            return bad(Refusal::NoPlace, 0);
-        }
+    if !is_allowed(places) {
+        return bad(Refusal::TableUnsound, 0);
+    }
+    if text.len() > 65536 {
         return bad(Refusal::NumberOver, 0);
     }
-    bad(Refusal::TableUnsound, 0)
+    let count = scan(text)?;
+    if count > places {
+        return bad(Refusal::NoPlace, 0);
+    }
+    Ok(count)
 }
 
 // The first lines after the header, each as the record of its number.
@@ -50,26 +49,11 @@ fn lay_lines(table: &mut [u8], text: &[u8], count: usize)
     ensures { table.new ≡ laid width (map record_of (take count (entries_in (reading_of text.now)))) table.old }
 {
     let mut at = HEADER;
-    let mut number = 0;
-    while number < count {
+    for number in 0..count {
         let end = at + find(&text[at..], 0x0a);
         let from = State::PLACE_WIDTH * number;
-        lay_line(&mut table[from..from + State::PLACE_WIDTH], &text[at..end]);
+        table[from..from + State::PLACE_WIDTH].copy_from_slice(&record_in(&text[at..end]));
         at = end + 1;
-        number += 1;
-    }
-}
-
-fn answer(s: Scanned) -> Loaded
-    ensures { result ≡ loaded_as s }
-{
-    let fault = s.fault;
-    match fault {
-        Ok(()) => Loaded::Records(s.count),
-        Err(why) => Loaded::Refused {
-            why: why,
-            line: s.line,
-        },
     }
 }
 
@@ -77,11 +61,13 @@ fn answer(s: Scanned) -> Loaded
 pub fn load(text: &[u8], table: &mut [u8]) -> LoadReply
     ensures { load_effect result table.new ≡ load_of text.now table.old }
 {
-    let s = check(text, places(table));
-    lay_lines(table, text, s.count);
-    let a = answer(s);
+    let answer = check(text, places(table));
+    match answer {
+        Ok(count) => lay_lines(table, text, count),
+        Err(_) => {}
+    }
     LoadReply {
-        answer: a,
+        answer,
         state: State::fresh(),
     }
 }

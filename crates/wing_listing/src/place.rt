@@ -1,6 +1,6 @@
 // A line of text as a record in its place.
-ghost use Rattle.std.specs.Prelude.{◌≡◌, true, length, replicate};
-ghost use Rattle.wing_mirror.specs.Record.{width, kind_of, payload_of, laid_from, record_of};
+ghost use Rattle.std.specs.Prelude.{◌≡◌, true};
+ghost use Rattle.wing_mirror.specs.Record.{kind_of, payload_of, laid_from, record_of};
 ghost use Rattle.wing_node.specs.Refusal.{no_fault};
 ghost use Rattle.wing_listing.specs.Reading.{is_value, value_said, value_fault, is_line, entry_said};
 ghost use Rattle.wing_listing.specs.Steps.{kind_of_letter};
@@ -9,28 +9,19 @@ use crate::hex::lay_bytes;
 use crate::integer::integer_in;
 use crate::line::line_in;
 use wing_node::field::{put_i32, put_u16};
-use wing_node::refusal::Refusal;
+use wing_wire::state::State;
 
 // The kind of a letter that is not i.
+#[tactic(auto, unfolding(crate::specs::Steps::kind_of_letter))]
 fn kind_of(letter: u8) -> u8
     ensures { result ≡ kind_of_letter letter }
 {
     if letter == 0x66 { 1 } else { 2 }
 }
 
-fn zero(out: &mut [u8])
-    ensures { out.new ≡ replicate (length out.old) 0 }
-{
-    let mut i = 0;
-    while i < out.len() {
-        out[i] = 0;
-        i += 1;
-    }
-}
-
 // Kind, length and payload.
-fn lay_said(out: &mut [u8], kind: u8, s: &[u8])
-    requires { (length out.old ≡ width) × (is_value kind s.now ≡ true) × (value_fault (value_said kind s.now) ≡ no_fault) }
+fn lay_said(out: &mut [u8; State::PLACE_WIDTH], kind: u8, s: &[u8])
+    requires { (is_value kind s.now ≡ true) × (value_fault (value_said kind s.now) ≡ no_fault) }
     ensures { out.new ≡ laid_from out.old (kind_of (value_said kind s.now)) (payload_of (value_said kind s.now)) }
 {
     if kind == 0x69 {
@@ -46,13 +37,13 @@ fn lay_said(out: &mut [u8], kind: u8, s: &[u8])
 }
 
 // A line as a record. 02: its origin is one of the zeros, the console's.
-pub(crate) fn lay_line(out: &mut [u8], s: &[u8])
-    requires { (length out.old ≡ width) × (is_line s.now ≡ true) × (value_fault (entry_said s.now).value ≡ no_fault) }
-    ensures { out.new ≡ record_of (entry_said s.now) }
+pub(crate) fn record_in(s: &[u8]) -> [u8; State::PLACE_WIDTH]
+    requires { (is_line s.now ≡ true) × (value_fault (entry_said s.now).value ≡ no_fault) }
+    ensures { result ≡ record_of (entry_said s.now) }
 {
     let l = line_in(s);
-    zero(out);
-    put_i32(out, 0, l.id);
-    let from = l.from;
-    lay_said(out, l.kind, &s[from..]);
+    let mut out = [0u8; State::PLACE_WIDTH];
+    put_i32(&mut out, 0, l.id);
+    lay_said(&mut out, l.kind, &s[l.from..]);
+    out
 }

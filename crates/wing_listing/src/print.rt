@@ -26,10 +26,8 @@ fn lines_len(table: &[u8], count: usize) -> usize
 {
     let mut scratch = [0u8; LINE];
     let mut total = 0;
-    let mut i = 0;
-    while i < count {
-        total += print_record(&mut scratch, 0, table, i);
-        i += 1;
+    for number in 0..count {
+        total += print_record(&mut scratch, 0, table, number);
     }
     total
 }
@@ -38,12 +36,7 @@ fn lay_header(out: &mut [u8])
     requires { length (ended header) ≤ length out.old }
     ensures { out.new ≡ sets out.old 0 (ended header) }
 {
-    let text = b"id,kind,value\n";
-    let mut i = 0;
-    while i < text.len() {
-        out[i] = text[i];
-        i += 1;
-    }
+    out[..HEADER].copy_from_slice(b"id,kind,value\n");
 }
 
 // The header and then each record's line after the last one.
@@ -53,10 +46,8 @@ fn lay_listing(out: &mut [u8], table: &[u8], count: usize) -> usize
 {
     lay_header(out);
     let mut at = HEADER;
-    let mut number = 0;
-    while number < count {
+    for number in 0..count {
         at = print_record(out, at, table, number);
-        number += 1;
     }
     at
 }
@@ -66,10 +57,8 @@ pub fn print(table: &[u8], count: usize, out: &mut [u8]) -> Result<usize, Refusa
     ensures { write_effect result out.new ≡ print_of (table_of table.now count) out.old }
 {
     if is_usable(table, count) {
-        if out.len() < HEADER + LINE * count {
-            if out.len() < HEADER + lines_len(table, count) {
-                return Err(Refusal::OutputShort);
-            }
+        if out.len() < HEADER + LINE * count && out.len() < HEADER + lines_len(table, count) {
+            return Err(Refusal::OutputShort);
         }
         return Ok(lay_listing(out, table, count));
     }

@@ -22,6 +22,7 @@ fn row(table: &[u8], number: usize) -> &[u8]
 }
 
 // 01: the kind letters i, f, s.
+#[tactic(auto, unfolding(crate::specs::Steps::letter_in))]
 fn letter(kind: u8) -> u8
     ensures { result ≡ letter_in kind }
 {

@@ -1,34 +1,22 @@
 // A text looked through, before anything is written: the first bad line decides.
 ghost use Rattle.std.specs.Prelude.{◌≡◌};
 ghost use Rattle.wing_mirror.specs.Rows.{nothing};
-ghost use Rattle.wing_mirror.specs.Query.{same_bytes};
 ghost use Rattle.wing_listing.specs.Parts.{newline, parted};
 ghost use Rattle.wing_listing.specs.Reading.{lines_from, reading_of};
 ghost use Rattle.wing_listing.specs.Steps.{scanned_as, scanned_bad};
 
+use crate::answer::{BadLine, Loaded};
 use crate::line::{find, judge};
 use wing_node::refusal::Refusal;
 
-// What is wrong, if anything is, and with which line, 0 for none; and how many records are to be laid: none of a text that is sent back.
-#[derive(Clone, Copy)]
-pub struct Scanned {
-    pub fault: Result<(), Refusal>,
-    pub line: usize,
-    pub count: usize,
-}
-
-pub(crate) fn bad(why: Refusal, line: usize) -> Scanned
+pub(crate) fn bad(why: Refusal, line: usize) -> Loaded
     ensures { result ≡ scanned_bad why line }
 {
-    Scanned {
-        fault: Err(why),
-        line: line,
-        count: 0,
-    }
+    Err(BadLine { why, line })
 }
 
 // The lines after the header, which is line 1.
-fn scan_lines(text: &[u8]) -> Scanned
+fn scan_lines(text: &[u8]) -> Loaded
     ensures { result ≡ scanned_as (lines_from 2 nothing (parted newline text.now)) }
 {
     let mut at = 0;
@@ -40,8 +28,7 @@ fn scan_lines(text: &[u8]) -> Scanned
             return bad(Refusal::LineWrong, number);
         }
         let j = judge(&text[at..end], number > 2, before);
-        let fault = j.fault;
-        match fault {
+        match j.fault {
             Ok(()) => {}
             Err(why) => return bad(why, number),
         }
@@ -49,38 +36,16 @@ fn scan_lines(text: &[u8]) -> Scanned
         at = end + 1;
         number += 1;
     }
-    Scanned {
-        fault: Ok(()),
-        line: 0,
-        count: number - 2,
-    }
+    Ok(number - 2)
 }
 
-fn is_same(a: &[u8], b: &[u8]) -> bool
-    ensures { result ≡ same_bytes a.now b.now }
-{
-    if a.len() != b.len() {
-        return false;
-    }
-    let mut i = 0;
-    while i < a.len() {
-        if a[i] != b[i] {
-            return false;
-        }
-        i += 1;
-    }
-    true
-}
-
-pub(crate) fn scan(text: &[u8]) -> Scanned
+// How many entries a text has, or its first bad line.
+pub(crate) fn scan(text: &[u8]) -> Loaded
     ensures { result ≡ scanned_as (reading_of text.now) }
 {
     let n = find(text, 0x0a);
-    if n < text.len() {
-        if is_same(&text[..n], b"id,kind,value") {
-            return scan_lines(&text[n + 1..]);
-        }
-        return bad(Refusal::LineWrong, 1);
+    if n < text.len() && text[..n] == b"id,kind,value"[..] {
+        return scan_lines(&text[n + 1..]);
     }
     bad(Refusal::LineWrong, 1)
 }

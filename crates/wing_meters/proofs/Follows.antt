@@ -1,5 +1,5 @@
 -- Readings one after the other: the window after them, each answer, and the rows of figures laid into an output.
-use Prim.Native.Nat.{ℕ, suc, ◌+◌, ◌*◌, ◌≤◌, ◌<◌}
+use Prim.Native.Nat.{ℕ, suc, ◌+◌, ◌-◌, ◌*◌, ◌≤◌, ◌<◌}
 use mathlib.Core.Bool.{true, false}
 use mathlib.Core.Logic.{⊎_elim}
 use mathlib.Core.Path.{◌≡◌, refl, sym, ap, ◌∙◌}
@@ -8,8 +8,10 @@ use native.Mathlib.Omega.{arith}
 use native.Mathlib.Numerals.{add-one}
 use lib.Dec.{ltb}
 use lib.IntN.{ℤ, pos}
-use lib.ListN.{length, take, drop, set, get_or, length-append, length-set, take-append-drop, drop_of_length-le}
-use lib.Seq.{drop-cons, sets, sets-eq, length-sets, length-take-le, take_at, drop_at, drop-drop}
+use lib.ListN.{length, take, drop, get_or, length-append, length-set, take-append-drop, drop_of_length-le}
+use lib.Seq.{drop-cons, sets, sets-eq, length-sets, length-take-le, take_at, drop_at, drop-drop, take_all}
+use borrow.Rule.Slice.PartMut.{put_mid}
+use Rattle.std.proofs.lemmas.Slice.{put_mid-paste}
 use borrow.Author.Tests.{lt-ltb, le-ltb, ne_eqb}
 use Rattle.wing_node.specs.Bool.{if}
 use Rattle.wing_meters.specs.Afresh.{figures_of}
@@ -102,14 +104,10 @@ module _ (out row : List ℤ) (i : ℕ) (five : length row ≡ 5) (room : 5 * i 
 pub rest-on : (out : List ℤ) (i : ℕ) → drop 5 (drop (5 * i) out) ≡ drop (5 * (i + 1)) out
 rest-on out i = let e : 5 * i + 5 ≡ 5 * (i + 1) = omega arith in drop-drop 5 (5 * i) out ∙ ap (λ (n : ℕ). drop n out) e
 
--- five stores in a row are one row laid
-pub five-stores : (out : List ℤ) (i : ℕ) (a b c d e : ℤ) → set (set (set (set (set out i a) (i + 1) b) (i + 2) c) (i + 3) d) (i + 4) e ≡ sets out i (a ∷ b ∷ c ∷ d ∷ e ∷ [])
-five-stores out i a b c d e =
-    let one : i + 1 ≡ suc i = omega arith in
-    let two : i + 2 ≡ suc (suc i) = omega arith in
-    let three : i + 3 ≡ suc (suc (suc i)) = omega arith in
-    let four : i + 4 ≡ suc (suc (suc (suc i))) = omega arith in
-    rw (one, two, three, four)
+-- a row copied over the five places of a reading
+pub row-laid : (out row : List ℤ) (i : ℕ) → length row ≡ 5 → 5 * i + 5 ≤ length out → put_mid (5 * i) (5 * i + 5 - 5 * i) out row ≡ sets out (5 * i) row
+row-laid out row i e room =
+    put_mid-paste (5 * i) (5 * i + 5 - 5 * i) out row row (length row) refl (omega arith) refl ∙ rw (take_all (length row) row (omega arith)) (sym (sets-eq row out (5 * i) (omega arith)))
 
 -- ---- as the readings go in one by one
 

@@ -1,7 +1,7 @@
 -- Readings and levels: that they are told by each other, and that sum, quotient, remainder and largest of readings are those of the levels, lowered.
 use Prim.Native.Nat.{ℕ, suc, ◌+◌, ◌-◌, ◌*◌, ◌/◌, ◌%◌, ◌≤◌, ◌<◌, max}
 use mathlib.Core.Bool.{Bool, true, false, cond}
-use mathlib.Core.Path.{◌≡◌, refl, sym, ap, ◌∙◌, subst}
+use mathlib.Core.Path.{◌≡◌, refl, sym, ap, ◌∙◌}
 use mathlib.Core.List.{List, [], ◌∷◌, map}
 use native.Mathlib.Omega.{arith}
 use native.Mathlib.Nat.{suc-mul, add-mul, mod-lt, div-add-mod', mod-eq_of_lt, mul-add-mod_self_right, mul-add-div_right, div-eq_of_lt}
@@ -11,7 +11,7 @@ use lib.ListN.{length}
 use lib.Signed.{lt_z}
 use borrow.Author.Tests.{lt-ltb, le-ltb, ltb-true, ltb-false}
 use Rattle.wing_node.specs.Bool.{if}
-use Rattle.wing_node.specs.Signed.{signed, unsigned, InBits}
+use Rattle.wing_node.specs.Signed.{InBits}
 use Rattle.wing_meters.specs.Afresh.{total, quotient, remainder, larger, largest}
 use Rattle.wing_meters.specs.Level.{level_of, reading_at, lowered, added, greatest}
 
@@ -33,31 +33,6 @@ sub_cases a b P below above = go (ltb a b) refl
 
 -- ---- a reading and its level
 
-pub level-low : (x : ℤ) → InBits 15 x → unsigned 15 x < 32768 → level_of x ≡ unsigned 15 x + 32768
-level-low (pos n) h u = refl
-level-low (negsuc n) h u = absurd (omega arith)
-
-pub level-high : (x : ℤ) → InBits 15 x → 32768 ≤ unsigned 15 x → level_of x ≡ unsigned 15 x - 32768
-level-high (pos n) h u = absurd (omega arith)
-level-high (negsuc n) h u = let e : nat_abs (sub_ℕ 32768 (suc n)) ≡ 32768 - suc n = simp (sub-above 32768 (suc n) (omega arith)) in e ∙ omega arith
-
-pub reading-low : (l : ℕ) → l < 32768 → signed 15 (l + 32768) ≡ reading_at l
-reading-low l h =
-    let e : 65536 - suc (l + 32768) ≡ 32768 - suc l = omega arith in
-    simp (le-ltb (l + 32768) 32768 (omega arith), sub-below l 32768 h, e)
-
-pub reading-high : (l : ℕ) → l < 65536 → 32768 ≤ l → signed 15 (l - 32768) ≡ reading_at l
-reading-high l b h = simp (lt-ltb (l - 32768) 32768 (omega arith), sub-above l 32768 h)
-
--- the same of a sum of 32 bits
-pub lowered-below : (s n : ℕ) → n ≤ 256 → s < 32768 * n → signed 31 (0xffffffff - (32768 * n - s - 1)) ≡ lowered s n
-lowered-below s n b h =
-    let e : 4294967296 - suc (0xffffffff - (32768 * n - s - 1)) ≡ 32768 * n - suc s = omega arith in
-    simp (le-ltb (0xffffffff - (32768 * n - s - 1)) 2147483648 (omega arith), sub-below s (32768 * n) h, e)
-
-pub lowered-above : (s n : ℕ) → s < 2147483648 → 32768 * n ≤ s → signed 31 (s - 32768 * n) ≡ lowered s n
-lowered-above s n b h = simp (lt-ltb (s - 32768 * n) 2147483648 (omega arith), sub-above s (32768 * n) h)
-
 pub reading-level : (x : ℤ) → InBits 15 x → reading_at (level_of x) ≡ x
 reading-level (pos n) h = sub-above (n + 32768) 32768 (omega arith) ∙ ap pos (omega arith)
 reading-level (negsuc n) h =
@@ -72,12 +47,6 @@ level-reading l =
     simp (sub-above 32768 (suc (32768 - suc l)) (omega arith)) in
     e ∙ omega arith)
     (λ h. omega arith)
-
-pub level-below : (x : ℤ) → InBits 15 x → level_of x < 65536
-level-below (pos n) h = omega arith
-level-below (negsuc n) h =
-    let e : nat_abs (sub_ℕ 32768 (suc n)) ≡ 32768 - suc n = simp (sub-above 32768 (suc n) (omega arith)) in
-    subst (λ (m : ℕ). m < 65536) (sym e) (omega arith)
 
 pub reading-in : (l : ℕ) → l < 65536 → InBits 15 (reading_at l)
 reading-in l b = sub_cases l 32768 (InBits 15) (λ h. omega arith) (λ h. omega arith)

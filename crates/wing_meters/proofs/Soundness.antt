@@ -6,7 +6,7 @@ use mathlib.Core.Path.{◌≡◌, sym, ◌∙◌}
 use native.Mathlib.Omega.{arith}
 use lib.Dec.{ltb, eqb}
 use lib.ListN.{drop}
-use borrow.Author.Tests.{lt-ltb, le-ltb, ltb-true, ltb-false, eq-eqb, ne_eqb, eqb-true}
+use borrow.Author.Tests.{lt-ltb, le-ltb, ltb-true, ltb-false, eq-eqb, eqb-true}
 use Rattle.wing_node.specs.Bool.{and}
 use Rattle.wing_node.proofs.Branches.{branch, and_left, and_right}
 use Rattle.wing_meters.specs.Level.{added, greatest}
@@ -108,24 +108,8 @@ module _ (c : Control) (p : Placed c) where
   pub next-below : c.next < c.width
   next-below = ⊎_elim (λ u. omega (arith, u.0, u.1)) (λ f. f.1) p.place
 
--- ---- as the test goes
-
-module _ (w : Window) (control : sound_control w.control ≡ true) where
-  pub summed-wrong : (added w.levels ≡ w.control.sum → ⊥) → sound_window w ≡ false
-  unfolding sound_window
-  summed-wrong d = simp (control, ne_eqb (added w.levels) w.control.sum d)
-
-  module _ (sum : added w.levels ≡ w.control.sum) where
-    pub topped-wrong : (greatest w.levels ≡ w.control.top → ⊥) → sound_window w ≡ false
-    unfolding sound_window
-    topped-wrong d =
-        simp (control, eq-eqb (added w.levels) w.control.sum sum, ne_eqb (greatest w.levels) w.control.top d)
-
-    pub unused-tested : greatest w.levels ≡ w.control.top → sound_window w ≡ eqb (greatest (drop w.control.held w.levels)) 0
-    unfolding sound_window
-    unused-tested e =
-        simp (control, eq-eqb (added w.levels) w.control.sum sum, eq-eqb (greatest w.levels) w.control.top e)
-
-pub control-wrong : (w : Window) → sound_control w.control ≡ false → sound_window w ≡ false
+-- the last test, where the others passed
+pub unused-tested : (w : Window) → sound_control w.control ≡ true → added w.levels ≡ w.control.sum → greatest w.levels ≡ w.control.top →
+    sound_window w ≡ eqb (greatest (drop w.control.held w.levels)) 0
 unfolding sound_window
-control-wrong w e = simp e
+unused-tested w control sum top = simp (control, eq-eqb (added w.levels) w.control.sum sum, eq-eqb (greatest w.levels) w.control.top top)

@@ -5,8 +5,10 @@ use mathlib.Core.List.{List, [], ◌∷◌, ◌++◌}
 use native.Mathlib.Omega.{arith}
 use native.Mathlib.Nat.{mul-suc}
 use native.Mathlib.Numerals.{add-one}
-use lib.ListN.{length, take, drop, get_or, set, take-append-drop, drop_of_length-le}
+use lib.ListN.{length, take, drop, get_or, set, take-append-drop}
 use lib.Seq.{set_split, split_at, drop-cons}
+use Rattle.std.specs.List.{fold, sum_by}
+use Rattle.std.proofs.lemmas.List.Recursion.{is_sum_by}
 use Rattle.wing_meters.specs.Level.{added, greatest}
 use Rattle.wing_meters.specs.Window.{in_order}
 use Rattle.wing_meters.specs.Kept.{TopBefore}
@@ -21,10 +23,6 @@ unfolding greatest
 greatest-append [] b = omega arith
 greatest-append (l ∷ a) b = let e = greatest-append a b in omega arith
 
-pub added-one : (l : ℕ) → added (l ∷ []) ≡ l
-unfolding added
-added-one l = omega arith
-
 pub added-cons : (l : ℕ) (ls : List ℕ) → added (l ∷ ls) ≡ l + added ls
 unfolding added
 added-cons l ls = refl
@@ -33,22 +31,22 @@ pub greatest-cons : (l : ℕ) (ls : List ℕ) → greatest (l ∷ ls) ≡ max l 
 unfolding greatest
 greatest-cons l ls = refl
 
+-- ---- as the library has them
+
+pub added-sum : (ls : List ℕ) → added ls ≡ sum_by (λ (x : ℕ). x) ls
+unfolding added
+added-sum = is_sum_by added (λ (x : ℕ). x) refl (λ _ _. refl)
+
+pub greatest-fold : (top : ℕ) (ls : List ℕ) → fold (λ (t l : ℕ). max t l) top ls ≡ max top (greatest ls)
+unfolding greatest
+greatest-fold top [] = omega arith
+greatest-fold top (l ∷ ls) = let e = greatest-fold (max top l) ls in omega arith
+
 -- ---- from a place on
 
 module _ (ls : List ℕ) (i : ℕ) where
-  pub added-from : i < length ls → added (drop i ls) ≡ get_or ls i 0 + added (drop (i + 1) ls)
-  added-from h = rw (add-one i) (ap added (drop-cons ls i 0 h) ∙ added-cons _ _)
-
   pub greatest-from : i < length ls → greatest (drop i ls) ≡ max (get_or ls i 0) (greatest (drop (i + 1) ls))
   greatest-from h = rw (add-one i) (ap greatest (drop-cons ls i 0 h) ∙ greatest-cons _ _)
-
-  pub added-end : length ls ≤ i → added (drop i ls) ≡ 0
-  unfolding added
-  added-end h = ap added (drop_of_length-le ls h)
-
-  pub greatest-end : length ls ≤ i → greatest (drop i ls) ≡ 0
-  unfolding greatest
-  greatest-end h = ap greatest (drop_of_length-le ls h)
 
 -- ---- one level replaced
 

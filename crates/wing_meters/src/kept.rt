@@ -1,6 +1,5 @@
 // The figures of the readings that are held, by what a window keeps up of them, and as a row of numbers.
-ghost use Rattle.std.specs.Prelude.{◌≡◌, length, ◌+◌, ◌*◌, ◌/◌, ◌≤◌, Ok};
-ghost use Rattle.std.proofs.lemmas.List.Edits.{sets};
+ghost use Rattle.std.specs.Prelude.{◌≡◌, ◌*◌, ◌/◌, ◌≤◌, Ok};
 ghost use Rattle.wing_meters.specs.Kept.{InRange, figures_kept, told_kept};
 ghost use Rattle.wing_meters.specs.Calls.{row_of};
 
@@ -32,6 +31,7 @@ pub(crate) fn figures_in(c: Control) -> Figures
 }
 
 // None where it holds none.
+#[tactic(auto, unfolding(crate::specs::Kept::told_kept))]
 pub(crate) fn tell(c: Control) -> Option<Figures>
     requires { InRange c }
     ensures { Ok result ≡ told_kept c }
@@ -42,19 +42,16 @@ pub(crate) fn tell(c: Control) -> Option<Figures>
     Some(figures_in(c))
 }
 
-// The five figures at a place, in their order.
-pub(crate) fn lay_row(out: &mut [i32], at: usize, f: Figures)
-    requires { at + 5 ≤ length out.old }
-    ensures { out.new ≡ sets out.old at (row_of f) }
+// The five figures, in their order.
+#[tactic(auto, unfolding(crate::specs::Calls::row_of))]
+pub(crate) fn row_of(f: Figures) -> [i32; 5]
+    ensures { result ≡ row_of f }
 {
-    let held = f.held as i32;
-    let sum = f.sum;
-    let mean = f.mean as i32;
-    let rest = f.rest as i32;
-    let top = f.top as i32;
-    out[at] = held;
-    out[at + 1] = sum;
-    out[at + 2] = mean;
-    out[at + 3] = rest;
-    out[at + 4] = top;
+    [
+        i32::from(f.held),
+        f.sum,
+        i32::from(f.mean),
+        i32::from(f.rest),
+        i32::from(f.top),
+    ]
 }

@@ -3,28 +3,17 @@
 ghost use Rattle.std.specs.Prelude.{◌≡◌, ◌*◌, ◌≤◌};
 ghost use Rattle.wing_meters.specs.Level.{level_of, reading_at, lowered};
 
-use wing_node::field::{of_i16, to_i16, to_i32};
-
 pub(crate) fn level_of(x: i16) -> u16
     ensures { result ≡ level_of x }
 {
-    let bits = of_i16(x);
-    if bits < 0x8000 {
-        bits + 0x8000
-    } else {
-        bits - 0x8000
-    }
+    x.abs_diff(i16::MIN)
 }
 
 // The reading of a level; so too the mean, which is the quotient of levels.
 pub(crate) fn reading_at(level: u16) -> i16
     ensures { result ≡ reading_at level }
 {
-    if level < 0x8000 {
-        to_i16(level + 0x8000)
-    } else {
-        to_i16(level - 0x8000)
-    }
+    (i32::from(level) - 0x8000) as i16
 }
 
 // The sum of so many readings by that of their levels.
@@ -32,9 +21,5 @@ pub(crate) fn sum_of(sum: u32, held: u16) -> i32
     requires { (held ≤ 256) × (sum ≤ 65535 * held) }
     ensures { result ≡ lowered sum held }
 {
-    let raised = 0x8000 * held as u32;
-    if sum < raised {
-        return to_i32(0xffff_ffff - (raised - sum - 1));
-    }
-    to_i32(sum - raised)
+    sum as i32 - 0x8000 * i32::from(held)
 }

@@ -6,7 +6,7 @@ ghost use Rattle.wing_meters.specs.Window.{window as window_of, taking, grown as
 ghost use Rattle.wing_meters.specs.Calls.{reading_of, after_all, answers, rows, followed as followed_of, rows_effect, readings_of};
 
 use crate::figures::Figures;
-use crate::kept::{figures_in, lay_row, tell};
+use crate::kept::{figures_in, row_of, tell};
 use crate::level::level_of;
 use crate::sound::{greatest, is_sound_lent};
 use crate::window::{Control, Window};
@@ -63,8 +63,8 @@ fn sum_after(sum: u32, left: u16, came: u16) -> u32
 }
 
 // One reading takes the next place; the sum and the largest are kept up.
-fn step(c: Control, levels: &mut [u16], x: i16) -> Control
-    requires { (length levels.old ≡ 256) × (sound_window (window_of c levels.old) ≡ true) }
+fn step(c: Control, levels: &mut [u16; 256], x: i16) -> Control
+    requires { sound_window (window_of c levels.old) ≡ true }
     ensures { (window_of result levels.new ≡ taking (window_of c levels.old) x) × InRange result }
 {
     let at = c.next as usize;
@@ -103,18 +103,15 @@ pub fn reading(w: Window, x: i16) -> Taken
     }
 }
 
-fn follow(c: Control, levels: &mut [u16], xs: &[i16], out: &mut [i32]) -> Control
-    requires { (length levels.old ≡ 256) × (sound_window (window_of c levels.old) ≡ true) × (5 * length xs.now ≤ length out.old) }
+fn follow(c: Control, levels: &mut [u16; 256], xs: &[i16], out: &mut [i32]) -> Control
+    requires { (sound_window (window_of c levels.old) ≡ true) × (5 * length xs.now ≤ length out.old) }
     ensures levels_after { window_of result levels.new ≡ after_all (window_of c levels.old) xs.now }
     ensures out_after { out.new ≡ rows (answers (window_of c levels.old) xs.now) ++ drop (5 * length xs.now) out.old }
 {
     let mut after = c;
-    let mut i = 0;
-    while i < xs.len() {
-        let x = xs[i];
-        after = step(after, levels, x);
-        lay_row(out, 5 * i, figures_in(after));
-        i += 1;
+    for (i, x) in xs.iter().enumerate() {
+        after = step(after, levels, *x);
+        out[5 * i..5 * i + 5].copy_from_slice(&row_of(figures_in(after)));
     }
     after
 }

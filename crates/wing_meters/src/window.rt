@@ -41,13 +41,11 @@ fn fresh(width: u16) -> Window
 }
 
 // 02: a width outside 1 to 256 is 19.
+#[tactic(auto, unfolding(crate::specs::Calls::made_of))]
 pub fn make(width: u32) -> Result<Window, Refusal>
     ensures { result ≡ made_of width }
 {
-    if width < 1 {
-        return Err(Refusal::WidthWrong);
-    }
-    if 256 < width {
+    if width < 1 || 256 < width {
         return Err(Refusal::WidthWrong);
     }
     Ok(fresh(width as u16))

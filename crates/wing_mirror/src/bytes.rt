@@ -7,11 +7,7 @@ pub(crate) fn lay(out: &mut [u8], at: usize, src: &[u8])
     requires { at + length src.now ≤ length out.old }
     ensures { out.new ≡ sets out.old at src.now }
 {
-    let mut i = 0;
-    while i < src.len() {
-        out[at + i] = src[i];
-        i += 1;
-    }
+    out[at..at + src.len()].copy_from_slice(src);
 }
 
 // The bytes from `from` to `end` go up by `w`: a gap of `w` bytes is open at `from`.
@@ -19,9 +15,5 @@ pub(crate) fn open_gap(buf: &mut [u8], from: usize, end: usize, w: usize)
     requires { (from ≤ end) × (end + w ≤ length buf.old) }
     ensures { buf.new ≡ take (from + w) buf.old ++ (take (end - from) (drop from buf.old) ++ drop (end + w) buf.old) }
 {
-    let mut i = end;
-    while from < i {
-        i -= 1;
-        buf[i + w] = buf[i];
-    }
+    buf.copy_within(from..end, from + w);
 }

@@ -34,61 +34,40 @@ pub(crate) fn zero_counts() -> Counts
 }
 
 // One more of them.
-pub(crate) fn tick(mut c: Counts, m: Mark) -> Counts
-    requires { total c < 4294967295 }
-    ensures { result ≡ tick_of m c }
+#[tactic(auto, unfolding(crate::specs::Counts::one, crate::specs::Counts::mark_number))]
+pub(crate) fn tick(c: &mut Counts, m: Mark)
+    requires { total c.old < 4294967295 }
+    ensures { c.new ≡ tick_of m c.old }
 {
     match m {
-        Mark::Stored => {
-            c.stored += 1;
-            c
-        }
-        Mark::Unplaced => {
-            c.unplaced += 1;
-            c
-        }
-        Mark::StringRefused => {
-            c.strings_refused += 1;
-            c
-        }
-        Mark::DefinitionRead => {
-            c.definitions_read += 1;
-            c
-        }
-        Mark::DefinitionRefused => {
-            c.definitions_refused += 1;
-            c
-        }
-        Mark::Ended => {
-            c.ends += 1;
-            c
-        }
-        Mark::Uncounted => c,
+        Mark::Stored => c.stored += 1,
+        Mark::Unplaced => c.unplaced += 1,
+        Mark::StringRefused => c.strings_refused += 1,
+        Mark::DefinitionRead => c.definitions_read += 1,
+        Mark::DefinitionRefused => c.definitions_refused += 1,
+        Mark::Ended => c.ends += 1,
+        Mark::Uncounted => {}
     }
 }
 
 // 01: refusal 1 is a string's, 2 to 5 are a definition's.
+#[tactic(auto, unfolding(crate::specs::Counts::refusal_mark))]
 pub(crate) fn refusal_mark(why: Refusal) -> Mark
     ensures { result ≡ refusal_mark (refusal_number why) }
 {
-    let n = why.number();
-    if n == 1 {
-        return Mark::StringRefused;
+    match why.number() {
+        1 => Mark::StringRefused,
+        2..=5 => Mark::DefinitionRefused,
+        _ => Mark::Uncounted,
     }
-    if 2 <= n {
-        if n <= 5 {
-            return Mark::DefinitionRefused;
-        }
-    }
-    Mark::Uncounted
 }
 
 // 01: each body goes through the parser.
+#[tactic(auto, unfolding(crate::specs::Counts::body_mark))]
 pub(crate) fn body_mark(body: &[u8]) -> Mark
     ensures { result ≡ body_mark (definition_of body.now) }
 {
-    let p = from_bytes(body);
-    match p {
+    match from_bytes(body) {
         Ok(_) => Mark::DefinitionRead,
         Err(why) => refusal_mark(why),
     }

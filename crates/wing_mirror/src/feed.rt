@@ -47,6 +47,7 @@ fn feed_on(
 }
 
 // Why a feed is refused, if it is. A store of another size than a state's is 8.
+#[tactic(auto, unfolding(crate::specs::Mirror::lent_feed, crate::specs::Mirror::mirror_feed))]
 fn feed_fault(
     c: Control,
     store: &[u8],
@@ -59,16 +60,16 @@ fn feed_fault(
     if store.len() != State::BODY_LIMIT {
         return Err(Refusal::StateUnsound);
     }
-    if is_sound_lent(c, store) {
-        if is_usable(table, count) {
-            if bytes.len() <= 65536 {
-                return Ok(());
-            }
-            return Err(Refusal::NumberOver);
-        }
+    if !is_sound_lent(c, store) {
+        return Err(Refusal::StateUnsound);
+    }
+    if !is_usable(table, count) {
         return Err(Refusal::TableUnsound);
     }
-    Err(Refusal::StateUnsound)
+    if bytes.len() > 65536 {
+        return Err(Refusal::NumberOver);
+    }
+    Ok(())
 }
 
 // A feed whose state's store is lent, so that nothing of it is copied. 01: a refused feed changes and counts nothing. 8, 7, 14.

@@ -5,12 +5,10 @@ ghost use Rattle.wing_mirror.specs.Form.{form_of};
 use crate::record;
 use wing_wire::state::State;
 
+#[tactic(auto, unfolding(crate::specs::Form::form_of))]
 pub(crate) fn formed(rec: &[u8], width: usize) -> bool
     requires { length rec.now ≡ width }
     ensures { result ≡ form_of width rec.now }
 {
-    if width == State::PLACE_WIDTH {
-        return record::well_formed(rec);
-    }
-    false
+    width == State::PLACE_WIDTH && record::well_formed(rec)
 }

@@ -27,15 +27,12 @@ pub struct Tally {
     pub counts: Counts,
 }
 
-fn mark(count: usize, counts: Counts, m: Mark) -> Tally
+fn mark(count: usize, mut counts: Counts, m: Mark) -> Tally
     requires { total counts < 4294967295 }
     ensures { result ≡ ticked count counts m }
 {
-    let c = tick(counts, m);
-    Tally {
-        count: count,
-        counts: c,
-    }
+    tick(&mut counts, m);
+    Tally { count, counts }
 }
 
 // 01: a value is stored at its node, or has no place. 02: it came from the console.

@@ -94,12 +94,10 @@ pub(crate) fn search(table: &[u8], width: usize, count: usize, key: u32) -> Posi
 }
 
 // The record after that of a number, if there is one, has a higher key.
+#[tactic(auto, unfolding(crate::specs::Rows::next_above))]
 pub(crate) fn is_below_next(table: &[u8], width: usize, count: usize, number: usize) -> bool
     requires { (4 ≤ width) × (width * count ≤ length table.now) × (number < count) }
     ensures { result ≡ next_above width key_of table.now count number }
 {
-    if number + 1 < count {
-        return key_at(table, width, number) < key_at(table, width, number + 1);
-    }
-    true
+    count <= number + 1 || key_at(table, width, number) < key_at(table, width, number + 1)
 }

@@ -6,7 +6,7 @@ ghost use Rattle.wing_mirror.specs.Entry.{entry};
 ghost use Rattle.wing_mirror.specs.Record.{width, key_of, entry_in, full};
 ghost use Rattle.wing_mirror.specs.Table.{table as table_of};
 ghost use Rattle.wing_mirror.specs.Order.{InOrder};
-ghost use Rattle.wing_mirror.specs.Query.{lookup_answer, answer_of, read_of, beside_zeros, record_answer, same_bytes, same_tables, same_answer};
+ghost use Rattle.wing_mirror.specs.Query.{lookup_answer, answer_of, read_of, beside_zeros, record_answer, same_tables, same_answer};
 
 use crate::answer::RecordRead;
 use crate::bytes::lay;
@@ -97,39 +97,21 @@ pub fn record(table: &[u8], count: usize, number: usize) -> Result<RecordRead, R
     Err(Refusal::TableUnsound)
 }
 
-fn same_bytes(a: &[u8], b: &[u8]) -> bool
-    requires { length a.now ≡ length b.now }
-    ensures { result ≡ same_bytes a.now b.now }
-{
-    let mut i = 0;
-    while i < a.len() {
-        if a[i] != b[i] {
-            return false;
-        }
-        i += 1;
-    }
-    true
-}
-
 fn same_records(a: &[u8], count_a: usize, b: &[u8], count_b: usize) -> bool
     requires { (width * count_a ≤ length a.now) × (width * count_b ≤ length b.now) }
     ensures { result ≡ same_tables full (table_of a.now count_a) (table_of b.now count_b) }
 {
-    if count_a == count_b {
-        let end = State::PLACE_WIDTH * count_a;
-        return same_bytes(&a[..end], &b[..end]);
-    }
-    false
+    let end = State::PLACE_WIDTH * count_a;
+    count_a == count_b && a[..end] == b[..end]
 }
 
 // 01: two mirrors are equal if count and records are, 02: origins included. 7 for either table.
+#[tactic(auto, unfolding(crate::specs::Query::same_answer))]
 pub fn same(a: &[u8], count_a: usize, b: &[u8], count_b: usize) -> Result<bool, Refusal>
     ensures { result ≡ same_answer full (table_of a.now count_a) (table_of b.now count_b) }
 {
-    if is_usable(a, count_a) {
-        if is_usable(b, count_b) {
-            return Ok(same_records(a, count_a, b, count_b));
-        }
+    if is_usable(a, count_a) && is_usable(b, count_b) {
+        return Ok(same_records(a, count_a, b, count_b));
     }
     Err(Refusal::TableUnsound)
 }

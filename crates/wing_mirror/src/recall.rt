@@ -58,10 +58,8 @@ fn orders_len(table: &[u8], count: usize) -> usize
 {
     let mut scratch = [0u8; 395];
     let mut total = 0;
-    let mut i = 0;
-    while i < count {
-        total += lay_order(&mut scratch, table, i);
-        i += 1;
+    for number in 0..count {
+        total += lay_order(&mut scratch, table, number);
     }
     total
 }
@@ -74,11 +72,8 @@ fn lay_recall(out: &mut [u8], table: &[u8], count: usize) -> usize
     out[0] = 0xdf;
     out[1] = 0xd1;
     let mut at = 2;
-    let mut number = 0;
-    while number < count {
-        let n = lay_order(&mut out[at..], table, number);
-        at += n;
-        number += 1;
+    for number in 0..count {
+        at += lay_order(&mut out[at..], table, number);
     }
     at
 }
@@ -88,10 +83,8 @@ pub fn recall(table: &[u8], count: usize, out: &mut [u8]) -> Result<usize, Refus
     ensures { write_effect result out.new ≡ recall_of full (table_of table.now count) out.old }
 {
     if is_usable(table, count) {
-        if out.len() < 2 + 395 * count {
-            if out.len() < 2 + orders_len(table, count) {
-                return Err(Refusal::OutputShort);
-            }
+        if out.len() < 2 + 395 * count && out.len() < 2 + orders_len(table, count) {
+            return Err(Refusal::OutputShort);
         }
         return Ok(lay_recall(out, table, count));
     }

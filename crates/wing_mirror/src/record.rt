@@ -18,11 +18,7 @@ use wing_wire::state::zeros_from;
 fn flip(bits: u32) -> u32
     ensures { result ≡ flipped bits }
 {
-    if bits < 0x8000_0000 {
-        bits + 0x8000_0000
-    } else {
-        bits - 0x8000_0000
-    }
+    bits.wrapping_add(0x8000_0000)
 }
 
 // Where an id stands in the order.
@@ -49,33 +45,25 @@ pub(crate) fn payload(rec: &[u8]) -> &[u8]
 }
 
 // A string's length is 0 to 256, its bytes are UTF-8, and 0 stands after them.
+#[tactic(auto, unfolding(crate::specs::Record::string_kept))]
 fn string_kept(n: u16, payload: &[u8]) -> bool
     requires { length payload.now ≡ 256 }
     ensures { result ≡ string_kept n payload.now }
 {
-    if n <= 256 {
-        let len = n as usize;
-        if zeros_from(payload, len) {
-            return is_utf8(&payload[..len]);
-        }
-    }
-    false
+    let len = n as usize;
+    len <= 256 && zeros_from(payload, len) && is_utf8(&payload[..len])
 }
 
+#[tactic(auto, unfolding(crate::specs::Record::well_kept))]
 fn well_kept(kind: u8, n: u16, payload: &[u8]) -> bool
     requires { length payload.now ≡ 256 }
     ensures { result ≡ well_kept kind n payload.now }
 {
-    if kind <= 1 {
-        if n == 4 {
-            return zeros_from(payload, 4);
-        }
-        return false;
+    match kind {
+        0 | 1 => n == 4 && zeros_from(payload, 4),
+        2 => string_kept(n, payload),
+        _ => false,
     }
-    if kind == 2 {
-        return string_kept(n, payload);
-    }
-    false
 }
 
 pub(crate) fn well_formed(rec: &[u8]) -> bool
@@ -83,10 +71,7 @@ pub(crate) fn well_formed(rec: &[u8]) -> bool
     ensures { result ≡ well_formed rec.now }
 {
     let origin = rec[5];
-    if origin <= 1 {
-        return well_kept(rec[4], field::u16_at(rec, 6), payload(rec));
-    }
-    false
+    origin <= 1 && well_kept(rec[4], field::u16_at(rec, 6), payload(rec))
 }
 
 pub(crate) fn id_in(rec: &[u8]) -> i32
@@ -101,13 +86,11 @@ pub(crate) fn value_in(rec: &[u8]) -> Value
     requires { length rec.now ≡ width }
     ensures { node_value result (payload_in rec.now) ≡ value_in rec.now }
 {
-    if rec[4] == 0 {
-        return Value::Integer(field::i32_at(rec, 8));
+    match rec[4] {
+        0 => Value::Integer(field::i32_at(rec, 8)),
+        1 => Value::Float(field::u32_at(rec, 8)),
+        _ => Value::String(field::u16_at(rec, 6)),
     }
-    if rec[4] == 1 {
-        return Value::Float(field::u32_at(rec, 8));
-    }
-    Value::String(field::u16_at(rec, 6))
 }
 
 // 02: who gave its value.

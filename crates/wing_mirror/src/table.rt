@@ -17,14 +17,12 @@ pub fn places(table: &[u8]) -> usize
 }
 
 // The record of a number has the form of its width, and the next one is above it.
+#[tactic(auto, unfolding(crate::specs::Table::passes_at))]
 fn passes(table: &[u8], width: usize, count: usize, number: usize) -> bool
     requires { (4 ≤ width) × (width * count ≤ length table.now) × (number < count) }
     ensures { result ≡ passes_at width key_of (form_of width) table.now count number }
 {
-    if formed(row(table, width, number), width) {
-        return is_below_next(table, width, count, number);
-    }
-    false
+    formed(row(table, width, number), width) && is_below_next(table, width, count, number)
 }
 
 // The records have their form and order.
@@ -32,38 +30,29 @@ fn all_pass(table: &[u8], width: usize, count: usize) -> bool
     requires { (4 ≤ width) × (width * count ≤ length table.now) }
     ensures { result ≡ checked_of key_of (form_of width) (records width count table.now) }
 {
-    let mut i = 0;
-    while i < count {
-        if passes(table, width, count, i) {
-            i += 1;
-        } else {
+    for number in 0..count {
+        if !passes(table, width, count, number) {
             return false;
         }
     }
     true
 }
 
+#[tactic(auto, unfolding(crate::specs::Table::sound_of))]
 fn is_sound_of(table: &[u8], width: usize, count: usize) -> bool
     requires { 4 ≤ width }
     ensures { result ≡ sound_of width key_of (form_of width) (table_of table.now count) }
 {
-    if count <= places_of(table, width) {
-        return all_pass(table, width, count);
-    }
-    false
+    count <= places_of(table, width) && all_pass(table, width, count)
 }
 
+#[tactic(auto, unfolding(crate::specs::Table::usable_of, crate::specs::Table::places_allowed))]
 fn is_usable_of(table: &[u8], width: usize, count: usize) -> bool
     requires { 4 ≤ width }
     ensures { result ≡ usable_of width key_of (form_of width) (table_of table.now count) }
 {
     let n = places_of(table, width);
-    if 1 <= n {
-        if n <= 1024 {
-            return is_sound_of(table, width, count);
-        }
-    }
-    false
+    1 <= n && n <= 1024 && is_sound_of(table, width, count)
 }
 
 // 01: the count is at most the places, the records have their form and order, and strings are UTF-8.

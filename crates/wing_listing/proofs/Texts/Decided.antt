@@ -116,7 +116,7 @@ bad-from (suc m) n before text why line h e =
     go : length (part newline 0 text) < length text → (f : Fault) → line_fault before (part newline 0 text) ≡ f →
         (lines_from (suc n) (found (id_said (part newline 0 text))) (parted newline (drop (length (part newline 0 text) + 1) text)) ≡ bad why line →
         BadFrom (suc n) (found (id_said (part newline 0 text))) (drop (length (part newline 0 text) + 1) text) why line) → BadFrom n before text why line
-    go k (Ok u) u ih = good-line n before text why line e k u ih
+    go k (Ok none) u ih = good-line n before text why line e k u ih
     go k (Err w) u ih = bad-line n before text why line e k w u
 
 -- ---- and the first bad line makes the reading

@@ -1,12 +1,13 @@
 -- What is left of a text from a place on.
 use Prim.Native.Nat.{ℕ, zero, suc, ◌+◌, ◌-◌, ◌≤◌, ◌<◌}
 use mathlib.Core.Path.{◌≡◌, refl, ◌∙◌, ap}
-use mathlib.Core.Bool.{Bool, true, false}
+use mathlib.Core.Bool.{Bool, true, false, ◌&&◌}
 use mathlib.Core.List.{List, [], ◌∷◌}
 use native.Mathlib.Omega.{arith}
 use lib.Dec.{eqb}
 use lib.ListN.{length, get_or, take, drop, length-drop}
 use lib.Seq.{drop-cons, take_all}
+use Rattle.std.specs.List.{list_all}
 use Rattle.wing_node.specs.Bool.{if}
 use Rattle.wing_node.proofs.Branches.{if-both}
 use Rattle.wing_mirror.specs.Table.{every}
@@ -31,9 +32,15 @@ every-at p [] i h e = absurd (omega arith)
 every-at p (a ∷ s) zero h e = (if-both (p a) (every p s) e).0
 every-at p (a ∷ s) (suc i) h e = every-at p s i (omega arith) (if-both (p a) (every p s) e).1
 
-pub every-next : (p : ℕ → Bool) (s : List ℕ) (i : ℕ) → i < length s → every p (drop i s) ≡ if (p (get_or s i 0)) (every p (drop (i + 1) s)) false
+-- as the library has it
+pub every-all : (p : ℕ → Bool) (s : List ℕ) → every p s ≡ list_all p s
 unfolding every
-every-next p s i h = ap (every p) (drop-next s i h)
+every-all p [] = refl
+every-all p (a ∷ s) = rw (every-all p s) (go (p a) (list_all p s))
+  where
+    go : (t e : Bool) → if t e false ≡ (t && e)
+    go true e = refl
+    go false e = refl
 
 pub every-also : (p q : ℕ → Bool) (s : List ℕ) → ((a : ℕ) → p a ≡ true → q a ≡ true) → every p s ≡ true → every q s ≡ true
 unfolding every

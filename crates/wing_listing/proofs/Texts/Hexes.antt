@@ -32,10 +32,6 @@ pub hex-high : (a : ℕ) → 0x61 ≤ a → leb a 0x66 ≡ is_hex a
 unfolding is_hex
 hex-high a h = rw (digit-high a (omega arith), le-leb 0x61 a h)
 
-pub hex-middle : (a : ℕ) → 0x39 < a → a < 0x61 → false ≡ is_hex a
-unfolding is_hex
-hex-middle a h k = rw (digit-high a h, lt-leb 0x61 a k)
-
 -- what is a digit has a value below 16, and is the digit of it
 pub hex-range : (a : ℕ) → is_hex a ≡ true → ((0x30 ≤ a) × (a ≤ 0x39)) ⊎ ((0x61 ≤ a) × (a ≤ 0x66))
 unfolding is_hex

@@ -1,10 +1,11 @@
 -- Integers in a text: what the code reads of one, and that a text in form is the decimal of its integer and each decimal in form.
 use Prim.Native.Nat.{ℕ, zero, suc, ◌+◌, ◌-◌, ◌*◌, ◌/◌, ◌%◌, ◌^◌, ◌≤◌, ◌<◌, min}
-use mathlib.Core.Bool.{Bool, true, false, not}
+use mathlib.Core.Bool.{Bool, true, false, not, ◌&&◌}
 use mathlib.Core.Path.{◌≡◌, refl, sym, ap, ◌∙◌}
 use mathlib.Core.List.{List, [], ◌∷◌, ◌++◌, map, append_assoc, append-nil}
 use native.Mathlib.Omega.{arith}
 use borrow.Author.Tests.{ltb-true, ltb-false, leb-true, eqb-true, eqb-false, not-true, lt-ltb, le-ltb, le-leb, lt-leb, eq-eqb, ne_eqb}
+use Rattle.std.specs.Char.{is_ascii_digit}
 use lib.Dec.{ltb, leb, eqb}
 use lib.IntN.{ℤ, pos, negsuc, neg_ℤ}
 use lib.Signed.{mag}
@@ -30,13 +31,18 @@ pub digit-yes : (a : ℕ) → 0x30 ≤ a → a ≤ 0x39 → is_digit a ≡ true
 unfolding is_digit
 digit-yes a h k = rw (le-leb 0x30 a h, le-leb a 0x39 k)
 
-pub digit_low : (a : ℕ) → a < 0x30 → is_digit a ≡ false
-unfolding is_digit
-digit_low a h = rw (lt-leb 0x30 a h)
-
 pub digit-high : (a : ℕ) → 0x39 < a → is_digit a ≡ false
 unfolding is_digit
 digit-high a h = rw (le-leb 0x30 a (omega arith), lt-leb a 0x39 h)
+
+-- as the library tests it
+pub digit-ascii : (a : ℕ) → is_ascii_digit a ≡ is_digit a
+unfolding is_digit
+digit-ascii a = go (leb 0x30 a) (leb a 0x39)
+  where
+    go : (t e : Bool) → (t && e) ≡ and t e
+    go true e = refl
+    go false e = refl
 
 pub digit-range : (a : ℕ) → is_digit a ≡ true → (0x30 ≤ a) × (a ≤ 0x39)
 unfolding is_digit

@@ -1,11 +1,15 @@
 -- Texts parted by a byte: the first part, and what is after it.
 use Prim.Native.Nat.{ℕ, suc, ◌+◌, ◌≤◌, ◌<◌}
-use mathlib.Core.Bool.{Bool, true, not}
+use mathlib.Core.Bool.{Bool, true, not, cond}
 use mathlib.Core.Path.{◌≡◌, refl, sym, ap, ◌∙◌}
 use mathlib.Core.List.{List, [], ◌∷◌, ◌++◌}
 use native.Mathlib.Omega.{arith}
-use borrow.Author.Tests.{eqb-true, eqb-false, not-true, eq-eqb, ne_eqb}
-use lib.Dec.{eqb}
+use borrow.Author.Tests.{ltb-false, eqb-true, eqb-false, not-true, eq-eqb, ne_eqb}
+use lib.Dec.{eqb, ltb}
+use Rattle.std.specs.List.{position_or_len}
+use Rattle.std.specs.Option.{unwrap_or}
+use Rattle.std.proofs.Common.{Option, Some, None}
+use Rattle.std.proofs.lemmas.List.Recursion.{is_position_or_len}
 use lib.ListN.{length, get_or, take, drop}
 use Rattle.wing_node.proofs.Branches.{if-both}
 use Rattle.wing_mirror.specs.Table.{every}
@@ -42,6 +46,23 @@ module _ (b : ℕ) where
   front-le (a ∷ s) =
       by-test (eqb a b) (λ t. omega (arith, ap length (front-hit a s (eqb-true a b t))))
       (λ t. omega (arith, ap length (front-on a s (eqb-false a b t)), front-le s))
+
+  -- as the library finds it
+  front-place : (s : List ℕ) → length (part b 0 s) ≡ position_or_len (λ (a : ℕ). eqb a b) s
+  front-place = is_position_or_len (λ (s : List ℕ). length (part b 0 s)) (λ (a : ℕ). eqb a b) (ap length front-nil) step
+    where
+      step : (a : ℕ) (s : List ℕ) → length (part b 0 (a ∷ s)) ≡ cond (eqb a b) 0 (1 + length (part b 0 s))
+      step a s =
+          by-test (eqb a b) (λ t. rw t (ap length (front-hit a s (eqb-true a b t))))
+          (λ t. rw t (ap length (front-on a s (eqb-false a b t)) ∙ omega arith))
+
+  pub first-place : (s : List ℕ) (o : Option ℕ) →
+      o ≡ cond (ltb (position_or_len (λ (a : ℕ). eqb a b) s) (length s)) (Some (position_or_len (λ (a : ℕ). eqb a b) s)) None →
+      unwrap_or o (length s) ≡ length (part b 0 s)
+  first-place s o e =
+      by-test (ltb (position_or_len (λ (a : ℕ). eqb a b) s) (length s))
+      (λ t. rw e (rw t (sym (front-place s))))
+      (λ t. rw e (rw t (omega (arith, front-le s, front-place s, ltb-false _ _ t))))
 
   -- there is always one part
   pub parted-some : (s : List ℕ) → parted b s ≡ part b 0 s ∷ drop 1 (parted b s)

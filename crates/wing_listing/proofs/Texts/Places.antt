@@ -1,15 +1,14 @@
 -- A record laid from a line's value: the zeros before it, and its kind, length and payload.
-use Prim.Native.Nat.{ℕ, ◌+◌, ◌/◌, ◌≤◌, ◌<◌}
+use Prim.Native.Nat.{ℕ, ◌/◌, ◌≤◌}
 use mathlib.Core.Bool.{Bool, true, true≢false}
 use mathlib.Core.Path.{◌≡◌, sym, ap, ◌∙◌}
-use mathlib.Core.List.{List, [], ◌∷◌, ◌++◌}
+use mathlib.Core.List.{List}
 use native.Mathlib.Omega.{arith}
-use native.Mathlib.Numerals.{add-one}
 use borrow.Author.Tests.{eqb-true, ne_eqb}
 use lib.Dec.{eqb}
 use lib.IntN.{ℤ}
-use lib.ListN.{length, replicate, take, set, length-replicate, replicate-append-replicate}
-use lib.Seq.{sets, take-suc-set}
+use lib.ListN.{length, replicate, set, length-replicate}
+use lib.Seq.{sets}
 use Rattle.wing_node.specs.Refusal.{no_fault, is_refused}
 use Rattle.wing_node.specs.Bool.{and}
 use Rattle.wing_node.specs.Decimal.{integer_of}
@@ -31,11 +30,6 @@ use Rattle.wing_listing.specs.Reading.{is_value, value_said, value_fault}
 use Rattle.wing_listing.specs.Steps.{kind_of_letter}
 use Rattle.wing_listing.proofs.Texts.Numbers.{by-test}
 use Rattle.wing_listing.proofs.Texts.Hexes.{length_from, from_bytes, pairs-hex}
-
--- one more zero at the front
-pub zero-next : (out : List ℕ) (i : ℕ) → i < length out → take i out ≡ replicate i 0 → take (i + 1) (set out i 0) ≡ replicate (i + 1) 0
-zero-next out i h e =
-    ap (λ k. take k (set out i 0)) (add-one i) ∙ take-suc-set out i 0 h ∙ ap (λ (l : List ℕ). l ++ (0 ∷ [])) e ∙ replicate-append-replicate i 1 0
 
 -- the id over zeros: the head of a record from the console
 pub console-head : (id : ℤ) (a b : List ℕ) (r : Bool) → a ≡ replicate 264 0 → put r b ≡ put_at (bytes_of 4 (unsigned 31 id)) 0 a → b ≡ head_from a id Console

@@ -38,14 +38,14 @@ use Rattle.wing_listing.specs.Reading.{is_line, entry_said, Reading, good, bad, 
 use Rattle.wing_listing.specs.Calls.{LoadEffect, load_effect, reply_of, load_entries, load_read, load_of}
 use Rattle.wing_listing.specs.FirstBad.{PrintedLine}
 use Rattle.wing_listing.specs.BothWays.{EqualMirror, PrintsAgain, BothWays}
-use Rattle.wing_listing.specs.declared.answer.Loaded.{Loaded}
-use Rattle.wing_listing.specs.declared.answer.Loaded.TheVariants.{Records, Refused}
 use Rattle.wing_listing.proofs.Texts.Numbers.{by-test}
 use Rattle.wing_listing.proofs.Texts.Lines.{true-false}
 use Rattle.wing_listing.proofs.Texts.Said.{DigitBytes, line-formed, line-again}
 use Rattle.wing_listing.proofs.Texts.Shown.{digit-bytes, said-printable}
 use Rattle.wing_listing.proofs.Texts.Decided.{taken, wrong}
 use Rattle.wing_listing.proofs.Texts.Listed.{rises-all, rising-all, Listable, listing-read, listing-said}
+use Rattle.std.specs.Prelude.{Err, Ok}
+use Rattle.wing_listing.specs.Answers.{Loaded}
 
 -- ---- entries laid into a memory are a usable table that says them
 
@@ -102,20 +102,20 @@ module _ (es : List Entry) (memory : List ℕ) (valid : All (ValidEntry full) es
 
 module _ (text memory : List ℕ) (allowed : places_allowed (length memory / width) ≡ true) (short : length text ≤ 65536) where
   pub load-good : (es : List Entry) → reading_of text ≡ good es → length es ≤ length memory / width →
-      load_of text memory ≡ load_effect (reply_of (Records (length es))) (laid width (map record_of es) memory)
+      load_of text memory ≡ load_effect (reply_of (Ok (length es))) (laid width (map record_of es) memory)
   unfolding load_of load_read load_entries
   load-good es g few =
       rw (allowed, le-leb (length text) 65536 short, g, le-leb (length es) (length memory / width) few)
 
 abbrev is_records : Loaded → Bool
-is_records (Records n) = true
-is_records (Refused why line) = false
+is_records (Ok n) = true
+is_records (Err b) = false
 
 abbrev records_in : Loaded → ℕ
-records_in (Records n) = n
-records_in (Refused why line) = 0
+records_in (Ok n) = n
+records_in (Err b) = 0
 
-not-records : {A : Type 0} {why : Refusal} {line n : ℕ} → Refused why line ≡ Records n → A
+not-records : {A : Type 0} {why : Refusal} {line n : ℕ} → ◌≡◌ {A = Loaded} (Err (record { why = why; line = line })) (Ok n) → A
 not-records e = absurd (true-false (sym (ap is_records e)))
 
 -- what a text is that is loaded
@@ -128,7 +128,7 @@ pub record Loads (text memory : List ℕ) (n : ℕ) : Type 0 where
   pub counted : length es ≡ n
 
 loads-entries : (text memory : List ℕ) (n : ℕ) → places_allowed (length memory / width) ≡ true → length text ≤ 65536 →
-    (r : Reading) → reading_of text ≡ r → (load_read r memory).reply.answer ≡ Records n → Loads text memory n
+    (r : Reading) → reading_of text ≡ r → (load_read r memory).reply.answer ≡ Ok n → Loads text memory n
 unfolding load_read load_entries
 loads-entries text memory n a s (good es) g e =
     by-test (leb (length es) (length memory / width))
@@ -136,7 +136,7 @@ loads-entries text memory n a s (good es) g e =
     (λ t. not-records (rw t at e))
 loads-entries text memory n a s (bad why line) g e = not-records e
 
-pub loads-only : (text memory : List ℕ) (n : ℕ) → (load_of text memory).reply.answer ≡ Records n → Loads text memory n
+pub loads-only : (text memory : List ℕ) (n : ℕ) → (load_of text memory).reply.answer ≡ Ok n → Loads text memory n
 unfolding load_of
 loads-only text memory n e =
     by-test (places_allowed (length memory / width))
@@ -206,14 +206,14 @@ module _ (t : Table) (memory : List ℕ) (bytes : AreBytes t.buffer) (u : usable
       left-rows entries memory valid rising a few ∙ sym (clear-all full-laws held) ∙ ap (map (origin_cleared full)) (rows_back full-laws t bytes u) in
       subst (EqualMirror t memory) (sym l)
       (record {
-        counted = ap Records many-entries;
+        counted = ap Ok many-entries;
         fresh = refl;
         sound = subst (λ n. usable full (table (laid width (map record_of entries) memory) n) ≡ true) many-entries (left-usable entries memory valid rising a few);
         equal = record { counts = refl; records = ap (λ n. rows full (table (laid width (map record_of entries) memory) n)) (sym many-entries) ∙ same };
         rest = subst (λ n. drop (width * n) (laid width (map record_of entries) memory) ≡ drop (width * n) memory) many-entries (left-rest entries memory valid rising a few);
       })
 
-again : (text memory : List ℕ) (n : ℕ) → (load_of text memory).reply.answer ≡ Records n → PrintsAgain text (load_of text memory) n
+again : (text memory : List ℕ) (n : ℕ) → (load_of text memory).reply.answer ≡ Ok n → PrintsAgain text (load_of text memory) n
 again text memory n e =
     let l = loads-only text memory n e in
     let es = l.es in
@@ -221,14 +221,14 @@ again text memory n e =
     let up = rising-all es s.2 in
     let f = load-good text memory l.allowed l.short es l.reads l.few in
     subst (λ (x : LoadEffect). PrintsAgain text x n) (sym f)
-    (subst (PrintsAgain text (load_effect (reply_of (Records (length es))) (laid width (map record_of es) memory))) l.counted
+    (subst (PrintsAgain text (load_effect (reply_of (Ok (length es))) (laid width (map record_of es) memory))) l.counted
     (record {
       sound = left-usable es memory s.1 up l.allowed l.few;
       prints = ap listing_of (left-says es memory s.1 up l.allowed l.few) ∙ s.0;
       origins = subst (All (λ (x : Entry). x.origin ≡ Console)) (sym (left-says es memory s.1 up l.allowed l.few)) s.4;
     }))
 
-pub loaded-rest : (text memory : List ℕ) (n : ℕ) → (load_of text memory).reply.answer ≡ Records n → drop (width * n) (load_of text memory).memory ≡ drop (width * n) memory
+pub loaded-rest : (text memory : List ℕ) (n : ℕ) → (load_of text memory).reply.answer ≡ Ok n → drop (width * n) (load_of text memory).memory ≡ drop (width * n) memory
 loaded-rest text memory n e =
     let l = loads-only text memory n e in
     let s = listing-said text l.es l.reads in

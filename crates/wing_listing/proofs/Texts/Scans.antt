@@ -19,12 +19,12 @@ use Rattle.wing_listing.specs.Parts.{newline, comma, parted, part}
 use Rattle.wing_listing.specs.Listing.{header}
 use Rattle.wing_listing.specs.Reading.{is_line, id_said, entry_said, above, value_fault, line_fault, Reading, good, bad, after, unless_bad, lines_from, after_header, reading_of, entries_in}
 use Rattle.wing_listing.specs.Steps.{integer_read, scanned_bad, scanned_as}
-use Rattle.wing_listing.specs.declared.scan.Scanned.{Scanned}
 use Rattle.wing_listing.proofs.Texts.Numbers.{by-test}
 use Rattle.wing_listing.proofs.Texts.Parts.{parted-some, parted-hit, parted-whole}
 use Rattle.wing_listing.proofs.Texts.Lines.{true-false, formed-id}
 use Rattle.wing_node.specs.declared.refusal.Refusal.TheVariants.{LineWrong}
 use Rattle.std.specs.Prelude.{Ok, Err}
+use Rattle.wing_listing.specs.Answers.{Loaded}
 
 pub ne-zero : (n : ℕ) → (n ≡ 0 → ⊥) → 0 < n
 ne-zero zero h = absurd (h refl)
@@ -86,8 +86,8 @@ header-next text h =
 
 -- ---- what is counted
 
-abbrev pub counted : ℕ → Reading → Scanned
-counted k (good es) = record { fault = no_fault; line = 0; count = k + length es }
+abbrev pub counted : ℕ → Reading → Loaded
+counted k (good es) = Ok (k + length es)
 counted k (bad why line) = scanned_bad why line
 
 pub counted-all : (r : Reading) → counted 0 r ≡ scanned_as r
@@ -153,7 +153,7 @@ begun-text n before text es l k =
     rest = lines_from (suc n) (found (id_said (part newline 0 text))) (parted newline (drop (length (part newline 0 text) + 1) text))
 
     go : (f : Fault) → line_fault before (part newline 0 text) ≡ f → unless_bad f n (after (entry_said (part newline 0 text)) rest) ≡ good es → Next n before text es
-    go (Ok u) u q = let g = after-good (entry_said (part newline 0 text)) rest es q in record { ended = k; fault = u; says = g.0; rest = g.1 }
+    go (Ok none) u q = let g = after-good (entry_said (part newline 0 text)) rest es q in record { ended = k; fault = u; says = g.0; rest = g.1 }
     go (Err why) u q = good-not q
 
 pub next-line : (n : ℕ) (before : Found ℤ) (text : List ℕ) (es : List Entry) → Says n before text es → 0 < length es → Next n before text es

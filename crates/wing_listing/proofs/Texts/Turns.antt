@@ -21,13 +21,13 @@ use Rattle.wing_listing.specs.Parts.{newline, comma, parted, part}
 use Rattle.wing_listing.specs.Reading.{id_said, entry_said, line_fault, bad, after, unless_bad, lines_from, reading_of}
 use Rattle.wing_listing.specs.Steps.{integer_read, id_before, judged_as}
 use Rattle.wing_listing.specs.declared.line.Judged.{Judged}
-use Rattle.wing_listing.specs.declared.scan.Scanned.{Scanned}
 use Rattle.wing_listing.proofs.Texts.Drops.{rest-whole}
 use Rattle.wing_listing.proofs.Texts.Numbers.{by-test}
 use Rattle.wing_listing.proofs.Texts.Parts.{front-le, front-take}
 use Rattle.wing_listing.proofs.Texts.Reads.{read-passed}
 use Rattle.wing_listing.proofs.Texts.Scans.{read-id, faultless-line, lines-unended, lines_next, header-none, header-next, counted, counted_next}
 use Rattle.wing_node.specs.declared.refusal.Refusal.TheVariants.{LineWrong}
+use Rattle.wing_listing.specs.Answers.{Loaded}
 
 pub not_equal : (a b : ℕ) → a ≤ b → (a ≡ b → ⊥) → a < b
 not_equal a b h e = by-test (ltb a b) (ltb-true a b) (λ t. absurd (e (omega (arith, ltb-false a b t))))
@@ -69,7 +69,7 @@ module _ (text : List ℕ) (at k : ℕ) (f : k ≡ length (part newline 0 (take 
     turn-bad n before why e = turn-next n before ∙ rw e
 
     -- a good one, counted
-    pub turn-again : (n : ℕ) (before : Found ℤ) (x : ℤ) (whole : Scanned) → 2 ≤ n → line_fault before line ≡ no_fault → x ≡ id_said line →
+    pub turn-again : (n : ℕ) (before : Found ℤ) (x : ℤ) (whole : Loaded) → 2 ≤ n → line_fault before line ≡ no_fault → x ≡ id_said line →
         counted (n - 2) (lines_from n before (parted newline (drop at text))) ≡ whole →
         counted (n + 1 - 2) (lines_from (n + 1) (id_before (ltb 2 (n + 1)) x) (parted newline (drop (at + k + 1) text))) ≡ whole
     unfolding id_before

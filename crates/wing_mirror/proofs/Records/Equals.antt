@@ -1,6 +1,6 @@
 -- Two tables are the same exactly if count and records are.
 use Prim.Native.Nat.{ℕ, zero, suc, ◌+◌, ◌*◌, ◌≤◌, ◌<◌}
-use mathlib.Core.Bool.{Bool, true, false, false≢true}
+use mathlib.Core.Bool.{Bool, true, false, false≢true, ◌&&◌}
 use mathlib.Core.Path.{◌≡◌, refl, sym, ◌∙◌, ap, ap₂}
 use mathlib.Core.List.{List, [], ◌∷◌, ◌++◌}
 use native.Mathlib.Omega.{arith}
@@ -8,6 +8,7 @@ use native.Mathlib.Nat.{mul-suc, mul-zero}
 use native.Mathlib.Numerals.{add-one}
 use borrow.Author.Tests.{eq-eqb, ne_eqb, eqb-true}
 use lib.Dec.{eqb}
+use lib.Pointwise.{pointwise}
 use lib.ListN.{length, take, drop, get_or, length-drop, drop_of_length-le}
 use lib.Seq.{drop-cons, take-add, length-take-le}
 use Rattle.wing_node.specs.Bool.{if}
@@ -17,6 +18,18 @@ use Rattle.wing_mirror.specs.Rows.{Table, records}
 use Rattle.wing_mirror.specs.Layout.{Layout}
 use Rattle.wing_mirror.specs.Table.{rows}
 use Rattle.wing_mirror.specs.Query.{same_bytes, same_rows, same_tables}
+
+-- as the library compares them
+pub bytes-equal : (x y : List ℕ) → pointwise eqb x y ≡ same_bytes x y
+unfolding same_bytes
+bytes-equal [] [] = refl
+bytes-equal [] (b ∷ y) = refl
+bytes-equal (a ∷ x) [] = refl
+bytes-equal (a ∷ x) (b ∷ y) = rw (bytes-equal x y) (go (eqb a b) (same_bytes x y))
+  where
+    go : (t s : Bool) → (t && s) ≡ if t s false
+    go true s = refl
+    go false s = refl
 
 module _ (a b : List ℕ) (i : ℕ) where
   pub bytes_on : i < length a → i < length b → get_or a i 0 ≡ get_or b i 0 → same_bytes (drop i a) (drop i b) ≡ same_bytes (drop (i + 1) a) (drop (i + 1) b)

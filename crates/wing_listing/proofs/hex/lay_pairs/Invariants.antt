@@ -1,4 +1,4 @@
-use Prim.Native.Nat.{◌+◌, ◌-◌, ◌*◌, ◌≤◌}
+use Prim.Native.Nat.{◌+◌, ◌*◌}
 use mathlib.Core.Path.{◌≡◌}
 use lib.ListN.{length, drop}
 use lib.Seq.{sets}
@@ -7,7 +7,4 @@ use Rattle.wing_listing.proofs.hex.lay_pairs.Given as goal
 
 abbrev pub invariant-loop-i : goal.invariant-loop-i
 invariant-loop-i l =
-    (l.i ≤ length l.s) × (length l.out ≡ length l.initial.out) × (sets l.out (l.at + 2 * l.i) (pairs_of (drop l.i l.s)) ≡ sets l.initial.out l.at (pairs_of l.s))
-
-abbrev pub decreases-loop-i : goal.decreases-loop-i
-decreases-loop-i l = length l.s - l.i
+    (length l.out ≡ length l.initial.out) × (sets l.out (l.at + 2 * l.i) (pairs_of (drop l.i l.s)) ≡ sets l.initial.out l.at (pairs_of l.s))

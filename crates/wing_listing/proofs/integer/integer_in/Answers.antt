@@ -7,7 +7,7 @@ use lib.Seq.{take_all}
 use Rattle.wing_listing.specs.Steps.{negative_read}
 use Rattle.wing_listing.proofs.Texts.Numbers.{int-minus, int-plain, int-none}
 use Rattle.wing_listing.proofs.integer.integer_in.Goals as goal
-use Rattle.wing_listing.proofs.integer.integer_in.Goals.{then-s-gt0+else-s-eq45, else-s-gt0}
+use Rattle.wing_listing.proofs.integer.integer_in.Goals.{else-s-gt0-via-then-s-gt0+else-s-eq45, else-s-gt0-via-else-s-gt0}
 
 pub returns-then-s-eq45 : goal.returns-then-s-eq45
 returns-then-s-eq45 c =
@@ -17,4 +17,4 @@ returns-then-s-eq45 c =
 pub returns : goal.returns
 returns c =
     let s = c.args.s.now in
-    c.natural_in.ensures ∙ elim c.if-s-gt0.branch [ then-s-gt0+else-s-eq45 w ↦ int-plain s w.if-s-eq45.false | else-s-gt0 w ↦ int-none s (omega arith) ]
+    c.natural_in.ensures ∙ elim c.else-s-gt0.branch [ else-s-gt0-via-then-s-gt0+else-s-eq45 w ↦ int-plain s w.if-s-eq45.false | else-s-gt0-via-else-s-gt0 w ↦ int-none s (omega arith) ]

@@ -5,7 +5,7 @@ use native.Mathlib.Omega.{arith}
 use Rattle.wing_listing.proofs.Printing.Values.{signed-passed}
 use Rattle.wing_listing.proofs.Texts.Numbers.{negative-good, negative-none, negative-zero, negative-large}
 use Rattle.wing_listing.proofs.integer.negative_in.Goals as goal
-use Rattle.wing_listing.proofs.integer.negative_in.Goals.{then-s-gt0+then-s-ne48+else-n-le2147483648, then-s-gt0+else-s-ne48, else-s-gt0}
+use Rattle.wing_listing.proofs.integer.negative_in.Goals.{then-s-gt0+then-s-ne48+else-n-le2147483648, else-s-gt0, else-s-gt0-via-then-s-gt0+else-s-ne48, else-s-gt0-via-else-s-gt0}
 
 pub overflow_cast-n : goal.overflow_cast-n
 overflow_cast-n c =
@@ -24,6 +24,8 @@ returns c =
     let s = c.args.s.now in
     c.not_read.ensures ∙ elim c.if-s-gt0.branch [
       | then-s-gt0+then-s-ne48+else-n-le2147483648 w ↦ negative-large s (omega (arith, w.number_in-n.ensures))
-      | then-s-gt0+else-s-ne48 w ↦ negative-zero s w.if-s-ne48.false
-      | else-s-gt0 w ↦ negative-none s (omega arith)
+      | else-s-gt0 w ↦ elim w.else-s-gt0.branch [
+        | else-s-gt0-via-then-s-gt0+else-s-ne48 v ↦ negative-zero s v.if-s-ne48.false
+        | else-s-gt0-via-else-s-gt0 v ↦ negative-none s (omega arith)
+      ]
     ]

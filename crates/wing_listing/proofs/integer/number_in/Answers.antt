@@ -1,33 +1,37 @@
 -- The invariant: what n and the digits left spell is what all spell; a turn takes one digit (`up-digit`).
-use Prim.Native.Nat.{◌+◌}
-use mathlib.Core.Path.{sym, ap, ◌∙◌}
+use Prim.Native.Nat.{◌+◌, ◌-◌, ◌*◌, min}
+use mathlib.Core.Bool.{true, false}
+use mathlib.Core.Path.{◌≡◌, sym, ap, ◌∙◌}
 use native.Mathlib.Omega.{arith}
+use borrow.Author.Rules.{rules}
 use lib.ListN.{get_or, drop}
+use Rattle.wing_listing.specs.Integers.{is_digit}
 use Rattle.wing_listing.proofs.Texts.Drops.{drop-next, drop-none}
-use Rattle.wing_listing.proofs.Texts.Numbers.{digit-yes, digit_low, digit-high, up_from, up-all, up-end, up-digit, up-not}
+use Rattle.wing_listing.proofs.Texts.Numbers.{digit-ascii, up_from, up-all, up-end, up-digit, up-not}
 use Rattle.wing_listing.proofs.integer.number_in.Goals as goal
 
-pub loop-i-init : goal.loop-i-init
-loop-i-init c = (omega arith, up-all c.args.s.now)
+pub loop-a-init : goal.loop-a-init
+loop-a-init c = (omega arith, up-all c.args.s.now)
 
-pub returns-then-a-lt48 : goal.returns-then-a-lt48
-returns-then-a-lt48 c =
+pub returns-then-not-is_ascii_digit : goal.returns-then-not-is_ascii_digit
+returns-then-not-is_ascii_digit c =
     let s = c.args.s.now in
-    sym (up-not c.loop-i.n (get_or s c.loop-i.i 0) (drop (c.loop-i.i + 1) s) (digit_low (get_or s c.loop-i.i 0) c.if-a-lt48.true)) ∙ ap (up_from c.loop-i.n) (sym (drop-next s c.loop-i.i c.loop-i-test.true)) ∙ c.loop-i.invariant.1
+    let l = c.loop-a in
+    let a = get_or s l.a-index 0 in
+    let d : is_digit a ≡ false = sym (digit-ascii a) ∙ sym c.is_ascii_digit.ensures.value ∙ c.if-not-is_ascii_digit.true in
+    sym (up-not l.n a (drop (l.a-index + 1) s) d) ∙ ap (up_from l.n) (sym (drop-next s l.a-index c.loop-a-test.true)) ∙ l.invariant.1
 
-pub returns-then-a-gt57 : goal.returns-then-a-gt57
-returns-then-a-gt57 c =
+pub loop-a-preserved : goal.loop-a-preserved
+loop-a-preserved c =
     let s = c.args.s.now in
-    sym (up-not c.loop-i.n (get_or s c.loop-i.i 0) (drop (c.loop-i.i + 1) s) (digit-high (get_or s c.loop-i.i 0) c.if-a-gt57.true)) ∙ ap (up_from c.loop-i.n) (sym (drop-next s c.loop-i.i c.loop-i-test.true)) ∙ c.loop-i.invariant.1
-
-pub loop-i-preserved : goal.loop-i-preserved
-loop-i-preserved c =
-    let s = c.args.s.now in
-    let a = get_or s c.loop-i.i 0 in
-    let e = c.least-n.ensures in
-    (omega (arith, e), ap (λ m. up_from m (drop (c.loop-i.i + 1) s)) e ∙ sym (up-digit c.loop-i.n a (drop (c.loop-i.i + 1) s) (digit-yes a c.if-a-lt48.false c.if-a-gt57.false)) ∙ ap (up_from c.loop-i.n) (sym (drop-next s c.loop-i.i c.loop-i-test.true)) ∙ c.loop-i.invariant.1)
+    let l = c.loop-a in
+    let a = get_or s l.a-index 0 in
+    let d : is_digit a ≡ true = sym (digit-ascii a) ∙ sym c.is_ascii_digit.ensures.value ∙ c.if-not-is_ascii_digit.false in
+    let e : c.min-n.result ≡ min (l.n * 10 + (a - 0x30)) 0x100000000 = search rules in
+    (omega (arith, e), ap (λ m. up_from m (drop (l.a-index + 1) s)) e ∙ sym (up-digit l.n a (drop (l.a-index + 1) s) d) ∙ ap (up_from l.n) (sym (drop-next s l.a-index c.loop-a-test.true)) ∙ l.invariant.1)
 
 pub returns : goal.returns
 returns c =
     let s = c.args.s.now in
-    sym (up-end c.loop-i.n c.loop-i.invariant.0) ∙ ap (up_from c.loop-i.n) (sym (drop-none s c.loop-i.i c.loop-i-test.false)) ∙ c.loop-i.invariant.1
+    let l = c.loop-a in
+    sym (up-end l.n l.invariant.0) ∙ ap (up_from l.n) (sym (drop-none s l.a-index c.loop-a-test.false)) ∙ l.invariant.1

@@ -23,7 +23,7 @@ returns-then-s-le512 c =
 
 pub returns-then-kind-eq115 : goal.returns-then-kind-eq115
 returns-then-kind-eq115 c =
-    c.by_number.ensures ∙ fault-long c.args.kind c.args.s.now c.if-kind-eq115.true c.requires c.if-s-le512.false
+    fault-long c.args.kind c.args.s.now c.if-kind-eq115.true c.requires c.if-s-le512.false
 
 pub returns : goal.returns
 returns c =

@@ -5,11 +5,11 @@ use mathlib.Core.List.{map}
 use native.Mathlib.Omega.{arith}
 use borrow.Author.Rules.{rules}
 use borrow.Rule.Slice.PartMut.{same_len_mid}
-use lib.ListN.{length, take, drop}
+use lib.ListN.{length, take}
 use Rattle.wing_mirror.specs.Rows.{laid}
 use Rattle.wing_mirror.specs.Record.{width, record_of}
 use Rattle.wing_listing.specs.Reading.{reading_of, entries_in}
-use Rattle.wing_mirror.proofs.Tables.Chunks.{laid_nil, row-wide}
+use Rattle.wing_mirror.proofs.Tables.Chunks.{laid_nil}
 use Rattle.wing_listing.proofs.Texts.Scans.{left-start}
 use Rattle.wing_listing.proofs.Texts.Laid.{turn_at, turn-within, turn-line, turn-fault, turn-left, turn-laid}
 use Rattle.wing_listing.proofs.load.lay_lines.Goals as goal
@@ -46,24 +46,16 @@ overflow_add-from c =
     let r : 264 * c.loop-number.number + 264 ≤ length c.loop-number.table = omega (arith, c.requires.1, c.loop-number.invariant.1) in
     search rules
 
-pub slice_bounds-lay_line-end : goal.slice_bounds-lay_line-end
-slice_bounds-lay_line-end c =
-    let h = c.loop-number-test.true in
-    let r : 264 * c.loop-number.number + 264 ≤ length c.loop-number.table = omega (arith, c.requires.1, c.loop-number.invariant.1) in
-    r
-
-pub slice_bounds-lay_line-end-in-loop-number : goal.slice_bounds-lay_line-end-in-loop-number
-slice_bounds-lay_line-end-in-loop-number c =
+pub slice_bounds-record_in-end : goal.slice_bounds-record_in-end
+slice_bounds-record_in-end c =
     let h = c.loop-number-test.true in
     let w = turn-within c.args.text.now c.args.count c.loop-number.number c.loop-number.at c.requires.0 h (c.loop-number.invariant.3 h) c.find.result c.find.ensures in
     omega arith
 
-pub lay_line-requires : goal.lay_line-requires
-lay_line-requires c =
+pub record_in-requires : goal.record_in-requires
+record_in-requires c =
     let h = c.loop-number-test.true in
-    let t = c.args.text.now in
-    let e : 264 * c.loop-number.number + 264 - 264 * c.loop-number.number ≡ 264 = omega arith in (
-      ap (λ n. length (take n (drop (264 * c.loop-number.number) c.loop-number.table))) e ∙ row-wide width c.loop-number.number c.loop-number.table (omega (arith, c.requires.1, c.loop-number.invariant.1)),
+    let t = c.args.text.now in (
       turn-line t c.args.count c.loop-number.number c.loop-number.at c.requires.0 h (c.loop-number.invariant.3 h) c.find.result c.find.ensures,
       turn-fault t c.args.count c.loop-number.number c.loop-number.at c.requires.0 h (c.loop-number.invariant.3 h) c.find.result c.find.ensures,
     )
@@ -79,8 +71,8 @@ loop-number-preserved c =
     let h = c.loop-number-test.true in
     let t = c.args.text.now in (
       omega arith,
-      same_len_mid (264 * c.loop-number.number) (264 * c.loop-number.number + 264 - 264 * c.loop-number.number) c.loop-number.table c.lay_line.new.out c.lay_line.auto.out ∙ c.loop-number.invariant.1,
-      turn-laid t c.args.count c.loop-number.number c.loop-number.at c.requires.0 h (c.loop-number.invariant.3 h) c.find.result c.find.ensures c.lay_line.new.out c.loop-number.table c.args.table.now c.lay_line.ensures c.loop-number.invariant.2,
+      same_len_mid (264 * c.loop-number.number) (264 * c.loop-number.number + 264 - 264 * c.loop-number.number) c.loop-number.table c.copy_from_slice.new.self c.copy_from_slice.ensures.len ∙ c.loop-number.invariant.1,
+      turn-laid t c.args.count c.loop-number.number c.loop-number.at c.requires.0 h (c.loop-number.invariant.3 h) c.find.result c.find.ensures c.copy_from_slice.new.self c.loop-number.table c.args.table.now (c.copy_from_slice.ensures.after ∙ c.record_in.ensures) c.loop-number.invariant.2,
       (λ g. turn-left t c.args.count c.loop-number.number c.loop-number.at c.requires.0 h (c.loop-number.invariant.3 h) c.find.result c.find.ensures),
     )
 

@@ -1,4 +1,4 @@
-use Prim.Native.Nat.{◌-◌, ◌≤◌, ◌<◌}
+use Prim.Native.Nat.{◌≤◌, ◌<◌}
 use mathlib.Core.Path.{◌≡◌}
 use mathlib.Core.List.{map}
 use lib.ListN.{length, take, drop}
@@ -12,6 +12,3 @@ abbrev pub invariant-loop-number : goal.invariant-loop-number
 invariant-loop-number l =
     (l.number ≤ l.count) × (length l.table ≡ length l.initial.table) × (l.table ≡ laid width (map record_of (take l.number (entries_in (reading_of l.text)))) l.initial.table) ×
     (l.number < l.count → Left (drop l.at l.text) (drop l.number (entries_in (reading_of l.text))))
-
-abbrev pub decreases-loop-number : goal.decreases-loop-number
-decreases-loop-number l = l.count - l.number

@@ -9,39 +9,39 @@ use Rattle.wing_mirror.proofs.Calls.Sends.{few-records, row-formed}
 use Rattle.wing_listing.proofs.Printing.Lines.{left-all, left_less, left-none, row_in, row-le}
 use Rattle.wing_listing.proofs.print.lines_len.Goals as goal
 
-pub loop-i-init : goal.loop-i-init
-loop-i-init c =
+pub loop-number-init : goal.loop-number-init
+loop-number-init c =
     let a = c.args in
     let e = ap length (left-all a.count a.table.now) in
-    (search rules, omega arith, omega arith, omega arith)
+    (search rules, omega arith, omega arith)
 
 pub print_record-total-requires : goal.print_record-total-requires
 print_record-total-requires c =
     let t = table_of c.args.table.now c.args.count in
-    let i = c.loop-i.i in
-    let h = c.loop-i-test.true in
+    let i = c.loop-number.number in
+    let h = c.loop-number-test.true in
     (row_in t c.requires i h, row-formed t c.requires i h, omega (arith, row-le t c.requires i h))
 
 pub overflow_add-total : goal.overflow_add-total
 overflow_add-total c =
     let t = table_of c.args.table.now c.args.count in
-    let m = row-le t c.requires c.loop-i.i c.loop-i-test.true in
+    let m = row-le t c.requires c.loop-number.number c.loop-number-test.true in
     let n = c.print_record-total.ensures.next in
     let f = few-records t c.requires in
     search rules
 
-pub loop-i-preserved : goal.loop-i-preserved
-loop-i-preserved c =
+pub loop-number-preserved : goal.loop-number-preserved
+loop-number-preserved c =
     let t = table_of c.args.table.now c.args.count in
-    let i = c.loop-i.i in
-    let h = c.loop-i-test.true in
+    let i = c.loop-number.number in
+    let h = c.loop-number-test.true in
     let n = c.print_record-total.ensures.next in
     let m = row-le t c.requires i h in
     let l = left_less c.args.count i c.args.table.now h in
-    (search rules, omega arith, omega arith, omega arith)
+    (search rules, omega arith, omega arith)
 
 pub returns : goal.returns
 returns c =
     let a = c.args in
-    let z = ap length (left-none a.count c.loop-i.i a.table.now c.loop-i-test.false) in
+    let z = ap length (left-none a.count c.loop-number.number a.table.now c.loop-number-test.false) in
     omega arith

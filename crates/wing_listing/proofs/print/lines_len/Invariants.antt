@@ -1,4 +1,4 @@
-use Prim.Native.Nat.{◌+◌, ◌-◌, ◌*◌, ◌≤◌}
+use Prim.Native.Nat.{◌+◌, ◌*◌, ◌≤◌}
 use mathlib.Core.Path.{◌≡◌}
 use lib.ListN.{length}
 use Rattle.wing_mirror.specs.Record.{full}
@@ -7,9 +7,6 @@ use Rattle.wing_listing.specs.Steps.{lines_of}
 use Rattle.wing_listing.proofs.Printing.Lines.{left}
 use Rattle.wing_listing.proofs.print.lines_len.Given as goal
 
-abbrev pub invariant-loop-i : goal.invariant-loop-i
-invariant-loop-i l =
-    (length l.scratch ≡ 527) × (l.i ≤ l.count) × (l.total ≤ 527 * l.i) × (l.total + length (left l.count l.i l.table) ≡ length (lines_of (rows full (table_of l.table l.count))))
-
-abbrev pub decreases-loop-i : goal.decreases-loop-i
-decreases-loop-i l = l.count - l.i
+abbrev pub invariant-loop-number : goal.invariant-loop-number
+invariant-loop-number l =
+    (length l.scratch ≡ 527) × (l.total ≤ 527 * l.number) × (l.total + length (left l.count l.number l.table) ≡ length (lines_of (rows full (table_of l.table l.count))))

@@ -9,7 +9,7 @@ use Rattle.wing_listing.specs.Listing.{printed}
 use Rattle.wing_listing.proofs.Printing.Lines.{lines-le, printed-size, print-usable, print-unusable}
 use borrow.Author.Rules.{rules}
 use Rattle.wing_listing.proofs.print.print.Goals as goal
-use Rattle.wing_listing.proofs.print.print.Goals.{then-out-count+else-out-lines_len, else-out-count}
+use Rattle.wing_listing.proofs.print.print.Goals.{else-out-count-via-then-out-count+else-out-lines_len, else-out-count-via-else-out-count}
 
 pub overflow_mul-count : goal.overflow_mul-count
 overflow_mul-count c =
@@ -49,7 +49,7 @@ lay_listing-requires c =
     let t = table_of a.table.now a.count in
     let u = sym c.is_usable.ensures ∙ c.if-is_usable.true in
     let s = printed-size t in
-    (u, elim c.if-out-count.branch [ then-out-count+else-out-lines_len w ↦ omega arith | else-out-count w ↦ omega (arith, lines-le t u) ])
+    (u, elim c.else-out-count.branch [ else-out-count-via-then-out-count+else-out-lines_len w ↦ omega arith | else-out-count-via-else-out-count w ↦ omega (arith, lines-le t u) ])
 
 pub returns-then-is_usable : goal.returns-then-is_usable
 returns-then-is_usable c =
@@ -57,7 +57,7 @@ returns-then-is_usable c =
     let t = table_of a.table.now a.count in
     let u = sym c.is_usable.ensures ∙ c.if-is_usable.true in
     let s = printed-size t in
-    writer-laws.whole c.lay_listing.ensures (elim c.if-out-count.branch [ then-out-count+else-out-lines_len w ↦ omega arith | else-out-count w ↦ omega (arith, lines-le t u) ])
+    writer-laws.whole c.lay_listing.ensures (elim c.else-out-count.branch [ else-out-count-via-then-out-count+else-out-lines_len w ↦ omega arith | else-out-count-via-else-out-count w ↦ omega (arith, lines-le t u) ])
     ∙ print-usable t a.out.now u
 
 pub returns : goal.returns

@@ -16,6 +16,7 @@ use Rattle.wing_listing.proofs.Texts.Drops.{drop-none}
 use Rattle.wing_listing.proofs.Texts.Turns.{not_equal, line, line-within, the-line, turn-unended, turn-bad, turn-again, judged-why, judged-id}
 use Rattle.wing_listing.proofs.Texts.Scans.{lines_end, counted, counted-all}
 use Rattle.wing_listing.proofs.scan.scan_lines.Goals as goal
+use Rattle.std.specs.Prelude.{Ok}
 
 pub loop-at-init : goal.loop-at-init
 unfolding id_before
@@ -36,16 +37,16 @@ slice_bounds-judge-end c =
     let w = line-within c.args.text.now c.loop-at.at c.find.result c.find.ensures in
     search rules
 
-pub returns-in-Refused : goal.returns-in-Refused
-returns-in-Refused c =
+pub returns-in-Err : goal.returns-in-Err
+returns-in-Err c =
     let text = c.args.text.now in
     let w = line-within text c.loop-at.at c.find.result c.find.ensures in
     let h = not_equal (c.loop-at.at + c.find.result) (length text) (omega (arith, c.loop-at.invariant.0)) c.if-end-text.false in
     let B = id_before (ltb 2 c.loop-at.number) (to_z w32 c.loop-at.before-bits) in
     let x = line text c.loop-at.at c.find.result c.find.ensures in
     let why = judged-why B _ x c.judge-j.result c.judge-j.ensures (the-line text c.loop-at.at c.find.result c.find.ensures) in
-    let bad-line = turn-bad text c.loop-at.at c.find.result c.find.ensures h c.loop-at.number B _ (sym why ∙ c.in-Refused.is) in
-    c.bad-in-Refused.ensures ∙ ap (counted (c.loop-at.number - 2)) (sym bad-line) ∙ c.loop-at.invariant.3
+    let bad-line = turn-bad text c.loop-at.at c.find.result c.find.ensures h c.loop-at.number B _ (sym why ∙ c.in-Err.is) in
+    c.bad-in-Err.ensures ∙ ap (counted (c.loop-at.number - 2)) (sym bad-line) ∙ c.loop-at.invariant.3
 
 pub overflow_add-at : goal.overflow_add-at
 overflow_add-at c =
@@ -60,7 +61,7 @@ loop-at-preserved c =
     let B = id_before (ltb 2 c.loop-at.number) (to_z w32 c.loop-at.before-bits) in
     let x = line text c.loop-at.at c.find.result c.find.ensures in
     let why = judged-why B _ x c.judge-j.result c.judge-j.ensures (the-line text c.loop-at.at c.find.result c.find.ensures) in
-    let z = c.in-None.is in
+    let z = c.in-Ok.is in
     let i = judged-id B _ x c.judge-j.result c.judge-j.ensures (the-line text c.loop-at.at c.find.result c.find.ensures) z in
     (omega arith, omega (arith, c.loop-at.invariant.1), omega (arith, c.loop-at.invariant.2), turn-again text c.loop-at.at c.find.result c.find.ensures h c.loop-at.number B (to_z w32 (of_z w32 c.judge-j.result.id)) (scanned_as (lines_from 2 nothing (parted newline text))) c.loop-at.invariant.1 (sym why ∙ z) i c.loop-at.invariant.3)
 
@@ -68,5 +69,5 @@ pub returns : goal.returns
 returns c =
     let text = c.args.text.now in
     let n : c.loop-at.number - 2 ≡ c.loop-at.number - 2 + 0 = omega arith in
-    ap (λ m. record { fault = no_fault; line = 0; count = m }) n ∙
+    ap Ok n ∙
     ap (counted (c.loop-at.number - 2)) (sym (ap (λ t. lines_from c.loop-at.number (id_before (ltb 2 c.loop-at.number) (to_z w32 c.loop-at.before-bits)) (parted newline t)) (drop-none text c.loop-at.at c.loop-at-test.false) ∙ lines_end c.loop-at.number (id_before (ltb 2 c.loop-at.number) (to_z w32 c.loop-at.before-bits)))) ∙ c.loop-at.invariant.3

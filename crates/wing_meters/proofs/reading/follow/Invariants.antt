@@ -1,11 +1,6 @@
-use Prim.Native.Nat.{◌-◌}
-use lib.ListN.{length}
 use Rattle.wing_meters.specs.Window.{window}
 use Rattle.wing_meters.proofs.Follows.{Onward}
 use Rattle.wing_meters.proofs.reading.follow.Given as goal
 
 abbrev pub invariant-loop-i : goal.invariant-loop-i
 invariant-loop-i l = Onward (window l.initial.after l.initial.levels) l.xs l.initial.out (window l.after l.levels) l.out l.i
-
-abbrev pub decreases-loop-i : goal.decreases-loop-i
-decreases-loop-i l = length l.xs - l.i

@@ -19,7 +19,7 @@ use Rattle.std.specs.Prelude.{Option}
 use Rattle.wing_meters.specs.declared.figures.Figures.{Figures}
 
 pub step-after-requires : goal.step-after-requires
-step-after-requires c = (search rules, sym c.is_sound_lent.ensures.0 ∙ c.if-is_sound_lent.true)
+step-after-requires c = sym c.is_sound_lent.ensures.0 ∙ c.if-is_sound_lent.true
 
 pub returns-then-is_sound_lent : goal.returns-then-is_sound_lent
 returns-then-is_sound_lent c =

@@ -8,7 +8,6 @@ use Rattle.wing_meters.specs.Calls.{after_all, rows_effect, followed}
 use Rattle.wing_meters.specs.declared.window.Window.{Window}
 use Rattle.wing_meters.specs.declared.reading.Followed.{Followed}
 use Rattle.wing_meters.proofs.Follows.{readings-unsound, readings-short, readings-taken}
-use borrow.Author.Rules.{rules}
 use Rattle.wing_meters.proofs.reading.readings.Goals as goal
 use Rattle.std.specs.Prelude.{Ok}
 
@@ -20,7 +19,7 @@ returns-then-out-xs c =
 
 pub follow-after-requires : goal.follow-after-requires
 follow-after-requires c =
-    (search rules, sym c.is_sound_lent.ensures.0 ∙ c.if-is_sound_lent.true, omega (arith, c.if-out-xs.false))
+    (sym c.is_sound_lent.ensures.0 ∙ c.if-is_sound_lent.true, omega (arith, c.if-out-xs.false))
 
 pub returns-then-is_sound_lent : goal.returns-then-is_sound_lent
 returns-then-is_sound_lent c =

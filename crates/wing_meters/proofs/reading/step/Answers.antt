@@ -2,7 +2,7 @@
 use Prim.Native.Nat.{◌<◌}
 use mathlib.Core.Path.{◌≡◌, refl, sym, ap, ◌∙◌}
 use native.Mathlib.Omega.{arith}
-use lib.ListN.{length-set}
+use lib.ListN.{length, length-set}
 use mir.Syntax.{w16}
 use mir.Val.{to_z, of_z}
 use Rattle.wing_meters.specs.Level.{level_of}
@@ -17,49 +17,54 @@ pub bounds-levels-at : goal.bounds-levels-at
 bounds-levels-at c =
     let a = c.args in
     let w = window a.c a.levels.now in
-    let s = sound w c.requires.1 in
-    next-in w s c.requires.0
+    let s = sound w c.requires in
+    let size : length a.levels.now ≡ 256 = search rules in
+    omega (arith, next-in w s size)
 
 pub bounds-levels-at-2 : goal.bounds-levels-at-2
 bounds-levels-at-2 c =
     let a = c.args in
     let w = window a.c a.levels.now in
-    let s = sound w c.requires.1 in
-    next-in w s c.requires.0
+    let s = sound w c.requires in
+    let size : length a.levels.now ≡ 256 = search rules in
+    omega (arith, next-in w s size)
 
 pub onward-requires : goal.onward-requires
 onward-requires c =
     let a = c.args in
     let w = window a.c a.levels.now in
-    let s = sound w c.requires.1 in
+    let s = sound w c.requires in
+    let size : length a.levels.now ≡ 256 = search rules in
     next-below a.c s.placed
 
 pub top_after-requires : goal.top_after-requires
 top_after-requires c =
     let a = c.args in
     let w = window a.c a.levels.now in
-    let s = sound w c.requires.1 in
-    top-taking w s c.requires.0 c.level_of-came.result
+    let s = sound w c.requires in
+    let size : length a.levels.now ≡ 256 = search rules in
+    top-taking w s size c.level_of-came.result
 
 pub sum_after-requires : goal.sum_after-requires
 sum_after-requires c =
     let a = c.args in
     let w = window a.c a.levels.now in
-    let s = sound w c.requires.1 in
-    let r = in-range w s c.requires.0 (λ k h. omega (arith, c.slice_known-2-1.given k)) in
-    (leaving-le w s c.requires.0, omega arith)
+    let s = sound w c.requires in
+    let size : length a.levels.now ≡ 256 = search rules in
+    let r = in-range w s size (λ k h. omega (arith, c.fits-levels k)) in
+    (leaving-le w s size, omega arith)
 
 pub returns : goal.returns
 unfolding taking
 returns c =
     let a = c.args in
     let w = window a.c a.levels.now in
-    let s = sound w c.requires.1 in
-    let size = c.requires.0 in
+    let s = sound w c.requires in
+    let size : length a.levels.now ≡ 256 = search rules in
     let k : to_z w16 (of_z w16 a.x) ≡ a.x = search rules in
     let v : c.level_of-came.result ≡ level_of a.x = c.level_of-came.ensures ∙ ap level_of k in
     let low : c.level_of-came.result < 65536 = search rules in
-    let most = set-le a.levels.now a.c.next (level_of a.x) 65535 (λ k h. omega (arith, c.slice_known-2-1.given k)) (omega arith) in
+    let most = set-le a.levels.now a.c.next (level_of a.x) 65535 (λ k h. omega (arith, c.fits-levels k)) (omega arith) in
     let range = in-range (taking w a.x) (sound-taking w s size a.x) (length-set a.levels.now a.c.next (level_of a.x) ∙ size) most in
     rw
     (c.grown.ensures, c.onward.ensures, c.top_after.ensures, c.sum_after.ensures, v, sym (sum-taking w s size (level_of a.x)))

@@ -1,22 +1,15 @@
--- The invariant: what is added so far and the sum of the levels from i on are the whole sum, which is at most 65,535 for each.
-use native.Mathlib.Omega.{arith}
-use Rattle.wing_meters.proofs.Sums.{added-from, added-end, added-le}
+-- The library's sum is `added` (`added-sum`); 256 levels of 16 bits fit 32.
+use mathlib.Core.Path.{◌≡◌, sym, ◌∙◌}
+use borrow.Author.Rules.{rules}
+use Rattle.std.specs.List.{sum_by}
+use Rattle.std.proofs.iter.runs.Sources.{sums}
+use Rattle.wing_meters.proofs.Sums.{added-sum}
 use Rattle.wing_meters.proofs.sound.added.Goals as goal
 
-pub overflow_add-sum : goal.overflow_add-sum
-overflow_add-sum c =
-    let ls = c.args.levels.now in
-    let i = c.loop-i.i in
-    let from = added-from ls i c.loop-i-test.true in
-    let most = added-le ls 65535 (λ k b. omega (arith, c.type_inv.levels k)) in
-    omega arith
-
-pub loop-i-preserved : goal.loop-i-preserved
-loop-i-preserved c =
-    let ls = c.args.levels.now in
-    let i = c.loop-i.i in
-    let from = added-from ls i c.loop-i-test.true in
-    (omega arith, omega arith)
+pub sum-requires-clause-fits : goal.sum-requires-clause-fits
+sum-requires-clause-fits c = search (rules, sums)
 
 pub returns : goal.returns
-returns c = omega (arith, added-end c.args.levels.now c.loop-i.i c.loop-i-test.false)
+returns c =
+    let e : c.sum.result ≡ sum_by (λ x. x) c.args.levels.now = search rules in
+    e ∙ sym (added-sum c.args.levels.now)

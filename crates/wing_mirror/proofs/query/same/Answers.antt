@@ -2,7 +2,6 @@
 use mathlib.Core.Path.{sym, ◌∙◌}
 use Rattle.wing_mirror.specs.Record.{full}
 use Rattle.wing_mirror.specs.Table.{table}
-use Rattle.wing_mirror.specs.Query.{same_answer}
 use Rattle.wing_mirror.proofs.Records.Usables.{room}
 use Rattle.wing_mirror.proofs.query.same.Goals as goal
 
@@ -10,15 +9,3 @@ pub same_records-requires : goal.same_records-requires
 same_records-requires c =
     let a = c.args in
     (room full (table a.a.now a.count_a) (sym c.is_usable.ensures ∙ c.if-is_usable.true), room full (table a.b.now a.count_b) (sym c.is_usable-then-is_usable.ensures ∙ c.if-is_usable-2.true))
-
-pub returns-then-is_usable-2 : goal.returns-then-is_usable-2
-unfolding same_answer
-returns-then-is_usable-2 c = simp (← c.is_usable.ensures, c.if-is_usable.true, ← c.is_usable-then-is_usable.ensures, c.if-is_usable-2.true, ← c.same_records.ensures)
-
-pub returns-else-is_usable-2 : goal.returns-else-is_usable-2
-unfolding same_answer
-returns-else-is_usable-2 c = simp (← c.is_usable.ensures, c.if-is_usable.true, ← c.is_usable-then-is_usable.ensures, c.if-is_usable-2.false)
-
-pub returns-else-is_usable : goal.returns-else-is_usable
-unfolding same_answer
-returns-else-is_usable c = simp (← c.is_usable.ensures, c.if-is_usable.false)

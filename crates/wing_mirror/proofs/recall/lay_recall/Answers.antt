@@ -30,8 +30,8 @@ loop-number-init c =
     let l = length-set (set c.args.out.now 0 0xdf) 1 0xd1 ∙ length-set c.args.out.now 0 0xdf in
     (refl, omega arith, omega arith, refl)
 
-pub lay_order-n-requires : goal.lay_order-n-requires
-lay_order-n-requires c =
+pub lay_order-at-requires : goal.lay_order-at-requires
+lay_order-at-requires c =
     let t = table_of c.args.table.now c.args.count in
     let h = c.loop-number-test.true in
     (omega (arith, room full t c.requires.0), row-formed t c.requires.0 c.loop-number.number h, omega (arith, left_less c.args.count c.loop-number.number c.args.table.now h))
@@ -39,7 +39,7 @@ lay_order-n-requires c =
 pub overflow_add-at : goal.overflow_add-at
 overflow_add-at c =
     let l = left_less c.args.count c.loop-number.number c.args.table.now c.loop-number-test.true in
-    let n = c.lay_order-n.ensures.next in
+    let n = c.lay_order-at.ensures.next in
     search rules
 
 pub loop-number-preserved : goal.loop-number-preserved
@@ -48,7 +48,7 @@ loop-number-preserved c =
     let n = c.args.count in
     let h = c.loop-number-test.true in
     let l = left_less n c.loop-number.number b h in
-    let o = c.lay_order-n.ensures in
+    let o = c.lay_order-at.ensures in
     let p = writer-laws.part c.loop-number.at o in
     let q = ap length p.bytes ∙ length-sets c.loop-number.out c.loop-number.at (order_in (row_at c.loop-number.number b)) in (
       q ∙ c.loop-number.invariant.0,

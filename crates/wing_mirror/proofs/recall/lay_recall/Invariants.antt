@@ -1,4 +1,4 @@
-use Prim.Native.Nat.{◌+◌, ◌-◌, ◌≤◌}
+use Prim.Native.Nat.{◌+◌, ◌≤◌}
 use mathlib.Core.Path.{◌≡◌}
 use lib.ListN.{length}
 use lib.Seq.{sets}
@@ -11,6 +11,3 @@ use Rattle.wing_mirror.proofs.recall.lay_recall.Given as goal
 abbrev pub invariant-loop-number : goal.invariant-loop-number
 invariant-loop-number l =
     (length l.out ≡ length l.initial.out) × (l.at + length (left l.count l.number l.table) ≡ length (recall_bytes full (table_of l.table l.count))) × (length (recall_bytes full (table_of l.table l.count)) ≤ length l.out) × (sets l.out l.at (left l.count l.number l.table) ≡ sets l.initial.out 2 (left l.count 0 l.table))
-
-abbrev pub decreases-loop-number : goal.decreases-loop-number
-decreases-loop-number l = l.count - l.number

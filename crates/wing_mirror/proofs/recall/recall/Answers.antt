@@ -9,7 +9,7 @@ use Rattle.wing_mirror.specs.Recall.{recall_bytes}
 use Rattle.wing_mirror.proofs.Calls.Sends.{few-records, orders-le, recall-size, recalled, unusable}
 use borrow.Author.Rules.{rules}
 use Rattle.wing_mirror.proofs.recall.recall.Goals as goal
-use Rattle.wing_mirror.proofs.recall.recall.Goals.{then-out-count+else-out-orders_len, else-out-count}
+use Rattle.wing_mirror.proofs.recall.recall.Goals.{else-out-count-via-then-out-count+else-out-orders_len, else-out-count-via-else-out-count}
 
 pub overflow_mul-count : goal.overflow_mul-count
 overflow_mul-count c =
@@ -49,7 +49,7 @@ lay_recall-requires c =
     let t = table_of a.table.now a.count in
     let u = sym c.is_usable.ensures ∙ c.if-is_usable.true in
     let s = recall-size t in
-    (u, elim c.if-out-count.branch [ then-out-count+else-out-orders_len w ↦ omega arith | else-out-count w ↦ omega (arith, orders-le t u) ])
+    (u, elim c.else-out-count.branch [ else-out-count-via-then-out-count+else-out-orders_len w ↦ omega arith | else-out-count-via-else-out-count w ↦ omega (arith, orders-le t u) ])
 
 pub returns-then-is_usable : goal.returns-then-is_usable
 returns-then-is_usable c =
@@ -57,7 +57,7 @@ returns-then-is_usable c =
     let t = table_of a.table.now a.count in
     let u = sym c.is_usable.ensures ∙ c.if-is_usable.true in
     let s = recall-size t in
-    writer-laws.whole c.lay_recall.ensures (elim c.if-out-count.branch [ then-out-count+else-out-orders_len w ↦ omega arith | else-out-count w ↦ omega (arith, orders-le t u) ])
+    writer-laws.whole c.lay_recall.ensures (elim c.else-out-count.branch [ else-out-count-via-then-out-count+else-out-orders_len w ↦ omega arith | else-out-count-via-else-out-count w ↦ omega (arith, orders-le t u) ])
     ∙ recalled t a.out.now u
 
 pub returns : goal.returns

@@ -1,5 +1,6 @@
 -- Each return is the kind of record with that test (`integer-value`, `float_value`, `string-value`), by the contracts of the field readers.
 use mathlib.Core.Path.{◌≡◌}
+use native.Mathlib.Omega.{arith}
 use mir.Syntax.{w32}
 use mir.Val.{to_z, of_z}
 use Rattle.wing_node.specs.Value.{node_value}
@@ -7,19 +8,19 @@ use Rattle.wing_mirror.proofs.Records.Said.{integer-value, float_value, string-v
 use borrow.Author.Rules.{rules}
 use Rattle.wing_mirror.proofs.record.value_in.Goals as goal
 
-pub returns-then-rec-eq0 : goal.returns-then-rec-eq0
+pub returns-in-0 : goal.returns-in-0
 unfolding node_value
-returns-then-rec-eq0 c =
+returns-in-0 c =
     let x = c.i32_at.result in
     let back : to_z w32 (of_z w32 x) ≡ x = search rules in
-    rw back (integer-value c.args.rec.now c.requires x c.if-rec-eq0.true c.i32_at.ensures)
+    rw back (integer-value c.args.rec.now c.requires x c.in-0.is c.i32_at.ensures)
 
-pub returns-then-rec-eq1 : goal.returns-then-rec-eq1
+pub returns-in-1 : goal.returns-in-1
 unfolding node_value
-returns-then-rec-eq1 c =
-    float_value c.args.rec.now c.requires c.u32_at.result c.if-rec-eq0.false c.if-rec-eq1.true c.u32_at.ensures
+returns-in-1 c =
+    float_value c.args.rec.now c.requires c.u32_at.result (λ e. omega arith) c.in-1.is c.u32_at.ensures
 
-pub returns : goal.returns
+pub returns-in_default : goal.returns-in_default
 unfolding node_value
-returns c =
-    string-value c.args.rec.now c.requires c.u16_at.result c.if-rec-eq0.false c.if-rec-eq1.false c.u16_at.ensures
+returns-in_default c =
+    string-value c.args.rec.now c.requires c.u16_at.result (λ e. omega arith) (λ e. omega arith) c.u16_at.ensures

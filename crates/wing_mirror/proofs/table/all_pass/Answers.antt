@@ -6,22 +6,22 @@ use Rattle.wing_mirror.specs.Table.{checked_of}
 use Rattle.wing_mirror.proofs.Tables.Tests.{from_all, turn, all-passed}
 use Rattle.wing_mirror.proofs.table.all_pass.Goals as goal
 
-pub loop-i-init : goal.loop-i-init
-loop-i-init c =
+pub loop-number-init : goal.loop-number-init
+loop-number-init c =
     let a = c.args in
     ap (checked_of key_of (form_of a.width)) (from_all a.width a.count a.table.now)
 
-pub loop-i-preserved : goal.loop-i-preserved
-loop-i-preserved c =
+pub loop-number-preserved : goal.loop-number-preserved
+loop-number-preserved c =
     let a = c.args in
-    c.loop-i.invariant ∙ turn a.width (form_of a.width) a.count c.loop-i.i a.table.now c.loop-i-test.true ∙ rw (← c.passes.ensures, c.if-passes.true)
+    c.loop-number.invariant ∙ turn a.width (form_of a.width) a.count c.loop-number.number a.table.now c.loop-number-test.true ∙ rw (← c.passes.ensures, c.if-not-passes.false)
 
-pub returns-else-passes : goal.returns-else-passes
-returns-else-passes c =
+pub returns-then-not-passes : goal.returns-then-not-passes
+returns-then-not-passes c =
     let a = c.args in
-    sym (c.loop-i.invariant ∙ turn a.width (form_of a.width) a.count c.loop-i.i a.table.now c.loop-i-test.true ∙ rw (← c.passes.ensures, c.if-passes.false))
+    sym (c.loop-number.invariant ∙ turn a.width (form_of a.width) a.count c.loop-number.number a.table.now c.loop-number-test.true ∙ rw (← c.passes.ensures, c.if-not-passes.true))
 
 pub returns : goal.returns
 returns c =
     let a = c.args in
-    sym (c.loop-i.invariant ∙ all-passed a.width (form_of a.width) a.count c.loop-i.i a.table.now c.loop-i-test.false)
+    sym (c.loop-number.invariant ∙ all-passed a.width (form_of a.width) a.count c.loop-number.number a.table.now c.loop-number-test.false)

@@ -1,8 +1,6 @@
 -- Both returns are the branches of `passes_at`, by the contracts of `formed` on the record that `row` gives and of `is_below_next`.
-use mathlib.Core.Path.{◌∙◌, sym, ap}
+use mathlib.Core.Path.{◌∙◌, ap}
 use lib.ListN.{length}
-use Rattle.wing_mirror.specs.Form.{form_of}
-use Rattle.wing_mirror.specs.Table.{passes_at}
 use Rattle.wing_mirror.proofs.Tables.Chunks.{row_fits, row-wide}
 use Rattle.wing_mirror.proofs.table.passes.Goals as goal
 
@@ -12,15 +10,3 @@ row-requires c = row_fits _ _ _ _ c.requires.2 c.requires.1
 pub formed-requires : goal.formed-requires
 formed-requires c =
     ap length c.row.ensures ∙ row-wide c.args.width c.args.number c.args.table.now (row_fits _ _ _ _ c.requires.2 c.requires.1)
-
-pub returns-then-formed : goal.returns-then-formed
-unfolding passes_at
-returns-then-formed c =
-    let form = sym (c.formed.ensures ∙ ap (form_of c.args.width) c.row.ensures) in
-    rw (form ∙ c.if-formed.true) c.is_below_next.ensures
-
-pub returns : goal.returns
-unfolding passes_at
-returns c =
-    let form = sym (c.formed.ensures ∙ ap (form_of c.args.width) c.row.ensures) in
-    rw (form ∙ c.if-formed.false)
