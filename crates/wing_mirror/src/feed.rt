@@ -1,6 +1,5 @@
 // Feed: bytes through the decoder, each answer kept in the table.
-ghost use Rattle.std.specs.Prelude.{◌≡◌, true, ◌≤◌, eqb, length};
-ghost use Rattle.wing_node.specs.Bool.{if};
+ghost use Rattle.std.specs.Prelude.{◌≡◌, true, ◌≤◌, length, MatchOption};
 ghost use Rattle.wing_wire.specs.State.{sound_state, state_of, body_limit};
 ghost use Rattle.wing_mirror.specs.Record.{full};
 ghost use Rattle.wing_mirror.specs.Table.{table as table_of, usable};
@@ -35,37 +34,33 @@ fn feed_on(
         i += r.taken;
         let a = r.answer;
         if is_more(a) {
-            let counts = t.counts;
             return LentFeedReply {
                 answer: FeedAnswer::Taken,
-                counts: counts,
+                counts: t.counts,
                 control: c,
                 count: t.count,
             };
         }
-        t = keep_answer(table, t, c.node, a, store);
+        keep_answer(table, &mut t, c.node, a, store);
         release(store, a);
     }
 }
 
-// The number that a feed is refused by, 0 if by none. A store of another size than a state's is 8.
+// The number that a feed is refused by, if it is. A store of another size than a state's is 8.
 #[tactic(auto, unfolding(crate::specs::Mirror::lent_feed, crate::specs::Mirror::mirror_feed))]
-fn feed_fault(c: Control, store: &[u8], table: &[u8], count: usize, bytes: &[u8]) -> u8
-    ensures { (lent_feed full (state_of c store.now) (table_of table.now count) bytes.now ≡ if (eqb result 0) (taken_feed (fed_all full (state_of c store.now) (table_of table.now count) bytes.now)) (refused_feed result (state_of c store.now) (table_of table.now count))) × (result ≡ 0 → (sound_state (state_of c store.now) ≡ true) × (length store.now ≡ body_limit) × (usable full (table_of table.now count) ≡ true) × (length bytes.now ≤ 65536)) }
+fn feed_fault(c: Control, store: &[u8], table: &[u8], count: usize, bytes: &[u8]) -> Option<u8>
+    ensures { MatchOption result ((lent_feed full (state_of c store.now) (table_of table.now count) bytes.now ≡ taken_feed (fed_all full (state_of c store.now) (table_of table.now count) bytes.now)) × (sound_state (state_of c store.now) ≡ true) × (length store.now ≡ body_limit) × (usable full (table_of table.now count) ≡ true) × (length bytes.now ≤ 65536)) (λ why. lent_feed full (state_of c store.now) (table_of table.now count) bytes.now ≡ refused_feed why (state_of c store.now) (table_of table.now count)) }
 {
-    if store.len() != State::BODY_LIMIT {
-        return 8;
-    }
-    if !is_sound_lent(c, store) {
-        return 8;
+    if store.len() != State::BODY_LIMIT || !is_sound_lent(c, store) {
+        return Some(8);
     }
     if !is_usable(table, count) {
-        return 7;
+        return Some(7);
     }
     if bytes.len() > 65536 {
-        return 14;
+        return Some(14);
     }
-    0
+    None
 }
 
 // A feed whose state's store is lent, so that nothing of it is copied. 01: a refused feed changes and counts nothing. 8, 7, 14.
@@ -78,16 +73,14 @@ pub fn feed_lent(
 ) -> LentFeedReply
     ensures { lent_effect result store.new table.new ≡ lent_feed full (state_of c store.old) (table_of table.old count) bytes.now }
 {
-    let why = feed_fault(c, store, table, count, bytes);
-    if why == 0 {
-        return feed_on(c, store, table, count, bytes);
-    }
-    let counts = zero_counts();
-    LentFeedReply {
-        answer: FeedAnswer::Refused(why),
-        counts: counts,
-        control: c,
-        count: count,
+    match feed_fault(c, store, table, count, bytes) {
+        None => feed_on(c, store, table, count, bytes),
+        Some(why) => LentFeedReply {
+            answer: FeedAnswer::Refused(why),
+            counts: zero_counts(),
+            control: c,
+            count: count,
+        },
     }
 }
 
@@ -96,17 +89,13 @@ pub fn feed_lent(
 pub fn feed(state: State, table: &mut [u8], count: usize, bytes: &[u8]) -> FeedReply
     ensures { feed_effect result table.new ≡ mirror_feed full state (table_of table.old count) bytes.now }
 {
-    let mut c = state.control;
     let mut store = state.store;
-    let r = feed_lent(c, &mut store, table, count, bytes);
-    let answer = r.answer;
-    let counts = r.counts;
-    c = r.control;
+    let r = feed_lent(state.control, &mut store, table, count, bytes);
     FeedReply {
-        answer: answer,
-        counts: counts,
+        answer: r.answer,
+        counts: r.counts,
         state: State {
-            control: c,
+            control: r.control,
             store: store,
         },
         count: r.count,

@@ -22,11 +22,10 @@ fn number_of(table: &[u8], width: usize, count: usize, key: u32) -> Lookup
     requires { InOrder width (table_of table.now count) }
     ensures { result ≡ answer_of (number_of key_of key (records width count table.now)) }
 {
-    let position = search(table, width, count, key);
-    if position.found {
-        return Lookup::At(position.number);
+    match search(table, width, count, key) {
+        Ok(number) => Lookup::At(number),
+        Err(_) => Lookup::None,
     }
-    Lookup::None
 }
 
 // 01: an id's record number, or none. 7.

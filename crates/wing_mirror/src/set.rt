@@ -35,13 +35,10 @@ fn keep_written(table: &mut [u8], count: usize, rec: &[u8], written: Written) ->
     ensures { replied result table.new ≡ kept_of full written rec.now (table_of table.old count) }
 {
     match written {
-        Written::Bytes(n) => {
-            let kept = put(table, State::PLACE_WIDTH, count, rec);
-            SetReply {
-                answer: Written::Bytes(n),
-                count: kept.count,
-            }
-        }
+        Written::Bytes(n) => SetReply {
+            answer: Written::Bytes(n),
+            count: put(table, State::PLACE_WIDTH, count, rec).unwrap_or(count),
+        },
         Written::Refused(why) => refused(why, count),
     }
 }
