@@ -1,14 +1,18 @@
 -- Search and put as the code has them, over records of any width with the id in their first four bytes.
-use Rattle.std.specs.Prelude.{ℕ, ◌*◌, ◌≤◌, true, false, ◌≡◌, List, length}
+use Rattle.std.specs.Prelude.{ℕ, ◌*◌, ◌≤◌, Bool, true, false, ◌≡◌, List, length, Result, Ok, Err}
 use Rattle.wing_node.specs.Bool.{if}
 use Rattle.wing_mirror.specs.Rows.{Table, rows_of, holds, below, rising, takes, store}
 use Rattle.wing_mirror.specs.Record.{key_of}
 use Rattle.wing_mirror.specs.Puts.{PutEffect}
-use Rattle.wing_mirror.specs.declared.order.Position.{Position}
 
--- how many records have a lower key, and whether one has the key
-abbrev pub position_of : (List ℕ → ℕ) → ℕ → List (List ℕ) → Position
-position_of key k rs = record { number = below key k rs; found = holds key k rs }
+-- a number that a key is found at, or belongs at
+abbrev pub position : ℕ → Bool → Result ℕ ℕ
+position number true = Ok number
+position number false = Err number
+
+-- how many records have a lower key: found there if one has the key
+abbrev pub position_of : (List ℕ → ℕ) → ℕ → List (List ℕ) → Result ℕ ℕ
+position_of key k rs = position (below key k rs) (holds key k rs)
 
 -- what search and put ask of a table: its records are there, in strictly rising order
 pub record InOrder (w : ℕ) (t : Table) : Type 0 where

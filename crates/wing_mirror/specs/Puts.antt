@@ -1,10 +1,9 @@
 -- A put: the table after it, and whether the record is in it.
-use Rattle.std.specs.Prelude.{ℕ, Bool, true, false, List}
+use Rattle.std.specs.Prelude.{ℕ, Bool, true, false, List, Option, Some, None}
 use Rattle.wing_node.specs.Bool.{if}
 use Rattle.wing_mirror.specs.Rows.{Table, takes, store}
 use Rattle.wing_mirror.specs.Layout.{Layout}
 use Rattle.wing_mirror.specs.Table.{table}
-use Rattle.wing_mirror.specs.declared.store.Kept.{Kept}
 
 -- the table after a put, and whether there was a place
 pub record PutEffect : Type 0 where
@@ -18,6 +17,7 @@ module _ (L : Layout) where
   unfoldable pub put_of : List ℕ → Table → PutEffect
   put_of r t = if (takes width key_of r t) (record { after = store width key_of r t; taken = true }) (record { after = t; taken = false })
 
--- the same, by what the code returns and the lent buffer
-abbrev pub put_effect : Kept → List ℕ → PutEffect
-put_effect k buffer = record { after = table buffer k.count; taken = k.taken }
+-- the same, by the count before, what the code returns and the lent buffer
+abbrev pub put_effect : ℕ → Option ℕ → List ℕ → PutEffect
+put_effect count (Some now) buffer = record { after = table buffer now; taken = true }
+put_effect count None buffer = record { after = table buffer count; taken = false }

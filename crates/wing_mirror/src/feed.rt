@@ -41,7 +41,7 @@ fn feed_on(
                 count: t.count,
             };
         }
-        t = keep_answer(table, t, c.node, a, store);
+        keep_answer(table, &mut t, c.node, a, store);
         release(store, a);
     }
 }
@@ -57,10 +57,7 @@ fn feed_fault(
 ) -> Result<(), Refusal>
     ensures { MatchResult result (λ taken. (lent_feed full (state_of c store.now) (table_of table.now count) bytes.now ≡ taken_feed (fed_all full (state_of c store.now) (table_of table.now count) bytes.now)) × (sound_state (state_of c store.now) ≡ true) × (length store.now ≡ body_limit) × (usable full (table_of table.now count) ≡ true) × (length bytes.now ≤ 65536)) (λ why. lent_feed full (state_of c store.now) (table_of table.now count) bytes.now ≡ refused_feed why (state_of c store.now) (table_of table.now count)) }
 {
-    if store.len() != State::BODY_LIMIT {
-        return Err(Refusal::StateUnsound);
-    }
-    if !is_sound_lent(c, store) {
+    if store.len() != State::BODY_LIMIT || !is_sound_lent(c, store) {
         return Err(Refusal::StateUnsound);
     }
     if !is_usable(table, count) {
@@ -97,14 +94,12 @@ pub fn feed_lent(
 pub fn feed(state: State, table: &mut [u8], count: usize, bytes: &[u8]) -> FeedReply
     ensures { feed_effect result table.new ≡ mirror_feed full state (table_of table.old count) bytes.now }
 {
-    let mut c = state.control;
     let mut store = state.store;
-    let r = feed_lent(c, &mut store, table, count, bytes);
-    c = r.control;
+    let r = feed_lent(state.control, &mut store, table, count, bytes);
     FeedReply {
         answer: r.answer,
         state: State {
-            control: c,
+            control: r.control,
             store: store,
         },
         count: r.count,

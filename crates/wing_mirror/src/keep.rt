@@ -9,7 +9,7 @@ ghost use Rattle.wing_mirror.specs.Table.{table as table_of, usable};
 ghost use Rattle.wing_mirror.specs.Call.{too_long};
 ghost use Rattle.wing_mirror.specs.Counts.{total};
 ghost use Rattle.wing_mirror.specs.Mirror.{keep_event, keep};
-ghost use Rattle.wing_mirror.specs.Tally.{tally_of, ticked};
+ghost use Rattle.wing_mirror.specs.Tally.{tally_of};
 
 use crate::answer::Counts;
 use crate::counts::{Mark, body_mark, refusal_mark, tick};
@@ -27,42 +27,34 @@ pub struct Tally {
     pub counts: Counts,
 }
 
-fn mark(count: usize, mut counts: Counts, m: Mark) -> Tally
-    requires { total counts < 4294967295 }
-    ensures { result ≡ ticked count counts m }
-{
-    tick(&mut counts, m);
-    Tally { count, counts }
-}
-
 // 01: a value is stored at its node, or has no place. 02: it came from the console.
-fn keep_value(table: &mut [u8], t: Tally, node: i32, value: Value, string: &[u8]) -> Tally
-    requires { (usable full (table_of table.old t.count) ≡ true) × (total t.counts < 4294967295) × (too_long (node_value value string.now) ≡ false) }
-    ensures { tally_of result table.new ≡ keep_event full node (value_event (node_value value string.now)) (tally_of t table.old) }
+fn keep_value(table: &mut [u8], t: &mut Tally, node: i32, value: Value, string: &[u8])
+    requires { (usable full (table_of table.old t.old.count) ≡ true) × (total t.old.counts < 4294967295) × (too_long (node_value value string.now) ≡ false) }
+    ensures { tally_of t.new table.new ≡ keep_event full node (value_event (node_value value string.now)) (tally_of t.old table.old) }
 {
     let mut rec = [0u8; State::PLACE_WIDTH];
     lay_record(&mut rec, node, value, string, Origin::Console);
-    let counts = t.counts;
-    let k = put(table, State::PLACE_WIDTH, t.count, &rec);
-    if k.taken {
-        return mark(k.count, counts, Mark::Stored);
+    match put(table, State::PLACE_WIDTH, t.count, &rec) {
+        Some(count) => {
+            t.count = count;
+            tick(&mut t.counts, Mark::Stored);
+        }
+        None => tick(&mut t.counts, Mark::Unplaced),
     }
-    mark(k.count, counts, Mark::Unplaced)
 }
 
 // The answer's string or body stands at the front of the store.
-pub(crate) fn keep_answer(table: &mut [u8], t: Tally, node: i32, a: Answer, store: &[u8]) -> Tally
-    requires { (usable full (table_of table.old t.count) ≡ true) × (total t.counts < 4294967295) × (length store.now ≡ body_limit) × Within a store.now }
-    ensures { tally_of result table.new ≡ keep full node a store.now (tally_of t table.old) }
+pub(crate) fn keep_answer(table: &mut [u8], t: &mut Tally, node: i32, a: Answer, store: &[u8])
+    requires { (usable full (table_of table.old t.old.count) ≡ true) × (total t.old.counts < 4294967295) × (length store.now ≡ body_limit) × Within a store.now }
+    ensures { tally_of t.new table.new ≡ keep full node a store.now (tally_of t.old table.old) }
 {
-    let counts = t.counts;
     match a {
-        Answer::More => t,
+        Answer::More => {}
         Answer::Integer(x) => keep_value(table, t, node, Value::Integer(x), store),
         Answer::Float(bits) => keep_value(table, t, node, Value::Float(bits), store),
         Answer::String(n) => keep_value(table, t, node, Value::String(n), store),
-        Answer::Body(n) => mark(t.count, counts, body_mark(&store[..n as usize])),
-        Answer::End => mark(t.count, counts, Mark::Ended),
-        Answer::Refused(why) => mark(t.count, counts, refusal_mark(why)),
+        Answer::Body(n) => tick(&mut t.counts, body_mark(&store[..n as usize])),
+        Answer::End => tick(&mut t.counts, Mark::Ended),
+        Answer::Refused(why) => tick(&mut t.counts, refusal_mark(why)),
     }
 }

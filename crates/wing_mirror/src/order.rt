@@ -8,31 +8,11 @@ ghost use Rattle.wing_mirror.specs.HighEnd.{counted_of};
 
 use crate::record;
 
-// How many records have a lower key, and whether the next has this one.
-#[derive(Clone, Copy)]
-pub struct Position {
-    pub number: usize,
-    pub found: bool,
-}
-
-// A position, and how many keys were read to find it.
+// Where a key is, or where it belongs: how many records have a lower one. And how many keys were read to find it.
 #[derive(Clone, Copy)]
 pub struct Counted {
-    pub position: Position,
+    pub position: Result<usize, usize>,
     pub reads: usize,
-}
-
-fn stopped(number: usize, found: bool, reads: usize) -> Counted
-    ensures { result ≡ record { position = record { number = number; found = found }; reads = reads } }
-{
-    let position = Position {
-        number: number,
-        found: found,
-    };
-    Counted {
-        position: position,
-        reads: reads,
-    }
 }
 
 // The places of a buffer for records of a width.
@@ -65,32 +45,32 @@ fn search_down(table: &[u8], width: usize, count: usize, key: u32) -> Counted
     requires { InOrder width (table_of table.now count) }
     ensures { result ≡ counted_of key_of key (records width count table.now) }
 {
-    let mut i = count;
-    let mut found = false;
-    let mut reads = 0;
-    while i > 0 {
-        let last = key_at(table, width, i - 1);
-        reads += 1;
-        if last < key {
-            return stopped(i, found, reads);
+    for number in (0..count).rev() {
+        let last = key_at(table, width, number);
+        if last == key {
+            return Counted {
+                position: Ok(number),
+                reads: count - number,
+            };
         }
-        // An equal one ends the search when the place has moved to it.
-        i -= 1;
-        found = last == key;
-        if found {
-            return stopped(i, found, reads);
+        if last < key {
+            let position = Err(number + 1);
+            let reads = count - number;
+            return Counted { position, reads };
         }
     }
-    stopped(i, found, reads)
+    Counted {
+        position: Err(0),
+        reads: count,
+    }
 }
 
 // Where a key stands; callers have no use for the count.
-pub(crate) fn search(table: &[u8], width: usize, count: usize, key: u32) -> Position
+pub(crate) fn search(table: &[u8], width: usize, count: usize, key: u32) -> Result<usize, usize>
     requires { InOrder width (table_of table.now count) }
     ensures { result ≡ position_of key_of key (records width count table.now) }
 {
-    let counted = search_down(table, width, count, key);
-    counted.position
+    search_down(table, width, count, key).position
 }
 
 // The record after that of a number, if there is one, has a higher key.

@@ -23,11 +23,10 @@ fn number_of(table: &[u8], width: usize, count: usize, key: u32) -> Result<Optio
     requires { InOrder width (table_of table.now count) }
     ensures { result ≡ answer_of (number_of key_of key (records width count table.now)) }
 {
-    let position = search(table, width, count, key);
-    if position.found {
-        return Ok(Some(position.number));
+    match search(table, width, count, key) {
+        Ok(number) => Ok(Some(number)),
+        Err(_) => Ok(None),
     }
-    Ok(None)
 }
 
 // 01: an id's record number, or none. 7.

@@ -34,13 +34,10 @@ fn keep_written(table: &mut [u8], count: usize, rec: &[u8], written: Result<usiz
     ensures { replied result table.new ≡ kept_of full written rec.now (table_of table.old count) }
 {
     match written {
-        Ok(n) => {
-            let kept = put(table, State::PLACE_WIDTH, count, rec);
-            SetReply {
-                answer: Ok(n),
-                count: kept.count,
-            }
-        }
+        Ok(n) => SetReply {
+            answer: Ok(n),
+            count: put(table, State::PLACE_WIDTH, count, rec).unwrap_or(count),
+        },
         Err(why) => refused(why, count),
     }
 }

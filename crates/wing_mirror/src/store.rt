@@ -10,50 +10,34 @@ use crate::bytes::{lay, open_gap};
 use crate::order::{places_of, search};
 use crate::record;
 
-// Whether the record is in the table now, and how many there are.
-#[derive(Clone, Copy)]
-pub struct Kept {
-    pub count: usize,
-    pub taken: bool,
-}
-
 // Its id has a record, or a place is free.
 pub(crate) fn has_room(table: &[u8], width: usize, count: usize, rec: &[u8]) -> bool
     requires { InOrder width (table_of table.now count) × (length rec.now ≡ width) }
     ensures { result ≡ takes width key_of rec.now (table_of table.now count) }
 {
-    let position = search(table, width, count, record::key(rec));
-    if position.found {
-        return true;
-    }
-    count < places_of(table, width)
+    search(table, width, count, record::key(rec)).is_ok() || count < places_of(table, width)
 }
 
-// Into its place, or instead of the record with its id; not taken where its id is new and no place is free.
-pub(crate) fn put(table: &mut [u8], width: usize, count: usize, rec: &[u8]) -> Kept
+// Into its place, or instead of the record with its id: how many records there are then. None, and nothing is done, where its id is new and
+// no place is free.
+pub(crate) fn put(table: &mut [u8], width: usize, count: usize, rec: &[u8]) -> Option<usize>
     requires { InOrder width (table_of table.old count) × (length rec.now ≡ width) }
-    ensures { put_effect result table.new ≡ put_row width rec.now (table_of table.old count) }
+    ensures { put_effect count result table.new ≡ put_row width rec.now (table_of table.old count) }
 {
-    let position = search(table, width, count, record::key(rec));
-    let at = width * position.number;
-    if position.found {
-        lay(table, at, rec);
-        return Kept {
-            count: count,
-            taken: true,
-        };
-    }
-    if count < places_of(table, width) {
-        // Where ids come in rising order, the gap is after the last record and nothing moves.
-        open_gap(table, at, width * count, width);
-        lay(table, at, rec);
-        return Kept {
-            count: count + 1,
-            taken: true,
-        };
-    }
-    Kept {
-        count: count,
-        taken: false,
+    match search(table, width, count, record::key(rec)) {
+        Ok(number) => {
+            lay(table, width * number, rec);
+            Some(count)
+        }
+        Err(number) => {
+            if places_of(table, width) <= count {
+                return None;
+            }
+            // Where ids come in rising order, the gap is after the last record and nothing moves.
+            let at = width * number;
+            open_gap(table, at, width * count, width);
+            lay(table, at, rec);
+            Some(count + 1)
+        }
     }
 }

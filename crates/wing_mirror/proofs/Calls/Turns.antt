@@ -23,12 +23,11 @@ use Rattle.wing_wire.proofs.Laws.{decoder-laws}
 use Rattle.wing_mirror.specs.Rows.{Table, takes, store}
 use Rattle.wing_mirror.specs.Entry.{entry, storable}
 use Rattle.wing_mirror.specs.Layout.{kept, Layout, Lawful}
-use Rattle.wing_mirror.specs.Table.{table, usable, fits, put}
-use Rattle.wing_mirror.specs.Puts.{PutEffect, put_of, put_effect}
+use Rattle.wing_mirror.specs.Table.{usable, fits, put}
+use Rattle.wing_mirror.specs.Puts.{PutEffect, put_of}
 use Rattle.wing_mirror.specs.Counts.{zero_counts, tick, total}
 use Rattle.wing_mirror.specs.Mirror.{TableTally, table_tally, keep, keep_event}
 use Rattle.wing_mirror.specs.declared.answer.Counts.{Counts}
-use Rattle.wing_mirror.specs.declared.store.Kept.{Kept as Placed}
 use Rattle.wing_mirror.specs.declared.counts.Mark.TheVariants.{Stored, Unplaced}
 use Rattle.wing_mirror.specs.declared.origin.Origin.TheVariants.{Console}
 use Rattle.wing_mirror.proofs.Records.Choices.{keeping-cases}
@@ -54,11 +53,11 @@ smaller c s bytes p =
 -- ---- what is kept of an answer
 
 -- a put of a value's record, counted by whether it was taken
-pub put-kept : (L : Layout) (node : ℤ) (v : NodeValue) (t : Table) (counts : Counts) (r : List ℕ) (p : Placed) (buffer : List ℕ) →
-    L.keeping v ≡ kept → r ≡ L.record_of (entry node v Console) → put_effect p buffer ≡ put_of L r t →
-    table_tally (table buffer p.count) (tick (if p.taken Stored Unplaced) counts) ≡ keep_event L node (value v) (table_tally t counts)
+pub put-kept : (L : Layout) (node : ℤ) (v : NodeValue) (t : Table) (counts : Counts) (r : List ℕ) (x : PutEffect) →
+    L.keeping v ≡ kept → r ≡ L.record_of (entry node v Console) → x ≡ put_of L r t →
+    table_tally x.after (tick (if x.taken Stored Unplaced) counts) ≡ keep_event L node (value v) (table_tally t counts)
 unfolding put_of keep_event put fits
-put-kept L node v t counts r p buffer o e d =
+put-kept L node v t counts r x o e d =
     rw o (ap (λ (x : PutEffect). tally x) (d ∙ ap (λ (x : List ℕ). put_of L x t) e) ∙ go (takes L.width L.key_of (L.record_of (entry node v Console)) t))
   where
     tally : PutEffect → TableTally

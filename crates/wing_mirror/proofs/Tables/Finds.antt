@@ -7,12 +7,13 @@ use native.Mathlib.Omega.{arith}
 use native.Mathlib.Nat.{mul-suc, mul-zero}
 use borrow.Author.Tests.{lt-ltb, le-ltb, ltb-true, ne_eqb}
 use lib.Dec.{ltb, eqb}
+use Rattle.std.proofs.Common.{Ok, Err}
+use Rattle.std.specs.Result.{is_ok}
 use lib.ListN.{length, take, drop, get_or}
 use lib.Seq.{drop-drop, get_or_at}
 use Rattle.wing_node.specs.Bool.{if}
 use Rattle.wing_mirror.specs.Rows.{row, records, holds, below, over, rising}
-use Rattle.wing_mirror.specs.Order.{position_of}
-use Rattle.wing_mirror.specs.declared.order.Position.{Position}
+use Rattle.wing_mirror.specs.Order.{position, position_of}
 use Rattle.wing_mirror.proofs.Tables.Ordered.{rising-cons, rising-head, rising-tail}
 use Rattle.wing_mirror.proofs.Tables.Chunks.{length-records}
 use Rattle.wing_mirror.proofs.Tables.Numbers.{below-most, placed, found_at}
@@ -67,9 +68,19 @@ pub rows_last : (w i : ℕ) (b : List ℕ) → 0 < i → records w i b ≡ recor
 rows_last w zero b h = absurd (omega arith)
 rows_last w (suc i) b h = let z : suc i - 1 ≡ i = omega arith in rw z (rows_snoc w i b)
 
--- a record's number and whether it has the key
-abbrev pub position : ℕ → Bool → Position
-position number found = record { number = number; found = found }
+-- ---- what a search answers
+
+pub position-ok : (m at : ℕ) (t : Bool) → Ok m ≡ position at t → (m ≡ at) × (t ≡ true)
+position-ok m at true e = (cc, refl)
+position-ok m at false e = cc
+
+pub position-err : (m at : ℕ) (t : Bool) → Err m ≡ position at t → (m ≡ at) × (t ≡ false)
+position-err m at true e = cc
+position-err m at false e = (cc, refl)
+
+pub ok-position : (at : ℕ) (t : Bool) → is_ok (position at t) ≡ t
+ok-position at true = refl
+ok-position at false = refl
 
 -- a turn of the search: the last of i records has a higher key, a lower one or the one asked
 module _ (w : ℕ) (key : List ℕ → ℕ) (k i : ℕ) (b : List ℕ) (some : 0 < i) where

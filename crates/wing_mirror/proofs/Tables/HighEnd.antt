@@ -6,17 +6,17 @@ use mathlib.Core.List.{List, [], ◌∷◌, ◌++◌, map, reverse, reverse-cons
 use native.Mathlib.Omega.{arith}
 use borrow.Author.Tests.{lt-ltb, le-ltb, ltb-false}
 use lib.Dec.{ltb}
+use Rattle.std.proofs.Common.{Result}
 use lib.ListN.{length, length-append, length-map}
 use Rattle.wing_node.specs.Bool.{if}
 use Rattle.wing_mirror.specs.Rows.{row, records, rising, All}
 use Rattle.wing_mirror.specs.Table.{every}
 use Rattle.wing_mirror.specs.Lists.{filter}
-use Rattle.wing_mirror.specs.Order.{position_of}
+use Rattle.wing_mirror.specs.Order.{position, position_of}
 use Rattle.wing_mirror.specs.HighEnd.{above_and_one, read_in_turn, reads, counted_of}
-use Rattle.wing_mirror.specs.declared.order.Position.{Position}
 use Rattle.wing_mirror.specs.declared.order.Counted.{Counted}
 use Rattle.wing_mirror.proofs.Tables.Ordered.{rising-tail}
-use Rattle.wing_mirror.proofs.Tables.Finds.{last-above, rising-front, rows_last, position, down, stops, hits, none_left}
+use Rattle.wing_mirror.proofs.Tables.Finds.{last-above, rising-front, rows_last, down, stops, hits, none_left}
 use Rattle.wing_mirror.proofs.Tables.Images.{every_map, every-last}
 use Rattle.wing_mirror.proofs.Lists.Filtered.{filter-append, filter_none, filter_same, filter_map}
 
@@ -85,7 +85,7 @@ module _ {A : Type 0} (key : A → ℕ) (k : ℕ) where
 
 -- ---- the turns of a search over a table
 
-abbrev counted : Position → ℕ → Counted
+abbrev counted : Result ℕ ℕ → ℕ → Counted
 counted p reads = record { position = p; reads = reads }
 
 -- where n keys were read and these records are left

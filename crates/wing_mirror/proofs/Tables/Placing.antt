@@ -7,6 +7,8 @@ use native.Mathlib.Omega.{arith}
 use native.Mathlib.Nat.{mul-div-le, mul-le-mul_left}
 use borrow.Author.Tests.{lt-ltb, le-ltb}
 use lib.Dec.{ltb}
+use Rattle.std.proofs.Common.{Result, Ok, Err}
+use Rattle.std.specs.Result.{is_ok}
 use lib.ListN.{length, take, drop}
 use lib.Seq.{sets, sets-eq}
 use Rattle.wing_node.specs.Bool.{if}
@@ -15,12 +17,11 @@ use Rattle.wing_mirror.specs.Record.{key_of}
 use Rattle.wing_mirror.specs.Table.{table}
 use Rattle.wing_mirror.specs.Puts.{PutEffect}
 use Rattle.wing_mirror.specs.Order.{position_of, InOrder, put_row}
-use Rattle.wing_mirror.specs.declared.order.Position.{Position}
 use Rattle.wing_mirror.proofs.Tables.Ordered.{length-insert}
 use Rattle.wing_mirror.proofs.Tables.Chunks.{length-records, row_fits}
 use Rattle.wing_mirror.proofs.Tables.Stays.{store-new, store-over}
 use Rattle.wing_mirror.proofs.Tables.Laying.{gap-laid}
-use Rattle.wing_mirror.proofs.Tables.Finds.{at_most, found_below}
+use Rattle.wing_mirror.proofs.Tables.Finds.{at_most, found_below, position-ok, position-err, ok-position}
 
 -- the bytes of one record more, where a place is free
 pub free-fits : (w n l : ℕ) → n < l / w → w * n + w ≤ l
@@ -62,38 +63,36 @@ module _ (w : ℕ) (b r : List ℕ) (n : ℕ) (o : InOrder w (table b n)) (wide 
       rw (q, lt-ltb n (length b / w) h, counted false q, e, gap-laid b (w * at) (w * n) w r in_rows (free-fits w n (length b) h) wide)
       (ap₂ (λ (x : List ℕ) (m : ℕ). kept x m) (sym (store-new w key_of r (table b n) o.up q (at_most w key_of (key_of r) n b))) (omega arith))
 
-  -- the same, as the code has them: the record's key k, and the answer p of the search for it
-  module _ (k : ℕ) (ek : k ≡ key_of r) (p : Position) (ep : p ≡ position_of key_of k rs) where
-    position-is : p ≡ position_of key_of (key_of r) rs
-    position-is = ep ∙ ap (λ (x : ℕ). position_of key_of x rs) ek
+  -- the same, as the code has them: the record's key k, and what the search for it answers
+  module _ (k : ℕ) (ek : k ≡ key_of r) (m : ℕ) where
+    module _ (e : Ok m ≡ position_of key_of k rs) where
+      there : (m ≡ at) × (holds key_of (key_of r) rs ≡ true)
+      there = position-ok m at _ (e ∙ ap (λ (x : ℕ). position_of key_of x rs) ek)
 
-    number_is : p.number ≡ at
-    number_is = ap (λ (x : Position). x.number) position-is
+      pub found-fits : w * m + w ≤ length b
+      found-fits = row_fits w m n (length b) (rw there.0 (found_below w key_of (key_of r) n b o.up there.1)) o.room
 
-    holds-is : (t : Bool) → p.found ≡ t → holds key_of (key_of r) rs ≡ t
-    holds-is t q = sym (ap (λ (x : Position). x.found) position-is) ∙ q
+      pub over-it : (c : List ℕ) → c ≡ sets b (w * m) r → kept c n ≡ put_row w r (table b n)
+      over-it c q = rw (q, there.0) (put-over there.1)
 
-    pub in_table : w * p.number ≤ w * n
-    in_table = rw number_is in_rows
+    module _ (e : Err m ≡ position_of key_of k rs) where
+      absent : (m ≡ at) × (holds key_of (key_of r) rs ≡ false)
+      absent = position-err m at _ (e ∙ ap (λ (x : ℕ). position_of key_of x rs) ek)
 
-    pub found-fits : p.found ≡ true → w * p.number + w ≤ length b
-    found-fits q = row_fits w p.number n (length b) (rw number_is (found_below w key_of (key_of r) n b o.up (holds-is true q))) o.room
+      pub in_table : w * m ≤ w * n
+      in_table = rw absent.0 in_rows
 
-    pub over-it : (c : List ℕ) → p.found ≡ true → c ≡ sets b (w * p.number) r → kept c n ≡ put_row w r (table b n)
-    over-it c q e = rw (e, number_is) (put-over (holds-is true q))
+      pub none_free : length b / w ≤ n → record { after = table b n; taken = false } ≡ put_row w r (table b n)
+      none_free = put-none absent.1
 
-    pub none_free : p.found ≡ false → length b / w ≤ n → record { after = table b n; taken = false } ≡ put_row w r (table b n)
-    none_free q = put-none (holds-is false q)
+      pub new-one : (c d : List ℕ) → n < length b / w →
+          c ≡ take (w * m + w) b ++ (take (w * n - w * m) (drop (w * m) b) ++ drop (w * n + w) b) → d ≡ sets c (w * m) r →
+          kept d (n + 1) ≡ put_row w r (table b n)
+      new-one c d l q f = rw (f, absent.0) (put-new absent.1 l c (rw absent.0 at q))
 
-    pub new-one : (c d : List ℕ) → p.found ≡ false → n < length b / w →
-        c ≡ take (w * p.number + w) b ++ (take (w * n - w * p.number) (drop (w * p.number) b) ++ drop (w * n + w) b) → d ≡ sets c (w * p.number) r →
-        kept d (n + 1) ≡ put_row w r (table b n)
-    new-one c d q l e f = rw (f, number_is) (put-new (holds-is false q) l c (rw number_is at e))
-
-    pub takes-there : p.found ≡ true → true ≡ takes w key_of r (table b n)
-    unfolding takes
-    takes-there q = rw (holds-is true q)
-
-    pub takes-free : p.found ≡ false → ltb n (length b / w) ≡ takes w key_of r (table b n)
-    unfolding takes
-    takes-free q = rw (holds-is false q)
+  -- the same of the test for room
+  pub takes-is : (k : ℕ) → k ≡ key_of r → (p : Result ℕ ℕ) → p ≡ position_of key_of k rs → takes w key_of r (table b n) ≡ if (is_ok p) true (ltb n (length b / w))
+  unfolding takes
+  takes-is k ek p e =
+      let h = sym (ap is_ok (e ∙ ap (λ (x : ℕ). position_of key_of x rs) ek) ∙ ok-position at (holds key_of (key_of r) rs)) in
+      ap (λ (t : Bool). if t true (ltb n (length b / w))) h

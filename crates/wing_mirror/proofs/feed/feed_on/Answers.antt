@@ -41,8 +41,8 @@ returns-then-is_more c =
     let m = sym c.is_more.ensures ∙ c.if-is_more.true in
     ap taken_feed (ended full-laws c.loop-a.invariant.2 c.advance-r.result c.advance-r.new.store c.advance-r.ensures m)
 
-pub keep_answer-t-requires : goal.keep_answer-t-requires
-keep_answer-t-requires c =
+pub keep_answer-requires : goal.keep_answer-requires
+keep_answer-requires c =
     let l = c.loop-a.invariant in
     let w = answer-bounded full-laws l.2 c.advance-r.result c.advance-r.new.store c.advance-r.ensures in
     let f = l.2.few in
@@ -59,4 +59,4 @@ loop-a-preserved c =
     let m = sym c.is_more.ensures ∙ c.if-is_more.false in
     let node = c.advance-r.result.control.node in
     let back : to_z w32 (of_z w32 node) ≡ node = search rules in
-    (search rules, search rules, again full-laws l.2 c.advance-r.result c.advance-r.new.store c.advance-r.ensures m c.release.new.store c.release.ensures (tally_of c.keep_answer-t.result c.keep_answer-t.new.table) (rw back at c.keep_answer-t.ensures))
+    (search rules, search rules, again full-laws l.2 c.advance-r.result c.advance-r.new.store c.advance-r.ensures m c.release.new.store c.release.ensures (tally_of c.keep_answer.new.t c.keep_answer.new.table) (rw back at c.keep_answer.ensures))

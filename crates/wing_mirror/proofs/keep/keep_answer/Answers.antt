@@ -1,4 +1,4 @@
--- Each arm is the line of `keep_event` for the event of that answer, by the contracts of `keep_value`, `body_mark`, `mark` and `refusal_mark`;
+-- Each arm is the line of `keep_event` for the event of that answer, by the contracts of `keep_value`, `body_mark`, `tick` and `refusal_mark`;
 -- `Within` bounds the string and the body.
 use Prim.Native.Nat.{◌≤◌}
 use mathlib.Core.Path.{◌≡◌, refl, sym, ap}
@@ -10,10 +10,10 @@ use mir.Val.{to_z, of_z}
 use Rattle.wing_node.specs.Value.{node_value}
 use Rattle.wing_wire.specs.State.{body_limit}
 use Rattle.wing_wire.specs.Reader.{event_of}
+use Rattle.wing_mirror.specs.Table.{table}
 use Rattle.wing_mirror.specs.Call.{too_long}
-use Rattle.wing_mirror.specs.Mirror.{keep_event}
-use Rattle.wing_mirror.specs.Tally.{tally_of}
-use Rattle.wing_mirror.specs.declared.keep.Tally.{Tally}
+use Rattle.wing_mirror.specs.Mirror.{table_tally, keep_event}
+use Rattle.wing_mirror.specs.declared.answer.Counts.{Counts}
 use Rattle.wing_mirror.proofs.Tables.Laying.{short-front}
 use borrow.Author.Rules.{rules}
 use Rattle.wing_mirror.proofs.keep.keep_answer.Goals as goal
@@ -63,14 +63,14 @@ returns-in-String c =
 pub returns-in-Body : goal.returns-in-Body
 unfolding event_of keep_event
 returns-in-Body c =
-    rw c.in-Body.is (ap (λ (x : Tally). tally_of x c.args.table.now) (rw c.body_mark.ensures at c.mark.ensures))
+    rw c.in-Body.is (ap (λ (x : Counts). table_tally (table c.args.table.now c.args.t.now.count) x) (rw c.body_mark.ensures at c.tick.ensures))
 
 pub returns-in-End : goal.returns-in-End
 unfolding event_of keep_event
 returns-in-End c =
-    rw c.in-End.is (ap (λ (x : Tally). tally_of x c.args.table.now) c.mark-in-End.ensures)
+    rw c.in-End.is (ap (λ (x : Counts). table_tally (table c.args.table.now c.args.t.now.count) x) c.tick-in-End.ensures)
 
 pub returns-in-Refused : goal.returns-in-Refused
 unfolding event_of keep_event
 returns-in-Refused c =
-    rw c.in-Refused.is (ap (λ (x : Tally). tally_of x c.args.table.now) (rw c.refusal_mark.ensures at c.mark-in-Refused.ensures))
+    rw c.in-Refused.is (ap (λ (x : Counts). table_tally (table c.args.table.now c.args.t.now.count) x) (rw c.refusal_mark.ensures at c.tick-in-Refused.ensures))

@@ -1,6 +1,7 @@
 -- The contract of `lay_record` gives the value's record and that of `put` whether it was taken, which are the two branches of `keep_event`
 -- (`put-kept`).
 use mathlib.Core.Path.{refl, ◌∙◌, ap}
+use mathlib.Core.Bool.{true, false}
 use lib.IntN.{ℤ}
 use mir.Facts.{to_z-of_z}
 use Rattle.wing_node.specs.Value.{node_value}
@@ -8,27 +9,27 @@ use Rattle.wing_mirror.specs.Record.{full}
 use Rattle.wing_mirror.specs.Entry.{entry}
 use Rattle.wing_mirror.specs.Record.{record_of}
 use Rattle.wing_mirror.specs.Table.{table}
-use Rattle.wing_mirror.specs.declared.origin.Origin.TheVariants.{Console}
 use Rattle.wing_mirror.specs.Order.{put_row}
+use Rattle.wing_mirror.specs.declared.origin.Origin.TheVariants.{Console}
 use Rattle.wing_mirror.proofs.Records.Ready.{in_order_lem, put_is}
 use Rattle.wing_mirror.proofs.Calls.Turns.{put-kept}
 use borrow.Author.Rules.{rules}
 use Rattle.wing_mirror.proofs.keep.keep_value.Goals as goal
 
-pub put-k-requires : goal.put-k-requires
-put-k-requires c =
-    (in_order_lem (table c.args.table.now c.args.t.count) c.requires.0, search rules)
+pub put-requires : goal.put-requires
+put-requires c =
+    (in_order_lem (table c.args.table.now c.args.t.now.count) c.requires.0, search rules)
 
-pub returns-then-k : goal.returns-then-k
-returns-then-k c =
+pub returns-in-Some : goal.returns-in-Some
+returns-in-Some c =
     let v = node_value c.args.value c.args.string.now in
     let e = c.lay_record.ensures ∙ ap (λ (x : ℤ). record_of (entry x v Console)) (to_z-of_z c.ranges.node) in
-    let t = table c.args.table.now c.args.t.count in
-    rw c.mark.ensures (rw c.if-k.true at (put-kept full c.args.node v t c.args.t.counts c.lay_record.new.out c.put-k.result c.put-k.new.table refl e (◌∙◌ {b = put_row 264 c.lay_record.new.out t} c.put-k.ensures (put_is c.lay_record.new.out t))))
+    let t = table c.args.table.now c.args.t.now.count in
+    rw c.tick.ensures (put-kept full c.args.node v t c.args.t.now.counts c.lay_record.new.out (record { after = table c.put.new.table c.in-Some.count; taken = true }) refl e (◌∙◌ {b = put_row 264 c.lay_record.new.out t} c.in-Some.ensures (put_is c.lay_record.new.out t)))
 
-pub returns : goal.returns
-returns c =
+pub returns-in-None : goal.returns-in-None
+returns-in-None c =
     let v = node_value c.args.value c.args.string.now in
     let e = c.lay_record.ensures ∙ ap (λ (x : ℤ). record_of (entry x v Console)) (to_z-of_z c.ranges.node) in
-    let t = table c.args.table.now c.args.t.count in
-    rw c.mark-2.ensures (rw c.if-k.false at (put-kept full c.args.node v t c.args.t.counts c.lay_record.new.out c.put-k.result c.put-k.new.table refl e (◌∙◌ {b = put_row 264 c.lay_record.new.out t} c.put-k.ensures (put_is c.lay_record.new.out t))))
+    let t = table c.args.table.now c.args.t.now.count in
+    rw c.tick-in-None.ensures (put-kept full c.args.node v t c.args.t.now.counts c.lay_record.new.out (record { after = table c.put.new.table c.args.t.now.count; taken = false }) refl e (◌∙◌ {b = put_row 264 c.lay_record.new.out t} c.in-None.ensures (put_is c.lay_record.new.out t)))

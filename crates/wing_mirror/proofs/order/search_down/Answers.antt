@@ -1,19 +1,21 @@
--- The invariant: i records are left of those that were not read, their keys rise, and the search answers what it answers over these, after the keys that were read;
--- the id is not found yet.
--- A turn reads a last key that is higher (law `goes_down`); one that is lower or the same ends the loop (laws `stops-below`, `stops-there`).
-use Prim.Native.Nat.{◌<◌}
-use mathlib.Core.Path.{◌≡◌, refl, sym, ◌∙◌}
+-- The invariant: the records below a number were not read, their keys rise, and the search answers what it answers over these, after the keys that were
+-- read. A turn reads a last key that is higher (law `goes_down`); one that is lower or the same ends the loop (laws `stops-below`, `stops-there`).
+use Prim.Native.Nat.{ℕ, ◌+◌, ◌-◌, ◌<◌}
+use mathlib.Core.Path.{◌≡◌, sym, ◌∙◌, ap₂, ap}
 use native.Mathlib.Omega.{arith}
-use borrow.Author.Tests.{eq-eqb, ne_eqb, eqb-true, eqb-false}
+use Rattle.std.proofs.Common.{Err}
 use Rattle.wing_mirror.specs.Rows.{records}
 use Rattle.wing_mirror.specs.Record.{key_of}
+use Rattle.wing_mirror.specs.declared.order.Counted.{Counted}
 use Rattle.wing_mirror.proofs.Tables.Chunks.{row_fits}
 use Rattle.wing_mirror.proofs.Tables.Finds.{fewer}
-use Rattle.wing_mirror.proofs.Tables.HighEnd.{from-none, goes_down, stops-below, stops-there, stops-under}
+use Rattle.wing_mirror.proofs.Tables.HighEnd.{counted_from, from-none, goes_down, stops-below, stops-there, stops-under}
 use Rattle.wing_mirror.proofs.order.search_down.Goals as goal
 
-pub loop-i-init : goal.loop-i-init
-loop-i-init c = (omega arith, from-none key_of c.args.key (records c.args.width c.args.count c.args.table.now), c.requires.up, refl)
+pub loop-number-init : goal.loop-number-init
+loop-number-init c =
+    let z : c.args.count - c.args.count ≡ 0 = omega arith in
+    (from-none key_of c.args.key (records c.args.width c.args.count c.args.table.now) ∙ ap (λ (n : ℕ). counted_from n key_of c.args.key (records c.args.width c.args.count c.args.table.now)) (sym z), c.requires.up)
 
 pub key_at-last-requires : goal.key_at-last-requires
 key_at-last-requires c =
@@ -23,30 +25,34 @@ key_at-last-requires c =
 pub returns-then-last-key : goal.returns-then-last-key
 returns-then-last-key c =
     let a = c.args in
+    let l = c.loop-number in
+    let n : a.count - (l.number - 1) ≡ a.count - l.number + 1 = omega arith in
+    rw n (sym (l.invariant.0 ∙ stops-there a.width key_of a.key l.number (a.count - l.number) a.table.now c.loop-number-test.true l.invariant.1 (sym c.key_at-last.ensures ∙ c.if-last-key.true)))
+
+pub returns-then-last-key-2 : goal.returns-then-last-key-2
+returns-then-last-key-2 c =
+    let a = c.args in
+    let l = c.loop-number in
     let h : c.key_at-last.result < a.key = omega arith in
-    rw c.loop-i.invariant.3 at c.stopped.ensures
-    ∙ sym (c.loop-i.invariant.1 ∙ stops-below a.width key_of a.key c.loop-i.i c.loop-i.reads a.table.now c.loop-i-test.true c.loop-i.invariant.2 (rw c.key_at-last.ensures at h))
+    let e : l.number - 1 + 1 ≡ l.number = omega arith in
+    let n : a.count - (l.number - 1) ≡ a.count - l.number + 1 = omega arith in
+    rw (e, n) (sym (l.invariant.0 ∙ stops-below a.width key_of a.key l.number (a.count - l.number) a.table.now c.loop-number-test.true l.invariant.1 (rw c.key_at-last.ensures at h)))
 
-pub returns-then-found : goal.returns-then-found
-returns-then-found c =
+pub loop-number-preserved : goal.loop-number-preserved
+loop-number-preserved c =
     let a = c.args in
-    let e : c.key_at-last.result ≡ a.key = omega (arith, eqb-true) in
-    rw (eq-eqb c.key_at-last.result a.key e) at c.stopped-then-found.ensures
-    ∙ sym (c.loop-i.invariant.1 ∙ stops-there a.width key_of a.key c.loop-i.i c.loop-i.reads a.table.now c.loop-i-test.true c.loop-i.invariant.2 (sym c.key_at-last.ensures ∙ e))
-
-pub loop-i-preserved : goal.loop-i-preserved
-loop-i-preserved c =
-    let a = c.args in
-    let some = c.loop-i-test.true in
-    let h : a.key < c.key_at-last.result = omega (arith, eqb-false) in (
-      omega arith,
-      c.loop-i.invariant.1 ∙ goes_down a.width key_of a.key c.loop-i.i c.loop-i.reads a.table.now some (rw c.key_at-last.ensures at h),
-      fewer a.width key_of a.key c.loop-i.i a.table.now some c.loop-i.invariant.2,
-      ne_eqb c.key_at-last.result a.key (omega arith),
+    let l = c.loop-number in
+    let some = c.loop-number-test.true in
+    let h : a.key < c.key_at-last.result = grind (arith, c.if-last-key.false) in
+    let n : a.count - (l.number - 1) ≡ a.count - l.number + 1 = omega arith in (
+      rw n (l.invariant.0 ∙ goes_down a.width key_of a.key l.number (a.count - l.number) a.table.now some (rw c.key_at-last.ensures at h)),
+      fewer a.width key_of a.key l.number a.table.now some l.invariant.1,
     )
 
 pub returns : goal.returns
 returns c =
     let a = c.args in
-    rw c.loop-i.invariant.3 at c.stopped-2.ensures
-    ∙ sym (c.loop-i.invariant.1 ∙ stops-under a.width key_of a.key c.loop-i.i c.loop-i.reads a.table.now c.loop-i-test.false)
+    let l = c.loop-number in
+    let z : 0 ≡ l.number = omega arith in
+    let n : a.count ≡ a.count - l.number = omega arith in
+    ap₂ {C = Counted} (λ (m : ℕ) (reads : ℕ). record { position = Err m; reads = reads }) z n ∙ sym (l.invariant.0 ∙ stops-under a.width key_of a.key l.number (a.count - l.number) a.table.now c.loop-number-test.false)

@@ -1,16 +1,13 @@
 -- The contract of `search` tells whether the key is there and at which number, which are the branches of `number_of`.
-use mathlib.Core.Path.{◌∙◌, sym, ap}
 use Rattle.wing_mirror.specs.Rows.{number_of}
 use Rattle.wing_mirror.specs.Query.{answer_of}
-use Rattle.wing_mirror.specs.declared.order.Position.{Position}
+use Rattle.wing_mirror.proofs.Tables.Finds.{position-ok, position-err}
 use Rattle.wing_mirror.proofs.query.number_of.Goals as goal
 
-pub returns-then-position : goal.returns-then-position
+pub returns-in-Ok : goal.returns-in-Ok
 unfolding number_of answer_of
-returns-then-position c =
-    let e = c.search-position.ensures in
-    rw (sym (ap (λ (p : Position). p.found) e) ∙ c.if-position.true, ← ap (λ (p : Position). p.number) e)
+returns-in-Ok c = let p = position-ok _ _ _ c.in-Ok.ensures in rw (p.1, p.0)
 
-pub returns : goal.returns
+pub returns-in-Err : goal.returns-in-Err
 unfolding number_of answer_of
-returns c = rw (sym (ap (λ (p : Position). p.found) c.search-position.ensures) ∙ c.if-position.false)
+returns-in-Err c = let p = position-err _ _ _ c.in-Err.ensures in rw p.1

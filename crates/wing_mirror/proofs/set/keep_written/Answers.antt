@@ -2,19 +2,24 @@
 use Rattle.wing_mirror.specs.Sets.{kept_of}
 use Rattle.wing_mirror.specs.Puts.{PutEffect}
 use Rattle.wing_mirror.specs.Table.{table}
-use Rattle.wing_mirror.proofs.Records.Ready.{in_order_lem, put_is}
-use mathlib.Core.Path.{◌∙◌, ap}
+use Rattle.wing_mirror.proofs.Records.Ready.{in_order_lem, put_is, effect-count}
+use mathlib.Core.Path.{◌≡◌, ◌∙◌, ap}
+use borrow.Author.Rules.{rules}
+use Rattle.std.specs.Option.{unwrap_or}
+use Rattle.wing_mirror.specs.Rows.{Table}
 use Rattle.wing_mirror.proofs.set.keep_written.Goals as goal
 use Rattle.std.specs.Prelude.{Ok}
 
-pub put-kept-requires : goal.put-kept-requires
-put-kept-requires c =
+pub put-requires : goal.put-requires
+put-requires c =
     (in_order_lem (table c.args.table.now c.args.count) c.requires.0, c.requires.1)
 
 pub returns-in-Ok : goal.returns-in-Ok
 unfolding kept_of
 returns-in-Ok c =
-    rw c.in-Ok.is (ap (λ (d : PutEffect). record { answer = Ok c.in-Ok.n; after = d.after }) (c.put-kept.ensures ∙ put_is c.args.rec.now (table c.args.table.now c.args.count)))
+    let u : c.unwrap_or.result ≡ unwrap_or c.put.result c.args.count = search rules in
+    let d = effect-count c.args.count c.put.result c.put.new.table in
+    rw (c.in-Ok.is, u) (ap (λ (t : Table). record { answer = Ok c.in-Ok.n; after = t }) (d ∙ ap (λ (d : PutEffect). d.after) (c.put.ensures ∙ put_is c.args.rec.now (table c.args.table.now c.args.count))))
 
 pub returns-in-Err : goal.returns-in-Err
 unfolding kept_of

@@ -1,15 +1,20 @@
--- The contract of `search` tells whether the id has a record: then there is room (`takes-there`), else if a place is free (`takes-free`).
-use mathlib.Core.Path.{◌∙◌, ap}
-use Prim.Native.Nat.{ℕ}
+-- The contract of `search` tells whether the id has a record: then there is room, else if a place is free (`takes-is`).
+use mathlib.Core.Bool.{true, false}
+use mathlib.Core.Path.{◌≡◌, ◌∙◌, sym, ap}
+use borrow.Author.Rules.{rules}
 use lib.Dec.{ltb}
-use Rattle.wing_mirror.proofs.Tables.Placing.{takes-there, takes-free}
+use Rattle.std.specs.Result.{is_ok}
+use Rattle.wing_mirror.proofs.Tables.Placing.{takes-is}
 use Rattle.wing_mirror.proofs.store.has_room.Goals as goal
 
-pub returns-then-position : goal.returns-then-position
-returns-then-position c =
-    takes-there c.args.width c.args.table.now c.args.rec.now c.args.count c.requires.0 c.requires.1 c.key.result c.key.ensures c.search-position.result c.search-position.ensures c.if-position.true
+pub returns-then-is_ok : goal.returns-then-is_ok
+returns-then-is_ok c =
+    let a = c.args in
+    let o : is_ok c.search.result ≡ true = search rules in
+    c.if-is_ok.true ∙ sym (takes-is a.width a.table.now a.rec.now a.count c.requires.0 c.requires.1 c.key.result c.key.ensures c.search.result c.search.ensures ∙ rw o)
 
-pub returns : goal.returns
-returns c =
-    ap (λ (m : ℕ). ltb c.args.count m) c.places_of.ensures ∙
-    takes-free c.args.width c.args.table.now c.args.rec.now c.args.count c.requires.0 c.requires.1 c.key.result c.key.ensures c.search-position.result c.search-position.ensures c.if-position.false
+pub returns-else-is_ok : goal.returns-else-is_ok
+returns-else-is_ok c =
+    let a = c.args in
+    let o : is_ok c.search.result ≡ false = search rules in
+    ap (ltb a.count) c.places_of.ensures ∙ sym (takes-is a.width a.table.now a.rec.now a.count c.requires.0 c.requires.1 c.key.result c.key.ensures c.search.result c.search.ensures ∙ rw o)

@@ -1,45 +1,56 @@
 -- Each return is a case of `put_row`, at the number that `search` gives: the record is laid over the one found there (`over-it`) or into the gap that
 -- `open_gap` opens (`new-one`), or no place is free (`none_free`).
+use Prim.Native.Nat.{◌+◌, ◌*◌, ◌≤◌}
 use native.Mathlib.Omega.{arith}
 use lib.ListN.{length}
 use Rattle.wing_mirror.proofs.Tables.Placing.{in_table, found-fits, free-fits, over-it, none_free, new-one}
 use Rattle.wing_mirror.proofs.store.put.Goals as goal
+use Rattle.wing_mirror.proofs.store.put.Goals.{In-Ok, In-Err}
 
-pub overflow_mul-at : goal.overflow_mul-at
-overflow_mul-at c =
+there : (c : In-Ok) → c.args.width * c.in-Ok.number + c.args.width ≤ length c.args.table.now
+there c =
     let a = c.args in
-    omega (arith, in_table a.width a.table.now a.rec.now a.count c.requires.0 c.requires.1 c.key.result c.key.ensures c.search-position.result c.search-position.ensures)
+    found-fits a.width a.table.now a.rec.now a.count c.requires.0 c.requires.1 c.key.result c.key.ensures c.in-Ok.number c.in-Ok.ensures
+
+before : (c : In-Err) → c.args.width * c.in-Err.number ≤ c.args.width * c.args.count
+before c =
+    let a = c.args in
+    in_table a.width a.table.now a.rec.now a.count c.requires.0 c.requires.1 c.key.result c.key.ensures c.in-Err.number c.in-Err.ensures
+
+pub overflow_mul-width : goal.overflow_mul-width
+overflow_mul-width c = omega (arith, there (goal.at.overflow_mul-width c).In-Ok)
 
 pub lay-requires : goal.lay-requires
-lay-requires c =
-    let a = c.args in
-    omega (arith, found-fits a.width a.table.now a.rec.now a.count c.requires.0 c.requires.1 c.key.result c.key.ensures c.search-position.result c.search-position.ensures c.if-position.true)
+lay-requires c = omega (arith, there (goal.at.lay-requires c).In-Ok)
 
-pub returns-then-position : goal.returns-then-position
-returns-then-position c =
+pub returns-in-Ok : goal.returns-in-Ok
+returns-in-Ok c =
     let a = c.args in
-    over-it a.width a.table.now a.rec.now a.count c.requires.0 c.requires.1 c.key.result c.key.ensures c.search-position.result c.search-position.ensures c.lay.new.out c.if-position.true c.lay.ensures
+    over-it a.width a.table.now a.rec.now a.count c.requires.0 c.requires.1 c.key.result c.key.ensures c.in-Ok.number c.in-Ok.ensures c.lay.new.out c.lay.ensures
+
+pub returns-then-places_of-count : goal.returns-then-places_of-count
+returns-then-places_of-count c =
+    let a = c.args in
+    none_free a.width a.table.now a.rec.now a.count c.requires.0 c.requires.1 c.key.result c.key.ensures c.in-Err.number c.in-Err.ensures (rw c.places_of.ensures at c.if-places_of-count.true)
+
+pub overflow_mul-at : goal.overflow_mul-at
+overflow_mul-at c = omega (arith, before (goal.at.overflow_mul-at c).In-Err)
 
 pub open_gap-requires : goal.open_gap-requires
 open_gap-requires c =
     let a = c.args in (
-      in_table a.width a.table.now a.rec.now a.count c.requires.0 c.requires.1 c.key.result c.key.ensures c.search-position.result c.search-position.ensures,
-      free-fits a.width a.count (length a.table.now) (rw c.places_of.ensures at c.if-count-places_of.true),
+      before (goal.at.open_gap-requires c).In-Err,
+      free-fits a.width a.count (length a.table.now) (rw c.places_of.ensures at c.if-places_of-count.false),
     )
 
-pub lay-requires-then-count-places_of : goal.lay-requires-then-count-places_of
-lay-requires-then-count-places_of c =
+pub lay-requires-in-Err : goal.lay-requires-in-Err
+lay-requires-in-Err c =
     let a = c.args in
-    let most = in_table a.width a.table.now a.rec.now a.count c.requires.0 c.requires.1 c.key.result c.key.ensures c.search-position.result c.search-position.ensures in
-    let all = free-fits a.width a.count (length a.table.now) (rw c.places_of.ensures at c.if-count-places_of.true) in
+    let most = before (goal.at.lay-requires-in-Err c).In-Err in
+    let all = free-fits a.width a.count (length a.table.now) (rw c.places_of.ensures at c.if-places_of-count.false) in
     omega (arith, most, all, c.open_gap.auto.buf)
 
-pub returns-then-count-places_of : goal.returns-then-count-places_of
-returns-then-count-places_of c =
+pub returns-else-places_of-count : goal.returns-else-places_of-count
+returns-else-places_of-count c =
     let a = c.args in
-    new-one a.width a.table.now a.rec.now a.count c.requires.0 c.requires.1 c.key.result c.key.ensures c.search-position.result c.search-position.ensures c.open_gap.new.buf c.lay-then-count-places_of.new.out c.if-position.false (rw c.places_of.ensures at c.if-count-places_of.true) c.open_gap.ensures c.lay-then-count-places_of.ensures
-
-pub returns : goal.returns
-returns c =
-    let a = c.args in
-    none_free a.width a.table.now a.rec.now a.count c.requires.0 c.requires.1 c.key.result c.key.ensures c.search-position.result c.search-position.ensures c.if-position.false (rw c.places_of.ensures at c.if-count-places_of.false)
+    new-one a.width a.table.now a.rec.now a.count c.requires.0 c.requires.1 c.key.result c.key.ensures c.in-Err.number c.in-Err.ensures c.open_gap.new.buf c.lay-in-Err.new.out (rw c.places_of.ensures at c.if-places_of-count.false) c.open_gap.ensures c.lay-in-Err.ensures
