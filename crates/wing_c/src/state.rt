@@ -1,8 +1,8 @@
 // A decoder state kept as bytes, and the decoder over it: one event at a time.
-ghost use Rattle.std.specs.Prelude.{◌≡◌, ◌≤◌, true, length, take};
+ghost use Rattle.std.specs.Prelude.{◌≡◌, ◌≤◌, true, length};
 ghost use Rattle.wing_node.specs.Result.{ok};
 ghost use Rattle.wing_wire.specs.State.{state_of, fresh_state, sound_state};
-ghost use Rattle.wing_wire.specs.Reader.{over, next_of, next_event};
+ghost use Rattle.wing_wire.specs.Reader.{next_of, next_event};
 ghost use Rattle.wing_saved.specs.Saved.{saved_size, state_from, save_of, HeadOf};
 ghost use Rattle.wing_c.specs.Written.{command, command_of};
 ghost use Rattle.wing_saved.specs.Earlier.{earlier_from, carried_from};
@@ -10,10 +10,10 @@ ghost use Rattle.wing_c.specs.Kept.{state_status, carried_kept, state_carried, s
 
 use crate::answers::{WingEvent, WingWritten, event, minus, written};
 use crate::kept::keep;
-use wing_node::field::least;
 use wing_node::refusal::{Refusal, number};
 use wing_saved::earlier::load_earlier;
 use wing_saved::{HEAD, LoadAnswer};
+use wing_wire::reader::copy_front;
 use wing_wire::state::{Control, State, is_sound_lent};
 use wing_wire::stream::{Advanced, advance, release};
 use wing_wire::unit::Answer;
@@ -58,30 +58,13 @@ pub extern "C" fn wing_state_carry_over(earlier: &[u8], state: &mut [u8]) -> Win
     }
 }
 
-// The first n bytes of s to the front of out, as far as both reach.
-fn copy_front(out: &mut [u8], s: &[u8], n: usize)
-    ensures { out.new ≡ over (take n s.now) out.old }
-{
-    let most = least(least(n, s.len()), out.len());
-    let mut i = 0;
-    while i < most {
-        out[i] = s[i];
-        i += 1;
-    }
-}
-
 // How many bytes of a string or a body stand at the front of the store.
 fn bytes_of(a: Answer) -> usize
     ensures { result ≡ answer_bytes a }
 {
     match a {
-        Answer::More => 0,
-        Answer::Integer(_) => 0,
-        Answer::Float(_) => 0,
-        Answer::String(n) => n as usize,
-        Answer::Body(n) => n as usize,
-        Answer::End => 0,
-        Answer::Refused(_) => 0,
+        Answer::String(n) | Answer::Body(n) => usize::from(n),
+        _ => 0,
     }
 }
 
