@@ -1,7 +1,7 @@
 -- What is promised of the mirror's calls, as specs/Mirror states it.
-use Prim.Native.Nat.{ℕ, zero, suc, ◌-◌, ◌<◌, ◌≤◌}
+use Prim.Native.Nat.{ℕ, zero, suc, ◌-◌, ◌<◌, ◌≤◌, ◌+◌}
 use mathlib.Core.Bool.{Bool, true, false, not, true≢false}
-use mathlib.Core.Path.{◌≡◌, refl, sym, ◌∙◌, ap}
+use mathlib.Core.Path.{◌≡◌, refl, sym, ◌∙◌, ap, subst}
 use mathlib.Core.Logic.{◌↔◌}
 use mathlib.Core.List.{List, [], ◌∷◌, ◌++◌, map}
 use native.Mathlib.Omega.{arith}
@@ -11,7 +11,7 @@ use lib.Dec.{ltb, leb}
 use lib.IntN.{ℤ}
 use lib.ListN.{length, drop, get_or, replicate, length-replicate}
 use Rattle.wing_node.proofs.Refusals.{reason}
-use Rattle.wing_node.specs.Refusal.{refusal_number, alone, string_not_utf8}
+use Rattle.wing_node.specs.Refusal.{refusal_number, string_not_utf8}
 use Rattle.wing_node.specs.Bool.{if}
 use Rattle.wing_node.specs.Result.{Result, ok, refused}
 use Rattle.wing_node.specs.Signed.{InBits}
@@ -33,17 +33,16 @@ use Rattle.wing_mirror.specs.Rows.{Table, Found, found, nothing}
 use Rattle.wing_mirror.specs.Entry.{Entry, entry, storable, Typed}
 use Rattle.wing_mirror.specs.Record.{entry_in, full}
 use Rattle.wing_mirror.specs.Table.{rows, usable, put, fits, lookup_of}
-use Rattle.wing_mirror.specs.Query.{answer_of, lookup_answer, value_of, bytes_beside, read_of, refused_record, record_answer, same_tables, same_answer}
-use Rattle.wing_mirror.specs.Answers.{lookup_result, entry_result, record_result, same_result, feed_result}
+use Rattle.wing_mirror.specs.Query.{answer_of, lookup_answer, value_of, bytes_beside, read_of, record_answer, same_tables, same_answer}
+use Rattle.wing_mirror.specs.Answers.{lookup_result, record_result}
 use Rattle.wing_mirror.specs.Call.{text_in, too_long, not_text}
 use Rattle.wing_mirror.specs.Lookups.{RecordOf}
-use Rattle.wing_mirror.specs.Counts.{zero_counts}
+use Rattle.wing_mirror.specs.Counts.{zero_counts, counts_in, total}
 use Rattle.wing_mirror.specs.Mirror.{FeedEffect, fed_all, taken_feed, mirror_feed, lent_feed, SetEffect, refused_set, mirror_set}
 use Rattle.wing_mirror.specs.Recall.{recall_bytes, recall_of}
 use Rattle.wing_mirror.specs.History.{Equal, mirror_step}
 use Rattle.wing_mirror.specs.Origins.{entries_of, Taken}
 use Rattle.wing_mirror.specs.declared.answer.Counts.{Counts}
-use Rattle.wing_mirror.specs.declared.answer.RecordAnswer.TheVariants.{Record}
 use Rattle.wing_mirror.specs.declared.answer.RecordRead.{RecordRead}
 use Rattle.wing_mirror.specs.declared.origin.Origin.{Origin}
 use Rattle.wing_mirror.specs.declared.origin.Origin.TheVariants.{SetOrder}
@@ -64,20 +63,21 @@ use Rattle.promises.proofs.Writers.{at_front, Rest, refused-rest, whole-rest, wr
 use Rattle.promises.proofs.Tables.{id-there, formed as row-formed, no_place_lem}
 use Rattle.wing_node.specs.declared.refusal.Refusal.TheVariants.{NoPlace, NumberOver, OutputShort, StateUnsound, StringLong, TableUnsound}
 use Rattle.std.specs.Prelude.{Ok, Err}
+use Rattle.wing_node.specs.declared.refusal.Refusal.{Refusal}
 
 -- ---- feed
 
 pub feed-call : (s : State) (t : Table) (bytes : List ℕ) →
     let x = mirror_feed full s t bytes in
-    FeedCall (mirror s t) bytes x.answer x.counts (mirror x.state x.table)
-unfolding mirror_feed mirror_step feed_result
+    FeedCall (mirror s t) bytes x.answer (mirror x.state x.table)
+unfolding mirror_feed mirror_step
 feed-call s t bytes = record {
-  answered = unless feeds W counts (sound_state s) StateUnsound _ _ _ refl (refl, refl)
-      (unless feeds W counts (usable full t) TableUnsound _ _ _ refl (refl, refl)
-      (unless feeds W counts (leb (length bytes) 65536) NumberOver _ _ _ refl (refl, refl) (taken feeds W counts (taken_feed (fed_all full s t bytes)) refl)));
+  answered = unless feeds W counts (sound_state s) StateUnsound _ _ _ refl refl
+      (unless feeds W counts (usable full t) TableUnsound _ _ _ refl refl
+      (unless feeds W counts (leb (length bytes) 65536) NumberOver _ _ _ refl refl (taken feeds W counts (taken_feed (fed_all full s t bytes)) refl)));
   step = refl;
   origins = (who-set-it full-laws).by_feed s t bytes;
-  bounded = unfold mirror_feed in feed-counts full s t bytes;
+  bounded = λ k e. subst (λ (c : Counts). total c ≤ length bytes + 1) (ap counts_in e) (unfold mirror_feed in feed-counts full s t bytes);
   runs = feed-runs s t bytes;
 }
   where
@@ -85,18 +85,18 @@ feed-call s t bytes = record {
     counts = (fed_all full s t bytes).memo.counts
 
     feeds : FeedEffect → Result Counts
-    feeds x = feed_result x.answer x.counts
+    feeds x = x.answer
 
     W : FeedEffect → Type 0
-    W x = (mirror x.state x.table ≡ mirror s t) × (x.counts ≡ zero_counts)
+    W x = mirror x.state x.table ≡ mirror s t
 
 pub lent-feed-call : (s : State) (t : Table) (bytes : List ℕ) →
     let x = lent_feed full s t bytes in
-    LentFeedCall (mirror s t) bytes x.answer x.counts (mirror x.state x.table)
-unfolding lent_feed feed_result
+    LentFeedCall (mirror s t) bytes x.answer (mirror x.state x.table)
+unfolding lent_feed
 lent-feed-call s t bytes = record {
   whole = λ e. rw (eq-eqb (length s.store) body_limit e) (feed-call s t bytes);
-  other = λ n. rw (ne_eqb (length s.store) body_limit n) (refl, refl, refl);
+  other = λ n. rw (ne_eqb (length s.store) body_limit n) (refl, refl);
 }
 
 -- ---- set
@@ -230,26 +230,22 @@ recall-call t out b = record {
 -- ---- queries
 
 -- a record read that is sent back
-record-7 : (t : Table) (number : ℕ) → usable full t ≡ false → record_answer full t number ≡ refused_record 7
+record-7 : (t : Table) (number : ℕ) → usable full t ≡ false → record_answer full t number ≡ Err TableUnsound
 unfolding record_answer
 record-7 t number p = rw p
 
-record-14 : (t : Table) (number : ℕ) → usable full t ≡ true → ltb number t.count ≡ false → record_answer full t number ≡ refused_record 14
+record-14 : (t : Table) (number : ℕ) → usable full t ≡ true → ltb number t.count ≡ false → record_answer full t number ≡ Err NumberOver
 unfolding record_answer
 record-14 t number p q = rw (p, q)
 
-refused-record-result : (t : Table) (number k : ℕ) → record_answer full t number ≡ refused_record k → record_result (record_answer full t number) ≡ refused (alone k)
-unfolding entry_result
-refused-record-result t number k e = rw e
+refused-record-result : (t : Table) (number : ℕ) (why : Refusal) → record_answer full t number ≡ Err why → record_result (record_answer full t number) ≡ refused why
+unfolding record_result
+refused-record-result t number why e = rw e
 
 -- two usable tables are compared
-same_asked : (t u : Table) → usable full t ≡ true → usable full u ≡ true → same_result (same_answer full t u) ≡ ok (same_tables full t u)
-unfolding same_answer same_result
-same_asked t u p q = rw (p, q) (go (same_tables full t u))
-  where
-    go : (c : Bool) → same_result (if c (Ok true) (Ok false)) ≡ ok c
-    go true = refl
-    go false = refl
+same_asked : (t u : Table) → usable full t ≡ true → usable full u ≡ true → same_answer full t u ≡ ok (same_tables full t u)
+unfolding same_answer
+same_asked t u p q = rw (p, q)
 
 -- ---- what the queries come to
 
@@ -271,19 +267,8 @@ record-result t number b = go (usable full t) refl (ltb number t.count) refl
 
     go : (u : Bool) → usable full t ≡ u → (l : Bool) → ltb number t.count ≡ l → record_result (record_answer full t number) ≡ by ((not u gives TableUnsound) ∷ (not l gives NumberOver) ∷ []) e
     go true p true q = read-row full-laws t b p number (ltb-true number t.count q)
-    go true p false q = refused-record-result t number 14 (record-14 t number p q)
-    go false p l q = refused-record-result t number 7 (record-7 t number p)
-
-record-zeros : (t : Table) (number n : ℕ) → record_result (record_answer full t number) ≡ refused (alone n) → record_answer full t number ≡ refused_record n
-unfolding record_answer entry_result read_of
-record-zeros t number n =
-    branch P (usable full t) _ _ (λ _. branch P (ltb number t.count) _ _ (λ _ e. absurd (given _ (alone n) e)) (λ _. of-refused 14)) (λ _. of-refused 7)
-  where
-    P : RecordRead → Type 0
-    P r = record_result r ≡ refused (alone n) → r ≡ refused_record n
-
-    of-refused : (k : ℕ) → P (refused_record k)
-    of-refused k e = let z : k ≡ n = ap refusal_number (ap (reason (alone n)) e) in rw z
+    go true p false q = refused-record-result t number NumberOver (record-14 t number p q)
+    go false p l q = refused-record-result t number TableUnsound (record-7 t number p)
 
 -- zeros after some of them
 fewer-zeros : (k m : ℕ) → ◌≡◌ {A = List ℕ} (drop k (replicate m 0)) (replicate (m - k) 0)
@@ -292,52 +277,50 @@ fewer-zeros (suc k) zero = let e : zero - suc k ≡ 0 = omega arith in rw e
 fewer-zeros (suc k) (suc m) = rw (suc-sub-suc m k) (fewer-zeros k m)
 
 -- the reply of an entry, where its value may stand in a table
-read_whole : (id : ℤ) (v : NodeValue) (o : Origin) → storable v ≡ true → read_of (entry id v o) ≡ record { answer = Record id (said v) o; string = beside v }
+read_whole : (id : ℤ) (v : NodeValue) (o : Origin) → storable v ≡ true → ◌≡◌ {A = RecordRead} (read_of (entry id v o)) (record { id = id; value = said v; origin = o; string = beside v })
 unfolding read_of value_of bytes_beside storable
 read_whole id (integer x) o h = refl
 read_whole id (float bits) o h = refl
 read_whole id (string s) o h =
     let l : length s ≤ 256 = leb-true (length s) 256 (if-both (leb (length s) 256) (utf8 s) h).0 in
-    ap (λ (x : List ℕ). record { answer = Record id (String (length s)) o; string = x })
+    ap (λ (x : List ℕ). record { id = id; value = String (length s); origin = o; string = x })
     (over-whole s (replicate 256 0) (omega (arith, length-replicate {A = ℕ} 256 0)) ∙ ap (λ (x : List ℕ). s ++ x) (fewer-zeros (length s) 256))
 
 record-whole : (t : Table) (number : ℕ) → AreBytes t.buffer → (e : Entry) → record_result (record_answer full t number) ≡ ok e →
-    record_answer full t number ≡ record { answer = Record e.id (said e.value) e.origin; string = beside e.value }
+    record_answer full t number ≡ ok (record { id = e.id; value = said e.value; origin = e.origin; string = beside e.value })
 unfolding record_answer
 record-whole t number b e = go (usable full t) refl (ltb number t.count) refl
   where
     go : (u : Bool) → usable full t ≡ u → (l : Bool) → ltb number t.count ≡ l → record_result (record_answer full t number) ≡ ok e →
-        (if u (if l (read_of (entry_in (get_or (rows full t) number []))) (refused_record 14)) (refused_record 7)) ≡ record { answer = Record e.id (said e.value) e.origin; string = beside e.value }
+        ◌≡◌ {A = Result RecordRead} (if u (if l (ok (read_of (entry_in (get_or (rows full t) number [])))) (Err NumberOver)) (Err TableUnsound)) (ok (record { id = e.id; value = said e.value; origin = e.origin; string = beside e.value }))
     go true p true q h =
         let l = ltb-true number t.count q in
         let same : ◌≡◌ {A = Result Entry} (ok (entry_in (get_or (rows full t) number []))) (ok e) = sym (read-row full-laws t b p number l) ∙ h in
         let w : ◌≡◌ {A = Entry} (entry_in (get_or (rows full t) number [])) e = cc in
-        rw (← w) (read_whole (entry_in (get_or (rows full t) number [])).id (entry_in (get_or (rows full t) number [])).value (entry_in (get_or (rows full t) number [])).origin (full-laws.valid (get_or (rows full t) number []) (row-formed t b p number l)).text)
-    go true p false q h = absurd (given e NumberOver (sym h ∙ refused-record-result t number 14 (record-14 t number p q)))
-    go false p l q h = absurd (given e TableUnsound (sym h ∙ refused-record-result t number 7 (record-7 t number p)))
+        rw (← w) (ap ok (read_whole (entry_in (get_or (rows full t) number [])).id (entry_in (get_or (rows full t) number [])).value (entry_in (get_or (rows full t) number [])).origin (full-laws.valid (get_or (rows full t) number []) (row-formed t b p number l)).text))
+    go true p false q h = absurd (given e NumberOver (sym h ∙ refused-record-result t number NumberOver (record-14 t number p q)))
+    go false p l q h = absurd (given e TableUnsound (sym h ∙ refused-record-result t number TableUnsound (record-7 t number p)))
 
-same-result : (t u : Table) → same_result (same_answer full t u) ≡ by (same_lines t u) (same_tables full t u)
-unfolding same_answer same_result by
+same-result : (t u : Table) → same_answer full t u ≡ by (same_lines t u) (same_tables full t u)
+unfolding same_answer by
 same-result t u = go (usable full t) (usable full u) (same_tables full t u)
   where
-    go : (a b c : Bool) → same_result (if a (if b (if c (Ok true) (Ok false)) (Err TableUnsound)) (Err TableUnsound)) ≡ by ((not a gives TableUnsound) ∷ (not b gives TableUnsound) ∷ []) c
-    go true true true = refl
-    go true true false = refl
+    go : (a b c : Bool) → if {A = Result Bool} a (if b (Ok c) (Err TableUnsound)) (Err TableUnsound) ≡ by ((not a gives TableUnsound) ∷ (not b gives TableUnsound) ∷ []) c
+    go true true c = refl
     go true false c = refl
     go false b c = refl
 
-same-equal : (t u : Table) → usable full t ≡ true → usable full u ≡ true → (same_result (same_answer full t u) ≡ ok true ↔ Equal full t u)
+same-equal : (t u : Table) → usable full t ≡ true → usable full u ≡ true → (same_answer full t u ≡ ok true ↔ Equal full t u)
 same-equal t u p q = (λ e. let d = (same-decides full t u).right (said e) in record { counts = d.0; records = d.1 }, λ x. answered ∙ ap ok ((same-decides full t u).whole (x.counts, x.records)))
   where
-    answered : same_result (same_answer full t u) ≡ ok (same_tables full t u)
+    answered : same_answer full t u ≡ ok (same_tables full t u)
     answered = same_asked t u p q
 
-    said : same_result (same_answer full t u) ≡ ok true → same_tables full t u ≡ true
+    said : same_answer full t u ≡ ok true → same_tables full t u ≡ true
     said e = let w : ◌≡◌ {A = Result Bool} (ok (same_tables full t u)) (ok true) = sym answered ∙ e in cc
 
-same_entries : (t u : Table) → Taken full t → Taken full u → (same_result (same_answer full t u) ≡ ok true ↔ entries_of full t ≡ entries_of full u)
-unfolding same_result
-same_entries t u a b = (λ e. ap (map entry_in) ((same-equal t u a.1 b.1).0 e).records, λ q. ap same_result (((who-set-it full-laws).compared t u a b).1 q))
+same_entries : (t u : Table) → Taken full t → Taken full u → (same_answer full t u ≡ ok true ↔ entries_of full t ≡ entries_of full u)
+same_entries t u a b = (λ e. ap (map entry_in) ((same-equal t u a.1 b.1).0 e).records, λ q. ((who-set-it full-laws).compared t u a b).1 q)
 
 -- a record that is there and has this id, by the table's bytes
 module _ (t : Table) (b : AreBytes t.buffer) (u : usable full t ≡ true) (id : ℤ) (n : ℕ) where
@@ -350,7 +333,7 @@ module _ (t : Table) (b : AreBytes t.buffer) (u : usable full t ≡ true) (id : 
           let same : ◌≡◌ {A = Result Entry} (ok (entry_in (get_or (rows full t) n []))) (ok (entry id r.value r.origin)) = sym (read-row full-laws t b u n l) ∙ r.read in
           let w : ◌≡◌ {A = Entry} (entry_in (get_or (rows full t) n [])) (entry id r.value r.origin) = cc in
           (l, sym (id-there t n l) ∙ ap (λ (x : Entry). x.id) w)
-      go false q = absurd (given (entry id r.value r.origin) NumberOver (sym r.read ∙ refused-record-result t n 14 (record-14 t n u q)))
+      go false q = absurd (given (entry id r.value r.origin) NumberOver (sym r.read ∙ refused-record-result t n NumberOver (record-14 t n u q)))
 
   id-said : (n < t.count) × (id_at (place_at n t.buffer) ≡ id) → RecordOf full t n id
   id-said x =
@@ -366,7 +349,7 @@ lookup-call t id b i = record {
 }
 
 pub record-call : (t : Table) (number : ℕ) → AreBytes t.buffer → RecordCall t number (record_answer full t number)
-record-call t number b = record { result = record-result t number b; whole = record-whole t number b; zeros = record-zeros t number; zero_bytes = λ n e. record-zeros t number n e }
+record-call t number b = record { result = record-result t number b; whole = record-whole t number b }
 
 pub same-call : (t u : Table) → SameCall t u (same_answer full t u)
 same-call t u = record { result = same-result t u; equal = same-equal t u; entries = same_entries t u }

@@ -9,13 +9,13 @@ use Rattle.wing_node.specs.declared.refusal.Refusal.{Refusal}
 use Rattle.wing_node.specs.Bool.{if}
 use Rattle.wing_node.specs.Result.{Result, ok, refused}
 use Rattle.wing_wire.specs.State.{sound_state, fresh_state}
-use Rattle.wing_wire.specs.Earlier.{earlier_sound, is_long_count, is_started, carried, carry_of, carried_as}
+use Rattle.wing_wire.specs.Earlier.{earlier_sound, is_long_count, is_started, carried, carry_of}
 use Rattle.wing_wire.specs.declared.state.State.{State}
 use Rattle.wing_wire.specs.declared.earlier.State.{State as EarlierState}
 use Rattle.wing_wire.specs.declared.earlier.Token.{Token}
 use Rattle.wing_wire.specs.declared.earlier.Token.TheVariants.{Between, Number, String, Body}
 use Rattle.wing_wire.specs.declared.token.Class.TheVariants.{NoEvent, Integer, String as AString, Length, Int16, Int32, Float, Node, End, Count, LongCount}
-use Rattle.wing_wire.proofs.Reading.CarriedOver.{sound-carried, carry-taken, carried-result}
+use Rattle.wing_wire.proofs.Reading.CarriedOver.{sound-carried, carry-taken}
 use Rattle.promises.specs.Lines.{◌gives◌, by}
 use Rattle.promises.specs.Wire.{carry_lines, CarryCall}
 use Rattle.wing_node.specs.declared.refusal.Refusal.TheVariants.{StateUnsound}
@@ -30,12 +30,6 @@ by_lines s = go (is_started s.control.token) (earlier_sound s)
     go true false = refl
     go false true = refl
     go false false = refl
-
--- beside a refusal stands a fresh state
-beside : (r : Result State) (why : Refusal) → r ≡ refused why → (carried_as r).state ≡ fresh_state
-unfolding carried_as
-beside (ok s) why e = absurd (let z : ◌≡◌ {A = ℕ} 0 1 = cc in omega arith)
-beside (refused other) why e = refl
 
 -- a token of another class, or with all four units left, has taken none of them
 unstarted : (t : Token) → ((left v : ℕ) → t ≡ Number LongCount left v → left ≡ 4) → is_started t ≡ false
@@ -63,14 +57,13 @@ carry-begun : (s : EarlierState) (left v : ℕ) → s.control.token ≡ Number L
 unfolding carry_of is_started is_long_count
 carry-begun s left v e l = rw (e, lt-ltb left 4 l)
 
-pub carry-call : (s : EarlierState) → CarryCall s (carried_as (carry_of s)).answer (carried_as (carry_of s)).state
+pub carry-call : (s : EarlierState) → CarryCall s (carry_of s)
 carry-call s =
-    let e = carried-result (carry_of s) in
     record {
-      answered = record { result = e ∙ by_lines s; as_it_was = λ n p. beside (carry_of s) n (sym e ∙ p) };
-      sound = λ t p. let k = carry-taken s t (sym e ∙ p) in subst (λ (x : State). sound_state x ≡ true) k.same (sound-carried s ∙ k.sound);
-      kept = λ t p. let k = sym (carry-taken s t (sym e ∙ p)).same in (ap (λ (x : State). x.control.escape) k, ap (λ (x : State). x.control.node) k, ap (λ (x : State). x.store) k);
+      answered = by_lines s;
+      sound = λ t p. let k = carry-taken s t p in subst (λ (x : State). sound_state x ≡ true) k.same (sound-carried s ∙ k.sound);
+      kept = λ t p. let k = sym (carry-taken s t p).same in (ap (λ (x : State). x.control.escape) k, ap (λ (x : State). x.control.node) k, ap (λ (x : State). x.store) k);
       was = sym (sound-carried s);
-      taken = λ p k. e ∙ carry-takes s p k;
-      begun = λ left v p l. e ∙ carry-begun s left v p l;
+      taken = λ p k. carry-takes s p k;
+      begun = λ left v p l. carry-begun s left v p l;
     }

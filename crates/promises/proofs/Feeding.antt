@@ -26,10 +26,9 @@ use Rattle.wing_mirror.specs.Rows.{Table}
 use Rattle.wing_mirror.specs.Record.{full}
 use Rattle.wing_mirror.specs.Entry.{entry}
 use Rattle.wing_mirror.specs.Table.{usable, put}
-use Rattle.wing_mirror.specs.Counts.{six, zero_counts, mark_number, one, tick, refusal_mark, body_mark}
+use Rattle.wing_mirror.specs.Counts.{six, zero_counts, mark_number, one, tick, refusal_mark, body_mark, counts_in}
 use Rattle.wing_mirror.specs.Mirror.{TableTally, table_tally, keep_event, FeedEffect, fed_all, mirror_feed}
 use Rattle.wing_mirror.specs.Machine.{decode_all}
-use Rattle.wing_mirror.specs.declared.answer.FeedAnswer.TheVariants.{Taken, Refused as FeedRefused}
 use Rattle.wing_mirror.specs.declared.counts.Mark.{Mark}
 use Rattle.wing_mirror.specs.declared.counts.Mark.TheVariants.{Stored, Unplaced, StringRefused, DefinitionRead, DefinitionRefused, Ended}
 use Rattle.wing_mirror.specs.declared.origin.Origin.TheVariants.{Console}
@@ -37,7 +36,9 @@ use Rattle.promises.specs.Wire.{with_event}
 use Rattle.promises.specs.Mirror.{MachineReads, EventsCounted}
 use Rattle.promises.proofs.Lines.{given}
 use Rattle.wing_node.specs.declared.definition.Definition.{Definition}
-use Rattle.std.specs.Prelude.{Ok, Err}
+use Rattle.std.specs.Prelude.{Ok, Err, is_ok}
+use mathlib.Core.Bool.{true≢false}
+use Rattle.wing_mirror.specs.declared.answer.Counts.{Counts}
 
 -- ---- next until 'more'
 
@@ -47,20 +48,21 @@ machine-reads s bytes a p b = until-more with_event s bytes [] a p b
 
 pub feed-runs : (s : State) (t : Table) (bytes : List ℕ) → InRange s.control s.store → AreBytes bytes →
     let x = mirror_feed full s t bytes in
-    x.answer ≡ Taken → NextCalls (keep_event full) s bytes (table_tally t zero_counts) (fed_state (keep_event full) x.state (table_tally x.table x.counts))
+    (k : Counts) → x.answer ≡ ok k → NextCalls (keep_event full) s bytes (table_tally t zero_counts) (fed_state (keep_event full) x.state (table_tally x.table k))
 unfolding mirror_feed fed_all
 feed-runs s t bytes inside are =
     branch P (sound_state s) _ _
     (λ g. branch P (usable full t) _ _
     (λ _. branch P (leb (length bytes) 65536) _ _
-    (λ l _. until-more (keep_event full) s bytes (table_tally t zero_counts) (record { sound = g; store = inside.store.size; most = leb-true (length bytes) 65536 l }) inside.pending are)
-    (λ _ z. no z)) (λ _ z. no z)) (λ _ z. no z)
+    (λ l k e. let c : (fed_all full s t bytes).memo.counts ≡ k = ap counts_in e in
+    rw (← c) (until-more (keep_event full) s bytes (table_tally t zero_counts) (record { sound = g; store = inside.store.size; most = leb-true (length bytes) 65536 l }) inside.pending are))
+    (λ _ k z. no z)) (λ _ k z. no z)) (λ _ k z. no z)
   where
     P : FeedEffect → Type 0
-    P x = x.answer ≡ Taken → NextCalls (keep_event full) s bytes (table_tally t zero_counts) (fed_state (keep_event full) x.state (table_tally x.table x.counts))
+    P x = (k : Counts) → x.answer ≡ ok k → NextCalls (keep_event full) s bytes (table_tally t zero_counts) (fed_state (keep_event full) x.state (table_tally x.table k))
 
-    no : {A : Type 0} {why : ℕ} → FeedRefused why ≡ Taken → A
-    no e = absurd (let w : ◌≡◌ {A = ℕ} 0 1 = cc in omega arith)
+    no : {A : Type 0} {why : Refusal} {k : Counts} → ◌≡◌ {A = Result Counts} (refused why) (ok k) → A
+    no e = absurd (true≢false (sym (ap is_ok e)))
 
 -- ---- what is counted
 

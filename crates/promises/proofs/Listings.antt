@@ -90,7 +90,7 @@ print-call t out b = record {
 -- the reason of a refused load, or another
 abbrev why_in : Refusal → Loaded → Refusal
 why_in other (Ok n) = other
-why_in other (Err (record { why = why; line = line })) = why
+why_in other (Err b) = b.why
 
 abbrev loads : LoadEffect → Result ℕ
 loads x = loaded_result x.reply.answer
@@ -214,8 +214,8 @@ module _ (memory : List ℕ) where
   no_line_lem : (text : List ℕ) (a : Loaded) → ((w : Refusal) (l : ℕ) → a ≡ Err (record { why = w; line = l }) → (reading_of text ≡ bad w l) ⊎ (l ≡ 0)) → (why : Refusal) → loaded_result a ≡ refused why → ((why ≡ table_unsound) ⊎ ((why ≡ number_over) ⊎ (why ≡ no_place))) → line_in a ≡ 0
   unfolding loaded_result line_in
   no_line_lem text (Ok n) f why e k = refl
-  no_line_lem text (Err (record { why = w; line = l })) f why e k =
-      ⊎_elim (λ r. absurd (not_line why (subst Wrong (ap (reason w) e) (subst Known r (known-reading text))) k)) (λ y. y) (f w l refl)
+  no_line_lem text (Err b) f why e k =
+      ⊎_elim (λ r. absurd (not_line why (subst Wrong (ap (reason b.why) e) (subst Known r (known-reading text))) k)) (λ y. y) (f b.why b.line refl)
 
   load_fresh : (text : List ℕ) → (load_of text memory).reply.state ≡ fresh_state
   unfolding load_of

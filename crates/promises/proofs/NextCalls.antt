@@ -8,7 +8,7 @@ use borrow.Author.Tests.{leb-true}
 use lib.Dec.{leb}
 use lib.ListN.{length, take, drop, replicate, length-take}
 use Rattle.wing_node.proofs.Refusals.{reason}
-use Rattle.wing_node.specs.Refusal.{refusal_number, alone}
+use Rattle.wing_node.specs.Refusal.{refusal_number}
 use Rattle.wing_node.specs.Bool.{if}
 use Rattle.wing_node.specs.Result.{ok, refused}
 use Rattle.wing_node.proofs.Branches.{branch}
@@ -30,22 +30,23 @@ use Rattle.wing_wire.proofs.Reading.Refusing.{advance-says}
 use Rattle.promises.proofs.Reading.{is-more, advance-stops}
 use Rattle.wing_node.specs.declared.refusal.Refusal.TheVariants.{NumberOver, StateUnsound}
 use Rattle.std.specs.Prelude.{None}
+use Rattle.wing_node.specs.declared.refusal.Refusal.{Refusal}
 
-sent_back : (s : State) (bytes : List ℕ) (n : ℕ) → sends (next_lines s bytes) ≡ refused (alone n) → next_of s bytes ≡ refused_next n s
+sent_back : (s : State) (bytes : List ℕ) (why : Refusal) → sends (next_lines s bytes) ≡ refused why → next_of s bytes ≡ refused_next why s
 unfolding next_of by
-sent_back s bytes n = go (sound_state s) (leb (length bytes) 65536)
+sent_back s bytes why = go (sound_state s) (leb (length bytes) 65536)
   where
-    go : (a b : Bool) → sends ((not a gives StateUnsound) ∷ (not b gives NumberOver) ∷ []) ≡ refused (alone n) →
-        if a (if b (next_from (advance_of s.control s.store bytes)) (refused_next 14 s)) (refused_next 8 s) ≡ refused_next n s
+    go : (a b : Bool) → sends ((not a gives StateUnsound) ∷ (not b gives NumberOver) ∷ []) ≡ refused why →
+        if a (if b (next_from (advance_of s.control s.store bytes)) (refused_next NumberOver s)) (refused_next StateUnsound s) ≡ refused_next why s
     go true true e = absurd (let z : ◌≡◌ {A = ℕ} 0 1 = cc in omega arith)
-    go true false e = let z : 14 ≡ n = ap refusal_number (ap (reason (alone n)) e) in ap (λ k. refused_next k s) z
-    go false b e = let z : 8 ≡ n = ap refusal_number (ap (reason (alone n)) e) in ap (λ k. refused_next k s) z
+    go true false e = ap (λ k. refused_next k s) (ap (reason why) e)
+    go false b e = ap (λ k. refused_next k s) (ap (reason why) e)
 
 -- the same in figures
-sent-as-was : (s : State) (bytes : List ℕ) (n : ℕ) → sends (next_lines s bytes) ≡ refused (alone n) →
-    ((next_of s bytes).answer ≡ Refused (alone n)) × ((next_of s bytes).taken ≡ 0) × ((next_of s bytes).state ≡ s)
-sent-as-was s bytes n e =
-    subst (λ (r : Reply). (r.answer ≡ Refused (alone n)) × (r.taken ≡ 0) × (r.state ≡ s)) (sym (sent_back s bytes n e)) (refl, refl, refl)
+sent-as-was : (s : State) (bytes : List ℕ) (why : Refusal) → sends (next_lines s bytes) ≡ refused why →
+    ((next_of s bytes).answer ≡ Refused why) × ((next_of s bytes).taken ≡ 0) × ((next_of s bytes).state ≡ s)
+sent-as-was s bytes why e =
+    subst (λ (r : Reply). (r.answer ≡ Refused why) × (r.taken ≡ 0) × (r.state ≡ s)) (sym (sent_back s bytes why e)) (refl, refl, refl)
 
 -- where no line applies, the state is sound and the bytes are few enough
 passed : (s : State) (bytes : List ℕ) → length s.store ≡ body_limit → sends (next_lines s bytes) ≡ ok tt → Accepted s bytes

@@ -14,8 +14,8 @@ use Rattle.wing_wire.specs.Range.{AreBytes}
 use Rattle.wing_wire.specs.Write.{WriteEffect, write_effect, write_of}
 use Rattle.wing_wire.specs.Answers.{written_result}
 use Rattle.wing_wire.specs.declared.state.State.{State}
-use Rattle.wing_saved.specs.Saved.{state_bytes, state_from, save_of, loaded_as, load_of, Typed, Saves}
-use Rattle.wing_saved.proofs.Saving.Trips.{loaded-result, saved-laws}
+use Rattle.wing_saved.specs.Saved.{state_bytes, state_from, save_of, Typed, Saves}
+use Rattle.wing_saved.proofs.Saving.Trips.{saved-laws}
 use Rattle.wing_saved.specs.Earlier.{earlier_from, carried_from, load_earlier_of}
 use Rattle.wing_saved.proofs.Saving.Before.{earlier-laws}
 use Rattle.promises.specs.Saved.{SaveCall, LoadCall, LoadEarlierCall}
@@ -54,30 +54,15 @@ save-call s out t = record {
     went : Rest (state_bytes s) out (save_of s out)
     went = branch (Rest (state_bytes s) out) (sound_state s) _ _ (λ _. written-rest (state_bytes s) out) (λ _. refused-rest StateUnsound (state_bytes s) out out)
 
--- beside a refusal stands a fresh state
-beside : (r : Result State) (why : Refusal) → r ≡ refused why → (loaded_as r).state ≡ fresh_state
-unfolding loaded_as
-beside (ok s) why e = absurd (let z : ◌≡◌ {A = ℕ} 0 1 = cc in omega arith)
-beside (refused other) why e = refl
+pub load_call : (bytes : List ℕ) → AreBytes bytes → LoadCall bytes (state_from bytes)
+load_call bytes are = record { back = saved-laws.back bytes; again = λ s p. saved-laws.again bytes s are p; refusal = saved-laws.refusal bytes }
 
-pub load_call : (bytes : List ℕ) → AreBytes bytes → LoadCall bytes (load_of bytes).answer (load_of bytes).state
-unfolding load_of
-load_call bytes are =
-    let e = loaded-result (state_from bytes) in
-    record {
-      back = λ s g. e ∙ saved-laws.back bytes s g;
-      again = λ s p. saved-laws.again bytes s are (sym e ∙ p);
-      refusal = λ n p. (saved-laws.refusal bytes n (sym e ∙ p), beside (state_from bytes) n (sym e ∙ p));
-    }
-
-pub load-earlier-call : (bytes : List ℕ) → AreBytes bytes → LoadEarlierCall bytes (load_earlier_of bytes).answer (load_earlier_of bytes).state
+pub load-earlier-call : (bytes : List ℕ) → AreBytes bytes → LoadEarlierCall bytes (load_earlier_of bytes)
 unfolding load_earlier_of
 load-earlier-call bytes are =
-    let r = carried_from (earlier_from bytes) in
-    let e = loaded-result r in
     record {
-      back = λ s g. e ∙ earlier-laws.back bytes s g;
-      by_lines = λ s g. e ∙ (earlier-laws.back bytes s g ∙ by_lines s);
-      again = λ t p. earlier-laws.again bytes t are (sym e ∙ p);
-      refusal = λ n p. (earlier-laws.refusal bytes n (sym e ∙ p), beside r n (sym e ∙ p));
+      back = earlier-laws.back bytes;
+      by_lines = λ s g. earlier-laws.back bytes s g ∙ by_lines s;
+      again = λ t p. earlier-laws.again bytes t are p;
+      refusal = earlier-laws.refusal bytes;
     }

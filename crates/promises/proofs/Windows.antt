@@ -20,47 +20,48 @@ use Rattle.wing_meters.specs.Window.{fresh_window, taking, leaves, kept_in, soun
 use Rattle.wing_meters.specs.Kept.{figures_kept}
 use Rattle.wing_meters.specs.Calls.{made_of, figures_answer, reading_of, after_all, answers, row_of, row_told, rows, RowsEffect, rows_effect, followed, readings_of}
 use Rattle.wing_meters.specs.Moving.{Readings, no_readings, reading_then, Width, Leaves, Left, Typed, afresh_rows}
-use Rattle.wing_meters.specs.Answers.{none, some, told_result, made_result, rows_result}
+use Rattle.wing_meters.specs.Answers.{none, some, told_result, rows_result}
 use Rattle.wing_meters.specs.declared.window.Window.{Window}
-use Rattle.wing_meters.specs.declared.window.Made.{Made}
-use Rattle.wing_meters.specs.declared.window.MadeAnswer.TheVariants.{Good, Refused as NotMade}
 use Rattle.wing_meters.specs.declared.reading.Taken.{Taken}
 use Rattle.wing_meters.proofs.Follows.{size-taking, reading-sound, reading-unsound, told-taking, rows_on, length-rows, readings-unsound, readings-short, readings-sound}
 use Rattle.wing_meters.proofs.Moves.{left-sound, leaves-more, reading-left, figures-left, rows_left, after-left, never-left, unleft}
 use Rattle.promises.specs.Refusals.{output_short, width_wrong}
-use Rattle.promises.specs.Lines.{Answers}
+use Rattle.promises.specs.Lines.{Answers, by, ◌gives◌}
 use Rattle.promises.specs.Meters.{rows_lines, MakeCall, ReadingCall, FiguresCall, ReadingsCall}
 use Rattle.promises.proofs.Lines.{given, taken as none-applies, line}
-use Rattle.std.specs.Prelude.{Err, Ok}
-use Rattle.wing_node.specs.declared.refusal.Refusal.TheVariants.{OutputShort, StateUnsound}
+use Rattle.std.specs.Prelude.{Err, Ok, is_ok}
+use Rattle.wing_node.specs.declared.refusal.Refusal.TheVariants.{OutputShort, StateUnsound, WidthWrong}
 
 -- ---- a window made
 
--- no list of readings leaves a window of width 0
-no-width : Left (fresh_window 0) → ⊥
-unfolding sound_window sound_control
-no-width = never-left (fresh_window 0) refl
-
-not_made : {n : ℕ} → NotMade n ≡ Good → ⊥
+not_made : false ≡ true → ⊥
 not_made e = let z : ◌≡◌ {A = ℕ} 0 1 = cc in omega arith
 
-pub make_call : (width : ℕ) → MakeCall width (made_of width).answer (made_of width).window
-unfolding made_of
+pub make_call : (width : ℕ) → MakeCall width (made_of width)
+unfolding made_of by
 make_call width =
-    let came : Made → Result Window = λ x. made_result x.answer x.window in
-    let W : Made → Type 0 = λ x. (Left x.window → ⊥) in
-    let wrong : Made = record { answer = NotMade 19; window = fresh_window 0 } in
-    let good : Made = record { answer = Good; window = fresh_window width } in
     record {
-      answered =
-          line came W (fresh_window width) (ltb width 1) width_wrong _ wrong (if (ltb 256 width) wrong good) refl no-width
-          (line came W (fresh_window width) (ltb 256 width) width_wrong _ wrong good refl no-width (none-applies came W (fresh_window width) good refl));
+      answered = answered (ltb width 1) (ltb 256 width);
       wide =
-          branch (λ (x : Made). x.answer ≡ Good → Width width) (ltb width 1) _ _ (λ _ e. absurd (not_made e))
-          (λ a. branch (λ (x : Made). x.answer ≡ Good → Width width) (ltb 256 width) _ _ (λ _ e. absurd (not_made e)) (λ b _. record { some = ltb-false width 1 a; few = ltb-false 256 width b }));
-      left = λ v. rw (le-ltb width 1 v.some, le-ltb 256 width v.few) (record { wide = v; readings = no_readings; left = refl });
+          branch (λ (x : Result Window). is_ok x ≡ true → Width width) (ltb width 1) _ _ (λ _ e. absurd (not_made e))
+          (λ a. branch (λ (x : Result Window). is_ok x ≡ true → Width width) (ltb 256 width) _ _ (λ _ e. absurd (not_made e)) (λ b _. record { some = ltb-false width 1 a; few = ltb-false 256 width b }));
+      left = λ v w e. subst (Leaves width []) (made-is (ltb width 1) (ltb 256 width) (le-ltb width 1 v.some) (le-ltb 256 width v.few) w e) (record { wide = v; readings = no_readings; left = refl });
       same = refl;
     }
+  where
+    window_or : Window → Result Window → Window
+    window_or other (Ok w) = w
+    window_or other (Err why) = other
+
+    made-is : (a b : Bool) → a ≡ false → b ≡ false → (w : Window) → if {A = Result Window} a (Err WidthWrong) (if b (Err WidthWrong) (Ok (fresh_window width))) ≡ ok w → fresh_window width ≡ w
+    made-is false false p q w e = ap (window_or (fresh_window width)) e
+    made-is true b p q w e = absurd (not_made (sym p))
+    made-is false true p q w e = absurd (not_made (sym q))
+
+    answered : (a b : Bool) → if {A = Result Window} a (Err WidthWrong) (if b (Err WidthWrong) (Ok (fresh_window width))) ≡ by ((a gives width_wrong) ∷ (b gives width_wrong) ∷ []) (fresh_window width)
+    answered true b = refl
+    answered false true = refl
+    answered false false = refl
 
 -- ---- a reading, and the figures
 
@@ -177,7 +178,7 @@ module _ (w : Window) (xs out : List ℤ) where
   Laid : RowsEffect → Type 0
   Laid x = (n : ℕ) → x.reply.answer ≡ Ok n → (n ≡ length xs) × (x.reply.window ≡ after_all w xs) × (drop (5 * n) x.out ≡ drop (5 * n) out) × (x.out ≡ rows (answers w xs) ++ drop (5 * length xs) out)
 
-  nothing-laid : (k : ℕ) (v : Window) (o : List ℤ) → Laid (rows_effect (followed (Err k) v) o)
+  nothing-laid : (k : Refusal) (v : Window) (o : List ℤ) → Laid (rows_effect (followed (Err k) v) o)
   unfolding Laid
   nothing-laid k v o n e = absurd (let z : ◌≡◌ {A = ℕ} 0 1 = cc in omega arith)
 
@@ -200,8 +201,8 @@ module _ (w : Window) (xs out : List ℤ) where
         go : (s : Bool) → sound_window w ≡ s → Laid (readings_of w xs out)
         go true s =
             subst Laid (sym (readings-sound w xs out s))
-            (branch Laid (ltb (length out) (5 * length xs)) _ _ (λ _. nothing-laid 9 w out) (λ _. all_laid s))
-        go false s = subst Laid (sym (readings-unsound w xs out s)) (nothing-laid 8 w out)
+            (branch Laid (ltb (length out) (5 * length xs)) _ _ (λ _. nothing-laid OutputShort w out) (λ _. all_laid s))
+        go false s = subst Laid (sym (readings-unsound w xs out s)) (nothing-laid StateUnsound w out)
 
     -- sent back, all is as it was
     Refused-kept : RowsEffect → Type 0

@@ -27,6 +27,8 @@ use Rattle.promises.specs.Wire.{Writes, CommandCall, command_lines, string_lines
 use Rattle.promises.proofs.Lines.{taken, line, unless}
 use Rattle.wing_node.specs.declared.refusal.Refusal.TheVariants.{MeterIdLast, MetersOver, OutputShort, PacketSize, StringLong}
 use Rattle.std.specs.Prelude.{Ok, Err}
+use Rattle.wing_wire.specs.declared.meter.Requested.{Requested}
+use Rattle.wing_wire.specs.declared.meter.MetersRead.{MetersRead}
 
 -- the bytes at the front, and those after them
 pub at_front : {A : Type 0} (bytes out : List A) → take (length bytes) (bytes ++ drop (length bytes) out) ≡ bytes
@@ -99,6 +101,15 @@ string-call id s out i = record { writes = string-writes id s out; reads = reads
 
 -- ---- meters
 
+-- how many bytes a request took, and how many readings were read; 0 for a refusal
+abbrev request_len : Result Requested → ℕ
+request_len (Ok r) = r.len
+request_len (Err why) = 0
+
+abbrev read_count : Result MetersRead → ℕ
+read_count (Ok r) = r.count
+read_count (Err why) = 0
+
 pub meters-write : (port last : ℕ) (ms : List Meter) (count : ℕ) (out : List ℕ) → MeterCall port last ms count out (request_meter port last ms count out).answer (request_meter port last ms count out).out
 unfolding request_meter write_request_of requested_result
 meters-write port last ms count out = record {
@@ -123,14 +134,14 @@ meters-write port last ms count out = record {
     R : RequestEffect → Type 0
     R x = (n id : ℕ) → x.answer ≡ Ok (record { len = n; id = id }) → (n ≡ length bytes) × (drop n x.out ≡ drop n out)
 
-    of-refused : (k : ℕ) → R (request_effect (Err k) out)
+    of-refused : (k : Refusal) → R (request_effect (Err k) out)
     of-refused k n id e = absurd (let z : ◌≡◌ {A = ℕ} 0 1 = cc in omega arith)
 
     went : R (request_meter port last ms count out)
     went =
         branch R (leb count 64) _ _
-        (λ _. branch R (eqb last 65535) _ _ (λ _. of-refused 12) (λ _. branch R (ltb (length out) (length bytes)) _ _ (λ _. of-refused 9) (λ _ n id e. let z : length bytes ≡ n = cc in (sym z, past-front bytes out n z))))
-        (λ _. of-refused 11)
+        (λ _. branch R (eqb last 65535) _ _ (λ _. of-refused MeterIdLast) (λ _. branch R (ltb (length out) (length bytes)) _ _ (λ _. of-refused OutputShort) (λ _ n id e. let z : length bytes ≡ n = ap request_len e in (sym z, past-front bytes out n z))))
+        (λ _. of-refused MetersOver)
 
 pub packet-reads : (p : List ℕ) (out : List ℤ) → PacketCall p out (packet_of p out).answer (packet_of p out).out
 unfolding packet_of meters_result
@@ -139,8 +150,8 @@ packet-reads p out = record {
       (line result-of W packet (ltb (length out) (length rs)) OutputShort _ _ _ refl refl (taken result-of W packet (packet_effect (Ok (record { id = big (take 2 p); count = length rs })) (rs ++ drop (length rs) out)) (ap (λ (r : List ℤ). ok (record { id = big (take 2 p); readings = r })) (at_front rs out)))));
   rest = λ id n e. (went id n e).1;
   told = λ id n e. (went id n e).0;
-  each = branch E (ltb (length p) 4) _ _ (λ _. none 13) (λ _. branch E (ltb 8192 (length p)) _ _ (λ _. none 13) (λ _. branch E (ltb (length out) (length rs)) _ _ (λ _. none 9) (λ _ id n e k l.
-      let z : length rs ≡ n = cc in
+  each = branch E (ltb (length p) 4) _ _ (λ _. none PacketSize) (λ _. branch E (ltb 8192 (length p)) _ _ (λ _. none PacketSize) (λ _. branch E (ltb (length out) (length rs)) _ _ (λ _. none OutputShort) (λ _ id n e k l.
+      let z : length rs ≡ n = ap read_count e in
       get_or-append rs (drop (length rs) out) (pos 0) k (omega arith) ∙ sym (reading-at p k (omega (arith, number))))));
 }
   where
@@ -159,13 +170,13 @@ packet-reads p out = record {
     R : PacketEffect → Type 0
     R x = (id n : ℕ) → x.answer ≡ Ok (record { id = id; count = n }) → (n ≡ (length p - 4) / 2) × (drop n x.out ≡ drop n out)
 
-    of-refused : (k : ℕ) → R (packet_effect (Err k) out)
+    of-refused : (k : Refusal) → R (packet_effect (Err k) out)
     of-refused k id n e = absurd (let z : ◌≡◌ {A = ℕ} 0 1 = cc in omega arith)
 
     E : PacketEffect → Type 0
     E x = (id n : ℕ) → x.answer ≡ Ok (record { id = id; count = n }) → (k : ℕ) → k < n → get_or x.out k (pos 0) ≡ signed 15 (field_at 2 p (4 + 2 * k))
 
-    none : (k : ℕ) → E (packet_effect (Err k) out)
+    none : (k : Refusal) → E (packet_effect (Err k) out)
     none k id n e i l = absurd (let z : ◌≡◌ {A = ℕ} 0 1 = cc in omega arith)
 
     number : length rs ≡ (length p - 4) / 2
@@ -173,5 +184,5 @@ packet-reads p out = record {
 
     went : R (packet_of p out)
     went =
-        branch R (ltb (length p) 4) _ _ (λ _. of-refused 13)
-        (λ _. branch R (ltb 8192 (length p)) _ _ (λ _. of-refused 13) (λ _. branch R (ltb (length out) (length rs)) _ _ (λ _. of-refused 9) (λ _ id n e. let z : length rs ≡ n = cc in (sym z ∙ number, past-front rs out n z))))
+        branch R (ltb (length p) 4) _ _ (λ _. of-refused PacketSize)
+        (λ _. branch R (ltb 8192 (length p)) _ _ (λ _. of-refused PacketSize) (λ _. branch R (ltb (length out) (length rs)) _ _ (λ _. of-refused OutputShort) (λ _ id n e. let z : length rs ≡ n = ap read_count e in (sym z ∙ number, past-front rs out n z))))

@@ -1,18 +1,16 @@
 -- What is promised of a window over a strip's last readings (02, Job 6), by each call's arguments, its answer, and the window and the lent buffer after it.
-use Rattle.std.specs.Prelude.{ℕ, ◌+◌, ◌*◌, ◌<◌, ◌≡◌, List, [], ◌∷◌, ◌++◌, ltb, ℤ, pos, length, take, drop, Ok, Some, Option}
+use Rattle.std.specs.Prelude.{ℕ, ◌+◌, ◌*◌, ◌<◌, ◌≡◌, List, [], ◌∷◌, ◌++◌, ltb, ℤ, pos, length, take, drop, Ok, Some, Option, is_ok, true}
 use Rattle.wing_node.specs.declared.refusal.Refusal.{Refusal}
-use Rattle.wing_node.specs.Result.{refused, Result}
+use Rattle.wing_node.specs.Result.{refused, Result, ok}
 use Rattle.wing_meters.specs.Afresh.{last_of, figures_of}
 use Rattle.wing_meters.specs.Window.{leaves}
 use Rattle.wing_meters.specs.Calls.{made_of, figures_answer, taken, reading_of, rows_effect, followed, readings_of}
 use Rattle.wing_meters.specs.Moving.{Readings, Width, Leaves, Left, afresh_rows}
-use Rattle.wing_meters.specs.Answers.{told_result, made_result, rows_result}
+use Rattle.wing_meters.specs.Answers.{told_result, rows_result}
 use Rattle.wing_meters.specs.declared.figures.Figures.{Figures}
 use Rattle.wing_meters.specs.declared.window.Window.{Window}
-use Rattle.wing_meters.specs.declared.window.MadeAnswer.{MadeAnswer}
-use Rattle.wing_meters.specs.declared.window.MadeAnswer.TheVariants.{Good}
 use Rattle.promises.specs.Refusals.{state_unsound, output_short, width_wrong}
-use Rattle.promises.specs.Lines.{Line, ◌gives◌, Answers}
+use Rattle.promises.specs.Lines.{Line, ◌gives◌, Answers, by}
 
 -- a window made: a width outside 1 to 256
 abbrev pub width_lines : ℕ → List Line
@@ -22,14 +20,14 @@ width_lines width = (ltb width 1 gives width_wrong) ∷ (ltb 256 width gives wid
 abbrev pub rows_lines : List ℤ → List ℤ → List Line
 rows_lines xs out = (ltb (length out) (5 * length xs) gives output_short) ∷ []
 
--- a window made: 19; else the window that the empty list leaves. Beside 19 stands a window that every call refuses: no list of readings leaves it
-pub record MakeCall (width : ℕ) (answer : MadeAnswer) (w : Window) : Type 0 where
-  pub answered : Answers (width_lines width) (leaves width []) (made_result answer w) (Left w → ⊥)
+-- a window made: 19; else the window that the empty list leaves
+pub record MakeCall (width : ℕ) (answer : Result Window) : Type 0 where
+  pub answered : answer ≡ by (width_lines width) (leaves width [])
   -- 02: a width from 1 to 256, exactly: a width that is taken is one, and of every such width the window is what the empty list of readings leaves
-  pub wide : answer ≡ Good → Width width
-  pub left : Width width → Leaves width [] w
+  pub wide : is_ok answer ≡ true → Width width
+  pub left : Width width → (w : Window) → answer ≡ ok w → Leaves width [] w
   -- it is the call that Calls of wing_meters' specs/ defines
-  pub same : record { answer = answer; window = w } ≡ made_of width
+  pub same : answer ≡ made_of width
 
 -- a reading that goes into a window
 pub record ReadingCall (w : Window) (x : ℤ) (answer : Result (Option Figures)) (after : Window) : Type 0 where

@@ -1,11 +1,10 @@
 -- What is promised of each call of the mirror, by its arguments, its answer and the lent buffers after it.
-use Rattle.std.specs.Prelude.{ℕ, ◌+◌, ◌≤◌, ◌-◌, ◌<◌, not, true, false, ◌≡◌, ◌↔◌, List, [], ◌∷◌, ◌++◌, map, ltb, leb, eqb, ℤ, length, get_or, replicate, Ok, Err, Option, Bool}
+use Rattle.std.specs.Prelude.{ℕ, ◌+◌, ◌≤◌, ◌-◌, ◌<◌, not, true, false, ◌≡◌, ◌↔◌, List, [], ◌∷◌, ◌++◌, map, ltb, leb, eqb, ℤ, length, get_or, replicate, Ok, Err, Option, Bool, is_ok}
 use Rattle.std.specs.Int.Signed.{lt_z}
 use Rattle.wing_node.specs.Bool.{if}
 use Rattle.wing_node.specs.Signed.{InBits}
 use Rattle.wing_node.specs.Utf8.{good, utf8}
 use Rattle.wing_node.specs.Bytes.{joined}
-use Rattle.wing_node.specs.Refusal.{alone}
 use Rattle.wing_node.specs.declared.refusal.Refusal.{Refusal}
 use Rattle.wing_node.specs.Definition.{definition_of}
 use Rattle.wing_node.specs.Answers.{DefinitionValues, parsed_result}
@@ -25,8 +24,8 @@ use Rattle.wing_mirror.specs.Rows.{Table, places, found, nothing, All}
 use Rattle.wing_mirror.specs.Entry.{entry, rank_of, ids, Entry}
 use Rattle.wing_mirror.specs.Record.{width, entry_in, full}
 use Rattle.wing_mirror.specs.Table.{rows, usable, put, fits, lookup_of}
-use Rattle.wing_mirror.specs.Query.{same_tables, refused_record}
-use Rattle.wing_mirror.specs.Answers.{lookup_result, record_result, same_result, feed_result}
+use Rattle.wing_mirror.specs.Query.{same_tables}
+use Rattle.wing_mirror.specs.Answers.{lookup_result, record_result}
 use Rattle.wing_mirror.specs.Lookups.{RecordOf}
 use Rattle.wing_mirror.specs.HighEnd.{counted_of, SearchReads}
 use Rattle.wing_mirror.specs.Counts.{six, zero_counts, total}
@@ -37,9 +36,6 @@ use Rattle.wing_mirror.specs.Recall.{recall_bytes}
 use Rattle.wing_mirror.specs.History.{Mirror, Agree, Equal, feed_outcome, set_outcome, mirror_step, Rebuilt}
 use Rattle.wing_mirror.specs.Origins.{entries_of, GivenBySet, GivenByFeed, Taken}
 use Rattle.wing_mirror.specs.declared.answer.Counts.{Counts}
-use Rattle.wing_mirror.specs.declared.answer.FeedAnswer.{FeedAnswer}
-use Rattle.wing_mirror.specs.declared.answer.FeedAnswer.TheVariants.{Taken as FeedTaken}
-use Rattle.wing_mirror.specs.declared.answer.RecordAnswer.TheVariants.{Record, Refused as RecordRefused}
 use Rattle.wing_mirror.specs.declared.answer.RecordRead.{RecordRead}
 use Rattle.wing_mirror.specs.declared.origin.Origin.TheVariants.{Console, SetOrder}
 use Rattle.promises.specs.Refusals.{string_wrong, body_long, body_empty, no_place, table_unsound, state_unsound, string_long, number_over}
@@ -93,24 +89,24 @@ same_lines t u = (not (usable full t) gives table_unsound) ∷ (not (usable full
 -- ---- what is promised
 
 -- a feed
-pub record FeedCall (m : Mirror) (bytes : List ℕ) (answer : FeedAnswer) (counts : Counts) (after : Mirror) : Type 0 where
-  -- demand 1: 8, 7, 14, and then the mirror is as it was and nothing is counted; else the counts of what the bytes held
-  pub answered : Answers (feed_lines m bytes) (fed_all full m.decoder m.table bytes).memo.counts (feed_result answer counts) ((after ≡ m) × (counts ≡ zero_counts))
+pub record FeedCall (m : Mirror) (bytes : List ℕ) (answer : Result Counts) (after : Mirror) : Type 0 where
+  -- demand 1: 8, 7, 14, and then the mirror is as it was and nothing is counted: there are no counts; else the counts of what the bytes held
+  pub answered : Answers (feed_lines m bytes) (fed_all full m.decoder m.table bytes).memo.counts answer (after ≡ m)
   -- demand 3: one step of the mirror's history is this call
-  pub step : mirror_step full m (feed bytes) ≡ record { state = after; outcome = feed_outcome answer counts }
+  pub step : mirror_step full m (feed bytes) ≡ record { state = after; outcome = feed_outcome answer }
   -- 02: who gave what the records say after it; bytes and the state's numbers are in the range of their types
-  pub origins : AreBytes m.table.buffer → InRange m.decoder.control m.decoder.store → AreBytes bytes → answer ≡ FeedTaken →
+  pub origins : AreBytes m.table.buffer → InRange m.decoder.control m.decoder.store → AreBytes bytes → is_ok answer ≡ true →
       GivenByFeed full (places width m.table) (events m.decoder bytes) (entries_of full m.table) (entries_of full after.table)
   -- 01: the sum of the counts is at most the bytes plus 1
-  pub bounded : total counts ≤ length bytes + 1
+  pub bounded : (counts : Counts) → answer ≡ ok counts → total counts ≤ length bytes + 1
   -- 01: it runs next until 'more': next calls one after the other, from this state, a byte pending too, with each answer kept, leave this state, table and counts
-  pub runs : InRange m.decoder.control m.decoder.store → AreBytes bytes → answer ≡ FeedTaken →
+  pub runs : InRange m.decoder.control m.decoder.store → AreBytes bytes → (counts : Counts) → answer ≡ ok counts →
       NextCalls (keep_event full) m.decoder bytes (table_tally m.table zero_counts) (fed_state (keep_event full) after.decoder (table_tally after.table counts))
 
 -- a feed whose state's store is lent: that of the state; a store of another size than a state's is 8, and all is as it was
-pub record LentFeedCall (m : Mirror) (bytes : List ℕ) (answer : FeedAnswer) (counts : Counts) (after : Mirror) : Type 0 where
-  pub whole : length m.decoder.store ≡ body_limit → FeedCall m bytes answer counts after
-  pub other : (length m.decoder.store ≡ body_limit → ⊥) → (feed_result answer counts ≡ refused state_unsound) × (after ≡ m) × (counts ≡ zero_counts)
+pub record LentFeedCall (m : Mirror) (bytes : List ℕ) (answer : Result Counts) (after : Mirror) : Type 0 where
+  pub whole : length m.decoder.store ≡ body_limit → FeedCall m bytes answer after
+  pub other : (length m.decoder.store ≡ body_limit → ⊥) → (answer ≡ refused state_unsound) × (after ≡ m)
 
 -- a set through the mirror
 pub record SetCall (id : ℤ) (v : NodeValue) (t : Table) (out : List ℕ) (answer : Result ℕ) (after : Table) (written : List ℕ) : Type 0 where
@@ -160,22 +156,18 @@ beside (float bits) = replicate 256 0
 beside (string s) = s ++ replicate (256 - length s) 0
 
 -- a record by number
-pub record RecordCall (t : Table) (number : ℕ) (reply : RecordRead) : Type 0 where
+pub record RecordCall (t : Table) (number : ℕ) (reply : Result RecordRead) : Type 0 where
   -- demand 1: 7, 14; else the node and value of that record; 02: and its origin
   pub result : record_result reply ≡ by (record_lines t number) (entry_in (get_or (rows full t) number []))
   -- taken, the whole reply is that record's
-  pub whole : (e : Entry) → record_result reply ≡ ok e → reply ≡ record { answer = Record e.id (said e.value) e.origin; string = beside e.value }
-  -- sent back, the string's bytes are all 0
-  pub zeros : (n : ℕ) → record_result reply ≡ refused (alone n) → reply ≡ refused_record n
-  -- in figures: that number, and 256 zeros
-  pub zero_bytes : (n : ℕ) → record_result reply ≡ refused (alone n) → reply ≡ record { answer = RecordRefused n; string = replicate 256 0 }
+  pub whole : (e : Entry) → record_result reply ≡ ok e → reply ≡ ok (record { id = e.id; value = said e.value; origin = e.origin; string = beside e.value })
 
 -- two tables: 7; else whether count and records are equal; 02: origins included
 pub record SameCall (t u : Table) (answer : Result Bool) : Type 0 where
-  pub result : same_result answer ≡ by (same_lines t u) (same_tables full t u)
-  pub equal : usable full t ≡ true → usable full u ≡ true → (same_result answer ≡ ok true ↔ Equal full t u)
+  pub result : answer ≡ by (same_lines t u) (same_tables full t u)
+  pub equal : usable full t ≡ true → usable full u ≡ true → (answer ≡ ok true ↔ Equal full t u)
   -- what they say is: nodes, values and origins
-  pub entries : Taken full t → Taken full u → (same_result answer ≡ ok true ↔ entries_of full t ≡ entries_of full u)
+  pub entries : Taken full t → Taken full u → (answer ≡ ok true ↔ entries_of full t ≡ entries_of full u)
 
 -- within a feed: a value for which there is no place leaves the table as it was
 abbrev pub UnplacedStays : Type 0

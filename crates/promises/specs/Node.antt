@@ -1,6 +1,6 @@
 -- What is promised of the parser and of the item calls, by the body and the answer. The fields of a body and what each holds are told from
 -- its bytes (wing_node's specs/InBody); which of them stand in it, specs/Standing says.
-use Rattle.std.specs.Prelude.{ℕ, ◌+◌, ◌-◌, ◌/◌, ◌%◌, ◌^◌, ◌≤◌, ◌<◌, ◌≡◌, false, true, ◌↔◌, ◌⊎◌, List, [], ◌∷◌, drop, length}
+use Rattle.std.specs.Prelude.{ℕ, ◌+◌, ◌-◌, ◌/◌, ◌%◌, ◌^◌, ◌≤◌, ◌<◌, ◌≡◌, false, true, ◌↔◌, ◌⊎◌, List, [], ◌∷◌, drop, length, Option}
 use Rattle.wing_node.specs.Utf8.{good, Longest, utf8, class, ClassesHold}
 use Rattle.wing_node.specs.Refusal.{good_beside, string_not_utf8, definition_not_utf8}
 use Rattle.wing_node.specs.declared.refusal.Refusal.{Refusal}
@@ -67,7 +67,7 @@ pub record StepCall (body : List ℕ) (w : Walk) (answer : Step) : Type 0 where
   pub same : answer ≡ step_at body w.at w.left w.kind
 
 -- item_by_number: the body's 4 or 5, then 14 exactly for a number that is not below the count, else what the item of that number holds
-pub record ItemCall (body : List ℕ) (number : ℕ) (answer : Item) : Type 0 where
+pub record ItemCall (body : List ℕ) (number : ℕ) (answer : Result (Option Item)) : Type 0 where
   pub refusals : AsParsed body (number_over ∷ []) (item_result body answer)
   pub over : (item_result body answer ≡ refused number_over) ↔ (AllStand body × (count_in body ≤ number))
   pub given : AllStand body → number < count_in body → IsItem (item_result body answer)

@@ -1,6 +1,6 @@
 -- What is promised of each call of the wire, by its arguments, its answer and the lent buffers after it.
 use Rattle.std.specs.Prelude.{ℕ, ◌+◌, ◌-◌, ◌*◌, ◌/◌, ◌<◌, ◌≤◌, true, not, ◌≡◌, List, [], ◌∷◌, ◌++◌, ltb, leb, eqb, ℤ, pos, length, take, drop, get_or, replicate, Ok, None, Some}
-use Rattle.wing_node.specs.Refusal.{good_beside, alone}
+use Rattle.wing_node.specs.Refusal.{good_beside}
 use Rattle.wing_node.specs.declared.refusal.Refusal.{Refusal}
 use Rattle.wing_node.specs.Field.{big, field_at}
 use Rattle.wing_node.specs.Result.{ok, refused, Result}
@@ -8,7 +8,7 @@ use Rattle.wing_node.specs.Signed.{signed}
 use Rattle.wing_node.specs.Utf8.{good, utf8}
 use Rattle.wing_node.specs.Value.{NodeValue, string}
 use Rattle.wing_wire.specs.State.{body_limit, sound_escape, sound_state, fresh_state}
-use Rattle.wing_wire.specs.Earlier.{earlier_sound, is_started, carried, carried_result}
+use Rattle.wing_wire.specs.Earlier.{earlier_sound, is_started, carried}
 use Rattle.wing_wire.specs.Escape.{decode_of, next_unit}
 use Rattle.wing_wire.specs.Stream.{Fed, run}
 use Rattle.wing_wire.specs.Units.{units, byte_units, settled, units_of}
@@ -20,7 +20,6 @@ use Rattle.wing_wire.specs.Answers.{written_result, requested_result, meters_res
 use Rattle.wing_wire.specs.SetOrders.{ReadsAsSet}
 use Rattle.wing_wire.specs.declared.state.State.{State}
 use Rattle.wing_wire.specs.declared.earlier.State.{State as EarlierState}
-use Rattle.wing_wire.specs.declared.earlier.CarryAnswer.{CarryAnswer}
 use Rattle.wing_wire.specs.declared.earlier.Token.TheVariants.{Number}
 use Rattle.wing_wire.specs.declared.token.Class.TheVariants.{LongCount}
 use Rattle.wing_wire.specs.declared.state.Escape.{Escape}
@@ -37,7 +36,7 @@ use Rattle.wing_wire.specs.declared.meter.MetersRead.{MetersRead}
 use Rattle.wing_mirror.specs.Rows.{In}
 use Rattle.wing_mirror.specs.Machine.{StreamEvent, stream_event}
 use Rattle.promises.specs.Refusals.{string_wrong, body_long, body_empty, state_unsound, output_short, string_long, meters_over, meter_id_last, packet_size, number_over}
-use Rattle.promises.specs.Lines.{Line, ◌gives◌, sends, Answers}
+use Rattle.promises.specs.Lines.{Line, ◌gives◌, sends, Answers, by}
 
 -- ---- 01's lines, call by call, in the order in which they apply
 
@@ -94,9 +93,9 @@ pub record NextCall (s : State) (bytes : List ℕ) (reply : Reply) : Type 0 wher
   -- it is the call that SetOrders, Repeated and CoreGives of the wire's specs/ speak of
   pub same : reply ≡ next_of s bytes
   -- demand 1: 8, 14, and then nothing is taken and the state is as it was
-  pub sent_back : (n : ℕ) → sends (next_lines s bytes) ≡ refused (alone n) → reply ≡ refused_next n s
-  -- with that number, and then nothing is taken and the state is as it was
-  pub as_it_was : (n : ℕ) → sends (next_lines s bytes) ≡ refused (alone n) → (reply.answer ≡ AnswerRefused (alone n)) × (reply.taken ≡ 0) × (reply.state ≡ s)
+  pub sent_back : (why : Refusal) → sends (next_lines s bytes) ≡ refused why → reply ≡ refused_next why s
+  -- with that refusal, and then nothing is taken and the state is as it was
+  pub as_it_was : (why : Refusal) → sends (next_lines s bytes) ≡ refused why → (reply.answer ≡ AnswerRefused why) × (reply.taken ≡ 0) × (reply.state ≡ s)
   -- else the decoder's own refusals are 1 with the string's good, 2 and 3, each with its token taken; when they come, specs/Tokens of the wire says
   pub refusals : sends (next_lines s bytes) ≡ ok tt → (why : Refusal) → reply.answer ≡ AnswerRefused why → In why (string_wrong (good_beside why) ∷ body_long ∷ body_empty ∷ []) × (reply.state.control.token ≡ Between)
   -- what stands beside the answer
@@ -134,19 +133,19 @@ pub record DecodeCall (e : Escape) (bytes : List ℕ) (at : ℕ) (answer : NextU
   -- sound escapes stay sound
   pub sound : sound_escape e ≡ true → sound_escape answer.escape ≡ true
 
--- an old decoder state carried over (02): 8, beside a fresh state; else with its units left, stored bytes and all else the same
-pub record CarryCall (s : EarlierState) (answer : CarryAnswer) (state : State) : Type 0 where
-  pub answered : Answers (carry_lines s) (carried s) (carried_result answer state) (state ≡ fresh_state)
+-- an old decoder state carried over (02): 8; else with its units left, stored bytes and all else the same
+pub record CarryCall (s : EarlierState) (answer : Result State) : Type 0 where
+  pub answered : answer ≡ by (carry_lines s) (carried s)
   -- and the state is sound
-  pub sound : (t : State) → carried_result answer state ≡ ok t → sound_state t ≡ true
+  pub sound : (t : State) → answer ≡ ok t → sound_state t ≡ true
   -- 02: the escapes, the node and the stored bytes are the same
-  pub kept : (t : State) → carried_result answer state ≡ ok t → (t.control.escape ≡ s.control.escape) × (t.control.node ≡ s.control.node) × (t.store ≡ s.store)
+  pub kept : (t : State) → answer ≡ ok t → (t.control.escape ≡ s.control.escape) × (t.control.node ≡ s.control.node) × (t.store ≡ s.store)
   -- an old state was sound exactly if it is sound carried over
   pub was : earlier_sound s ≡ sound_state (carried s)
   -- 02: each that was sound is carried over, unless it stands within the four units after a count 0 with fewer than four left
-  pub taken : sound_state (carried s) ≡ true → ((left v : ℕ) → s.control.token ≡ Number LongCount left v → left ≡ 4) → carried_result answer state ≡ ok (carried s)
+  pub taken : sound_state (carried s) ≡ true → ((left v : ℕ) → s.control.token ≡ Number LongCount left v → left ≡ 4) → answer ≡ ok (carried s)
   -- 02: one that has taken any of the four units gets 8
-  pub begun : (left v : ℕ) → s.control.token ≡ Number LongCount left v → left < 4 → carried_result answer state ≡ refused state_unsound
+  pub begun : (left v : ℕ) → s.control.token ≡ Number LongCount left v → left < 4 → answer ≡ refused state_unsound
 
 -- a command: sent back as its lines have it, with the output as it was and what else must stay; else these bytes at the front of the output,
 -- whose bytes past them are not altered

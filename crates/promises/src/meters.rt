@@ -3,12 +3,13 @@ ghost use Rattle.std.specs.Prelude.{◌≡◌, true, ◌↔◌};
 ghost use Rattle.wing_meters.specs.Moving.{Left};
 ghost use Rattle.promises.specs.Meters.{MakeCall, ReadingCall, FiguresCall, ReadingsCall};
 
-use wing_meters::figures::Told;
+use wing_meters::figures::Figures;
 use wing_meters::reading::{Followed, Taken};
-use wing_meters::window::{Made, Window};
+use wing_meters::window::Window;
+use wing_node::refusal::Refusal;
 
-pub fn make(width: u32) -> Made
-    ensures { MakeCall width result.answer result.window }
+pub fn make(width: u32) -> Result<Window, Refusal>
+    ensures { MakeCall width result }
 {
     wing_meters::window::make(width)
 }
@@ -26,7 +27,7 @@ pub fn reading(w: Window, x: i16) -> Taken
     wing_meters::reading::reading(w, x)
 }
 
-pub fn figures(w: Window) -> Told
+pub fn figures(w: Window) -> Result<Option<Figures>, Refusal>
     ensures { FiguresCall w result }
 {
     wing_meters::window::figures(w)

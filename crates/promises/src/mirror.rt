@@ -14,7 +14,7 @@ use wing_wire::state::{Control, State};
 use wing_node::refusal::Refusal;
 
 pub fn feed(state: State, table: &mut [u8], count: usize, bytes: &[u8]) -> FeedReply
-    ensures { FeedCall (mirror_of state (table_of table.old count)) bytes.now result.answer result.counts (mirror_of result.state (table_of table.new result.count)) }
+    ensures { FeedCall (mirror_of state (table_of table.old count)) bytes.now result.answer (mirror_of result.state (table_of table.new result.count)) }
 {
     wing_mirror::feed::feed(state, table, count, bytes)
 }
@@ -26,7 +26,7 @@ pub fn feed_lent(
     count: usize,
     bytes: &[u8],
 ) -> LentFeedReply
-    ensures { LentFeedCall (mirror_of (state_of c store.old) (table_of table.old count)) bytes.now result.answer result.counts (mirror_of (state_of result.control store.new) (table_of table.new result.count)) }
+    ensures { LentFeedCall (mirror_of (state_of c store.old) (table_of table.old count)) bytes.now result.answer (mirror_of (state_of result.control store.new) (table_of table.new result.count)) }
 {
     wing_mirror::feed::feed_lent(c, store, table, count, bytes)
 }
@@ -61,7 +61,7 @@ pub fn lookup(table: &[u8], count: usize, id: i32) -> Result<Option<usize>, Refu
     wing_mirror::query::lookup(table, count, id)
 }
 
-pub fn record(table: &[u8], count: usize, number: usize) -> RecordRead
+pub fn record(table: &[u8], count: usize, number: usize) -> Result<RecordRead, Refusal>
     ensures { RecordCall (table_of table.now count) number result }
 {
     wing_mirror::query::record(table, count, number)

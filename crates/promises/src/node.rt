@@ -1,7 +1,6 @@
 // The calls on strings, values, definitions and their items, each with what is promised of it as its contract. There is nothing here but the call
 // (and, in to_bytes, a field that is read for the proof alone).
 ghost use Rattle.std.specs.Prelude.{not, ◌≡◌, take};
-ghost use Rattle.wing_node.specs.Items.{walk};
 ghost use Rattle.wing_node.specs.Refusal.{refusal_number};
 ghost use Rattle.wing_node.specs.Utf8.{Octets, Longest, Decides, good, utf8};
 ghost use Rattle.wing_node.specs.Value.{node_value, int_in, string_in};
@@ -12,12 +11,10 @@ ghost use Rattle.promises.specs.Lines.{◌gives◌};
 ghost use Rattle.promises.specs.Node.{ParserCall, BeginCall, StepCall, ItemCall};
 ghost use Rattle.promises.specs.Writer.{WriterCall, AnewCall};
 
-use wing_node::definition::Item;
+use wing_node::definition::{Definition, Item};
 use wing_node::items::{Step, Walk};
-use wing_node::node_type::NodeType;
 use wing_node::refusal::Refusal;
 use wing_node::value::{StringRead, Value};
-use wing_node::walker::Start;
 use wing_node::writer::Fields;
 
 // How many leading bytes form whole characters (02): the largest such number by RFC 3629's grammar.
@@ -38,7 +35,7 @@ pub fn is_utf8(s: &[u8]) -> bool
 pub fn number(why: Refusal) -> u8
     ensures { result ≡ refusal_number why }
 {
-    wing_node::refusal::why.number()
+    why.number()
 }
 
 // A string of the wire or to be set, the first n bytes of s or all where it has fewer: 1 with its good (02) if it isn't UTF-8, else no fault.
@@ -60,13 +57,13 @@ pub fn items_begin(body: &[u8]) -> Result<Walk, Refusal>
     wing_node::items::items_begin(body)
 }
 
-pub fn item_step(body: &[u8], at: usize, left: u16, kind: NodeType) -> Step
-    ensures { StepCall body.now (walk at left kind) result }
+pub fn item_step(body: &[u8], walk: Walk) -> Step
+    ensures { StepCall body.now walk result }
 {
-    wing_node::items::item_step(body, at, left, kind)
+    wing_node::items::item_step(body, walk)
 }
 
-pub fn item_by_number(body: &[u8], number: usize) -> Item
+pub fn item_by_number(body: &[u8], number: usize) -> Result<Option<Item>, Refusal>
     ensures { ItemCall body.now number result }
 {
     wing_node::items::item_by_number(body, number)
@@ -96,7 +93,7 @@ pub fn write_anew(body: &[u8], out: &mut [u8]) -> Result<usize, Refusal>
 }
 
 // The walker's begin and step, for callers that keep plain numbers.
-pub fn begin_over(body: &[u8]) -> Start
+pub fn begin_over(body: &[u8]) -> Result<Walk, Refusal>
     ensures { BeginCall body.now result }
 {
     wing_node::walker::begin_over(body)
@@ -114,8 +111,8 @@ pub fn get_int(v: Value) -> i32
     wing_node::value::get_int(v)
 }
 
-pub fn get_string(v: Value, bytes: [u8; 256]) -> StringRead
-    ensures { string_result result.answer result.bytes ≡ string_in (node_value v bytes) }
+pub fn get_string(v: Value, bytes: [u8; 256]) -> Option<StringRead>
+    ensures { string_result result ≡ string_in (node_value v bytes) }
 {
     wing_node::value::get_string(v, bytes)
 }

@@ -2,7 +2,6 @@
 // the call.
 ghost use Rattle.promises.specs.Saved.{SaveCall, LoadCall, LoadEarlierCall};
 
-use wing_saved::Loaded;
 use wing_wire::state::State;
 use wing_node::refusal::Refusal;
 
@@ -12,14 +11,14 @@ pub fn save(out: &mut [u8], s: State) -> Result<usize, Refusal>
     wing_saved::save(out, s)
 }
 
-pub fn load(bytes: &[u8]) -> Loaded
-    ensures { LoadCall bytes.now result.answer result.state }
+pub fn load(bytes: &[u8]) -> Result<State, Refusal>
+    ensures { LoadCall bytes.now result }
 {
     wing_saved::load(bytes)
 }
 
-pub fn load_earlier(bytes: &[u8]) -> Loaded
-    ensures { LoadEarlierCall bytes.now result.answer result.state }
+pub fn load_earlier(bytes: &[u8]) -> Result<State, Refusal>
+    ensures { LoadEarlierCall bytes.now result }
 {
     wing_saved::earlier::load_earlier(bytes)
 }

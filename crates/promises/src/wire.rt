@@ -35,8 +35,8 @@ pub fn advance(c: Control, store: &mut [u8], bytes: &[u8]) -> Advanced
 }
 
 // An old decoder state (02).
-pub fn carry_over(s: earlier::State) -> Carried
-    ensures { CarryCall s result.answer result.state }
+pub fn carry_over(s: earlier::State) -> Result<State, Refusal>
+    ensures { CarryCall s result }
 {
     earlier::carry_over(s)
 }
@@ -89,7 +89,7 @@ pub fn request_meter(
     count: usize,
     port: u16,
     last_id: u16,
-) -> Requested
+) -> Result<Requested, Refusal>
     ensures { MeterCall port last_id meters count out.old result out.new }
 {
     wing_wire::meter::request_meter(out, meters, count, port, last_id)
@@ -101,7 +101,7 @@ pub fn keep_alive_meters(out: &mut [u8], last_id: u16, port: u16) -> Result<usiz
     wing_wire::meter::keep_alive_meters(out, last_id, port)
 }
 
-pub fn read_meters(packet: &[u8], out: &mut [i16]) -> MetersRead
+pub fn read_meters(packet: &[u8], out: &mut [i16]) -> Result<MetersRead, Refusal>
     ensures { PacketCall packet.now out.old result out.new }
 {
     wing_wire::meter::read_meters(packet, out)

@@ -93,11 +93,8 @@ fn meters_of(pairs: &[u8]) -> [Meter; 64]
     ensures { HoldsMeters pairs.now result }
 {
     let mut meters = [Meter::Rta; 64];
-    let mut i = 0;
-    while i < 64 {
-        let m = meter_at(pairs, i);
-        meters[i] = m;
-        i += 1;
+    for i in 0..64 {
+        meters[i] = meter_at(pairs, i);
     }
     meters
 }

@@ -1,8 +1,8 @@
 // A decoder state kept as bytes, and the decoder over it: one event at a time.
-ghost use Rattle.std.specs.Prelude.{◌≡◌, ◌≤◌, true, length, take};
+ghost use Rattle.std.specs.Prelude.{◌≡◌, ◌≤◌, true, length};
 ghost use Rattle.wing_node.specs.Result.{ok};
 ghost use Rattle.wing_wire.specs.State.{state_of, fresh_state, sound_state};
-ghost use Rattle.wing_wire.specs.Reader.{over, next_of, next_event};
+ghost use Rattle.wing_wire.specs.Reader.{next_of, next_event};
 ghost use Rattle.wing_saved.specs.Saved.{saved_size, state_from, save_of, HeadOf};
 ghost use Rattle.wing_c.specs.Written.{command, command_of};
 ghost use Rattle.wing_saved.specs.Earlier.{earlier_from, carried_from};
@@ -10,10 +10,10 @@ ghost use Rattle.wing_c.specs.Kept.{state_status, carried_kept, state_carried, s
 
 use crate::answers::{WingEvent, WingWritten, event, minus, written};
 use crate::kept::keep;
-use wing_node::field::least;
-use wing_node::refusal::{Refusal, number};
+use wing_node::refusal::Refusal;
 use wing_saved::earlier::load_earlier;
 use wing_saved::HEAD;
+use wing_wire::reader::copy_front;
 use wing_wire::state::{Control, State, is_sound_lent};
 use wing_wire::stream::{Advanced, advance, release};
 use wing_wire::unit::Answer;
@@ -32,11 +32,9 @@ pub extern "C" fn wing_state_fresh(state: &mut [u8]) -> WingWritten
 pub extern "C" fn wing_state_check(state: &[u8]) -> i32
     ensures { result ≡ state_status (state_from state.now) }
 {
-    let loaded = wing_saved::load(state);
-    let a = loaded.answer;
-    match a {
-        LoadAnswer::Good => 0,
-        Err(why) => minus(why.number()),
+    match wing_saved::load(state) {
+        Ok(_) => 0,
+        Err(why) => minus(why),
     }
 }
 
@@ -46,26 +44,9 @@ pub extern "C" fn wing_state_carry_over(earlier: &[u8], state: &mut [u8]) -> Win
     ensures state_after { command result state.new ≡ command_of (carried_kept (carried_from (earlier_from earlier.now)) state.old) }
     ensures state_after_2 { length state.old ≡ saved_size → state_from state.new ≡ state_carried (carried_from (earlier_from earlier.now)) (state_from state.old) }
 {
-    let loaded = load_earlier(earlier);
-    let a = loaded.answer;
-    match a {
-        LoadAnswer::Good => {
-            let s = loaded.state;
-            written(wing_saved::save(state, s))
-        }
+    match load_earlier(earlier) {
+        Ok(s) => written(wing_saved::save(state, s)),
         Err(why) => written(Err(why)),
-    }
-}
-
-// The first n bytes of s to the front of out, as far as both reach.
-fn copy_front(out: &mut [u8], s: &[u8], n: usize)
-    ensures { out.new ≡ over (take n s.now) out.old }
-{
-    let most = least(least(n, s.len()), out.len());
-    let mut i = 0;
-    while i < most {
-        out[i] = s[i];
-        i += 1;
     }
 }
 
@@ -74,13 +55,8 @@ fn bytes_of(a: Answer) -> usize
     ensures { result ≡ answer_bytes a }
 {
     match a {
-        Answer::More => 0,
-        Answer::Integer(_) => 0,
-        Answer::Float(_) => 0,
-        Answer::String(n) => n as usize,
-        Answer::Body(n) => n as usize,
-        Answer::End => 0,
-        Answer::Refused(_) => 0,
+        Answer::String(n) | Answer::Body(n) => usize::from(n),
+        _ => 0,
     }
 }
 
@@ -141,13 +117,8 @@ pub extern "C" fn wing_next(state: &mut [u8], bytes: &[u8], out: &mut [u8]) -> W
     ensures out_after { kept_next result state.new out.new ≡ next_kept state.old bytes.now out.old }
     ensures state_after { state_from state.new ≡ state_next (state_from state.old) bytes.now out.old }
 {
-    let h = wing_saved::head(state);
-    let a = h.answer;
-    match a {
-        LoadAnswer::Good => {
-            let c = h.control;
-            next_in(state, c, bytes, out)
-        }
+    match wing_saved::head(state) {
+        Ok(c) => next_in(state, c, bytes, out),
         Err(why) => event(Answer::Refused(why), 0, 0),
     }
 }

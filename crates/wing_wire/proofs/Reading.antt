@@ -1,5 +1,4 @@
 -- From bytes to answers.
-pub mod Nine
 pub mod Zeros
 pub mod Powers
 pub mod Underway

@@ -1,12 +1,10 @@
--- The store: its first bytes to 0, one after the other; room for a body's unit that is kept; and bytes at its front, read and cleared.
+-- The store: room for a body's unit that is kept; and bytes at its front, read and cleared.
 use mathlib.Core.Path.{◌≡◌, refl, sym, ◌∙◌, ap}
 use mathlib.Core.Bool.{Bool, true, false}
 use mathlib.Core.List.{List, [], ◌∷◌, ◌++◌}
 use Prim.Native.Nat.{ℕ, zero, suc, ◌+◌, ◌≤◌, ◌<◌}
-use native.Mathlib.Nat.{le_of_suc-le-suc, not-suc-le-zero}
-use native.Mathlib.Numerals.{add-one}
 use native.Mathlib.Omega.{arith}
-use lib.ListN.{length, take, drop, set, replicate}
+use lib.ListN.{length, take, drop, replicate}
 use lib.Seq.{drop-append_seam, sets, sets-eq, take_at}
 use lib.Dec.{ltb, leb, eqb}
 use borrow.Author.Tests.{ltb-true, eqb-true}
@@ -14,23 +12,6 @@ use Rattle.wing_node.specs.Bool.{if}
 use Rattle.wing_node.proofs.Branches.{if-both, and_left, and_right}
 use Rattle.wing_wire.specs.State.{body_limit, zeros}
 use Rattle.wing_wire.specs.Unit.{cleared, keeps}
-
-cleared-suc : (i : ℕ) (d : List ℕ) → set (cleared i d) i 0 ≡ cleared (suc i) d
-cleared-suc zero [] = refl
-cleared-suc zero (b ∷ d) = refl
-cleared-suc (suc i) [] = refl
-cleared-suc (suc i) (b ∷ d) = ap (λ (s : List ℕ). 0 ∷ s) (cleared-suc i d)
-
--- one more 0
-pub cleared-turn : (i : ℕ) (d : List ℕ) → set (cleared i d) i 0 ≡ cleared (i + 1) d
-cleared-turn i d = rw (add-one i) (cleared-suc i d)
-
--- past the end there is nothing to clear
-pub cleared-all : (n : ℕ) (d : List ℕ) → length d ≤ n → cleared (length d) d ≡ cleared n d
-cleared-all zero [] h = refl
-cleared-all (suc n) [] h = refl
-cleared-all zero (b ∷ d) h = absurd (not-suc-le-zero h)
-cleared-all (suc n) (b ∷ d) h = ap (λ (s : List ℕ). 0 ∷ s) (cleared-all n d (le_of_suc-le-suc h))
 
 -- a body's unit is stored only where a body has room
 pub room : (want stored : ℕ) (appended : Bool) → keeps want stored appended ≡ true → stored < body_limit

@@ -9,5 +9,5 @@ use Rattle.promises.proofs.mirror.feed.Goals as goal
 pub returns : goal.returns
 returns c =
     let t = table c.args.table.now c.args.count in
-    subst (λ (x : FeedEffect). FeedCall (mirror c.args.state t) c.args.bytes.now x.answer x.counts (mirror x.state x.table))
+    subst (λ (x : FeedEffect). FeedCall (mirror c.args.state t) c.args.bytes.now x.answer (mirror x.state x.table))
     (sym c.feed.ensures) (feed-call c.args.state t c.args.bytes.now)

@@ -11,5 +11,5 @@ pub returns : goal.returns
 returns c =
     let s = state_of c.args.c c.args.store.now in
     let t = table c.args.table.now c.args.count in
-    subst (λ (x : FeedEffect). LentFeedCall (mirror s t) c.args.bytes.now x.answer x.counts (mirror x.state x.table))
+    subst (λ (x : FeedEffect). LentFeedCall (mirror s t) c.args.bytes.now x.answer (mirror x.state x.table))
     (sym c.feed_lent.ensures) (lent-feed-call s t c.args.bytes.now)

@@ -1,9 +1,8 @@
 -- By the contract of `item_step` the answer is `step_at`, of which `step_call` says what is promised.
-use Rattle.wing_node.specs.Items.{walk}
 use Rattle.promises.proofs.Parses.{step_call}
 use Rattle.promises.proofs.node.item_step.Goals as goal
 
 pub returns : goal.returns
 returns c =
     let a = c.args in
-    rw c.item_step.ensures (step_call a.body.now (walk a.at a.left a.kind))
+    rw c.item_step.ensures (step_call a.body.now a.walk)

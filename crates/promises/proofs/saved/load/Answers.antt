@@ -1,4 +1,4 @@
--- By the contract of wing_saved's `load` the answer is `load_of`, of which `load_call` says what is promised, as the elements of the slice are bytes
+-- By the contract of wing_saved's `load` the answer is `state_from`, of which `load_call` says what is promised, as the elements of the slice are bytes
 -- (`are-bytes`).
 use Rattle.promises.proofs.Typed.{are-bytes}
 use Rattle.promises.proofs.Savers.{load_call}

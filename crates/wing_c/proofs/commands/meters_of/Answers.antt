@@ -6,12 +6,12 @@ use Rattle.wing_c.proofs.Pairs.{meters-turn}
 use Rattle.wing_c.proofs.commands.meters_of.Goals as goal
 
 pub loop-i-init : goal.loop-i-init
-loop-i-init c = (omega arith, refl, λ k h. absurd (omega arith))
+loop-i-init c = (refl, λ k h. absurd (omega arith))
 
 pub loop-i-preserved : goal.loop-i-preserved
 loop-i-preserved c =
-    (omega arith, length-set c.loop-i.meters c.loop-i.i c.meter_at-m.result ∙ c.loop-i.invariant.1, meters-turn c.args.pairs.now c.loop-i.meters c.loop-i.i c.meter_at-m.result (omega arith) c.meter_at-m.ensures c.loop-i.invariant.2)
+    (length-set c.loop-i.meters c.loop-i.i c.meter_at.result ∙ c.loop-i.invariant.0, meters-turn c.args.pairs.now c.loop-i.meters c.loop-i.i c.meter_at.result (omega arith) c.meter_at.ensures c.loop-i.invariant.1)
 
 pub returns : goal.returns
 returns c =
-    λ k h. c.loop-i.invariant.2 k (omega arith)
+    λ k h. c.loop-i.invariant.1 k (omega arith)

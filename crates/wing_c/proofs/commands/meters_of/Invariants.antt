@@ -1,4 +1,4 @@
-use Prim.Native.Nat.{ℕ, ◌≤◌, ◌<◌, ◌-◌}
+use Prim.Native.Nat.{ℕ, ◌<◌}
 use mathlib.Core.Path.{◌≡◌}
 use lib.ListN.{length, get_or}
 use Rattle.wing_wire.specs.declared.meter.Meter.TheVariants.{Rta}
@@ -6,7 +6,4 @@ use Rattle.wing_c.specs.Meters.{meter_at}
 use Rattle.wing_c.proofs.commands.meters_of.Given as goal
 
 abbrev pub invariant-loop-i : goal.invariant-loop-i
-invariant-loop-i l = (l.i ≤ 64) × (length l.meters ≡ 64) × ((k : ℕ) → k < l.i → get_or l.meters k Rta ≡ meter_at l.pairs k)
-
-abbrev pub decreases-loop-i : goal.decreases-loop-i
-decreases-loop-i l = 64 - l.i
+invariant-loop-i l = (length l.meters ≡ 64) × ((k : ℕ) → k < l.i → get_or l.meters k Rta ≡ meter_at l.pairs k)
