@@ -16,7 +16,7 @@ use Rattle.wing_mirror.specs.declared.answer.SetReply.{SetReply}
 use Rattle.wing_mirror.specs.declared.answer.LentFeedReply.{LentFeedReply}
 use Rattle.wing_listing.specs.Calls.{LoadEffect, load_effect}
 use Rattle.wing_listing.specs.declared.answer.LoadReply.{LoadReply}
-use Rattle.wing_c.specs.Numbers.{written_numbers, body_numbers, set_numbers, requested_numbers, meters_numbers, loaded_numbers, feed_status, fed_numbers}
+use Rattle.wing_c.specs.Numbers.{written_numbers, set_numbers, requested_numbers, meters_numbers, loaded_numbers, fed_numbers}
 use Rattle.wing_c.specs.Written.{command, command_of, body_from, mirror_command, mirror_command_of, request, request_of, packet, packet_from, table_load, table_load_of}
 use Rattle.wing_c.specs.Windows.{followed_numbers, rows_left, rows_from}
 use Rattle.wing_c.specs.Kept.{kept_feed, state_after, feed_from}
@@ -35,7 +35,7 @@ pub command-as : {r : WingWritten} (w : Result ℕ) {out : List ℕ} {e : WriteE
 command-as w {out} p q = ap (λ (x : WingWritten). command x out) p ∙ ap command_of q
 
 -- a definition written
-pub body-as : {r : WingWritten} (w : Result ℕ) {out : List ℕ} {e : BodyEffect} → r ≡ body_numbers w → body_effect w out ≡ e → command r out ≡ body_from e
+pub body-as : {r : WingWritten} (w : Result ℕ) {out : List ℕ} {e : BodyEffect} → r ≡ written_numbers w → body_effect w out ≡ e → command r out ≡ body_from e
 body-as w {out} p q = ap (λ (x : WingWritten). command x out) p ∙ ap body_from q
 
 -- a set through the mirror
@@ -64,9 +64,9 @@ load-as a {buffer} p q = ap (λ (x : WingLoaded). table_load x buffer) p ∙ ap 
 
 -- a feed
 pub feed-as : {r : WingFed} (f : LentFeedReply) (before : List ℕ) {store state buffer : List ℕ} {e : FeedEffect} →
-    r ≡ fed_numbers (feed_status f.answer) f.counts f.count → state ≡ state_after f.answer (state_of f.control store) before →
+    r ≡ fed_numbers f.answer f.count → state ≡ state_after f.answer (state_of f.control store) before →
     lent_effect f store buffer ≡ e → kept_feed r state buffer ≡ feed_from e before
 feed-as f before {store} {state} {buffer} p s q =
     ap (λ (x : WingFed). kept_feed x state buffer) p ∙
-    ap (λ (x : List ℕ). kept_feed (fed_numbers (feed_status f.answer) f.counts f.count) x buffer) s ∙
+    ap (λ (x : List ℕ). kept_feed (fed_numbers f.answer f.count) x buffer) s ∙
     ap (λ (x : FeedEffect). feed_from x before) q

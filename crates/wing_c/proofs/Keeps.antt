@@ -1,7 +1,7 @@
 -- A control and the store in a state's bytes: what is left when a feed or a next call uses the store where it stands and its control is laid before it. Both leave
 -- a sound state sound, so that the bytes read as the state after them.
 use Prim.Native.Nat.{ℕ, ◌-◌}
-use mathlib.Core.Bool.{Bool, true, false}
+use mathlib.Core.Bool.{Bool, true, false, true≢false}
 use mathlib.Core.Path.{◌≡◌, refl, sym, ◌∙◌, ap, subst}
 use mathlib.Core.List.{List, ◌++◌, append-nil}
 use native.Mathlib.Omega.{arith}
@@ -37,15 +37,14 @@ use Rattle.wing_mirror.specs.Record.{full}
 use Rattle.wing_mirror.specs.Table.{usable}
 use Rattle.wing_mirror.specs.Counts.{zero_counts}
 use Rattle.wing_mirror.specs.Mirror.{FeedEffect, lent_effect, table_tally, keep, fed_all, refused_feed, mirror_feed, lent_feed}
-use Rattle.wing_mirror.specs.declared.answer.FeedAnswer.TheVariants.{Taken}
 use Rattle.wing_mirror.specs.declared.answer.LentFeedReply.{LentFeedReply}
-use Rattle.wing_c.specs.Numbers.{feed_status, fed_numbers, event_numbers}
+use Rattle.wing_c.specs.Numbers.{fed_numbers, event_numbers}
 use Rattle.wing_c.specs.Kept.{state_in, kept_feed, state_after, read_after, feed_from, feed_with, feed_kept, state_fed, LentNext, lent_next, next_left, kept_next, next_replied}
 use Rattle.wing_c.specs.declared.answers.WingFed.{WingFed}
 use Rattle.wing_c.specs.declared.answers.WingEvent.{WingEvent}
 use Rattle.wing_c.proofs.Effects.{feed-as}
 use Rattle.wing_node.specs.declared.refusal.Refusal.TheVariants.{StateUnsound}
-use Rattle.std.specs.Prelude.{ℕ}
+use Rattle.std.specs.Prelude.{ℕ, is_ok}
 
 -- a sound state's bytes fill those of another
 saves : (s : State) (out : List ℕ) {w : (Result ℕ)} {kept : List ℕ} → Typed s → sound_state s ≡ true → length out ≡ saved_size →
@@ -140,15 +139,15 @@ module _ (s : State) (t : Table) (bytes : List ℕ) where
       P x = read_after x.answer x.state (ok s) ≡ ok x.state
 
   -- a state that is not sound is refused with 8
-  feed-unsound : sound_state s ≡ false → mirror_feed full s t bytes ≡ refused_feed 8 s t
+  feed-unsound : sound_state s ≡ false → mirror_feed full s t bytes ≡ refused_feed StateUnsound s t
   unfolding mirror_feed
   feed-unsound e = rw e refl
 
   -- so a feed that is taken was of a sound state
-  taken-sound : (mirror_feed full s t bytes).answer ≡ Taken → sound_state s ≡ true
+  taken-sound : is_ok (mirror_feed full s t bytes).answer ≡ true → sound_state s ≡ true
   taken-sound a =
       by-test (sound_state s) (λ e. e)
-      (λ e. absurd (let b = ap (λ (x : FeedEffect). x.answer) (feed-unsound e) in let z : ◌≡◌ {A = ℕ} 0 1 = cc in omega arith))
+      (λ e. absurd (true≢false (sym a ∙ ap (λ (x : FeedEffect). is_ok x.answer) (feed-unsound e))))
 
 module _ (before : List ℕ) (c : Control) (t : Table) (bytes : List ℕ) (h : HeadOf before c) where
   -- the whole store is lent
@@ -191,15 +190,15 @@ module _ (before : List ℕ) (c : Control) (t : Table) (bytes : List ℕ) (h : H
     effect = fed ∙ ap (λ (l : List ℕ). lent_feed full (state_of c l) t bytes) (lent-part before) ∙ lent-whole
 
     -- the state that a taken feed leaves is sound
-    pub fed-sound : Typed (state_in c before) → AreBytes bytes → f.answer ≡ Taken → sound_state (state_in f.control (with_store before store)) ≡ true
+    pub fed-sound : Typed (state_in c before) → AreBytes bytes → is_ok f.answer ≡ true → sound_state (state_in f.control (with_store before store)) ≡ true
     fed-sound k are a =
         ap (λ (l : List ℕ). sound_state (state_of f.control l)) (store-back before store h.size) ∙
         ap (λ (e : FeedEffect). sound_state e.state) effect ∙
         feed-sound (state_in c before) t bytes k are
-        (taken-sound (state_in c before) t bytes (sym (ap (λ (e : FeedEffect). e.answer) effect) ∙ a))
+        (taken-sound (state_in c before) t bytes (sym (ap (λ (e : FeedEffect). is_ok e.answer) effect) ∙ a))
 
     -- the control of a taken feed laid before the store, or nothing: what is left, and what it reads as
-    pub fed-in : {r : WingFed} {kept : List ℕ} → r ≡ fed_numbers (feed_status f.answer) f.counts f.count →
+    pub fed-in : {r : WingFed} {kept : List ℕ} → r ≡ fed_numbers f.answer f.count →
         kept ≡ state_after f.answer (state_in f.control (with_store before store)) (with_store before store) →
         state_from kept ≡ read_after f.answer (state_in f.control (with_store before store)) (state_from (with_store before store)) →
         (kept_feed r kept buffer ≡ feed_kept before t bytes) × (state_from kept ≡ state_fed (state_from before) t bytes)

@@ -4,7 +4,6 @@ mod Loads
 mod Keeps
 mod Pairs
 mod Listed
-mod Sent
 mod Read
 pub mod Said
 mod Answered

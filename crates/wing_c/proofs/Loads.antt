@@ -1,4 +1,4 @@
--- What the answer of load says of the bytes, and what a next call on a sound state gives.
+-- What a next call on a sound state gives.
 use Prim.Native.Nat.{ℕ, ◌≤◌}
 use mathlib.Core.Bool.{true}
 use mathlib.Core.Path.{◌≡◌, refl, sym, ◌∙◌, ap}
@@ -14,43 +14,7 @@ use Rattle.wing_wire.specs.declared.state.State.{State}
 use Rattle.wing_wire.specs.declared.stream.Advanced.{Advanced}
 use Rattle.wing_wire.specs.declared.unit.Answer.{Answer}
 use Rattle.wing_wire.specs.declared.unit.Answer.TheVariants.{More, Integer, Float, String, Body, End, Refused}
-use Rattle.wing_saved.specs.Saved.{state_from, loaded_as, loaded_result, load_of}
-use Rattle.wing_saved.specs.Earlier.{earlier_from, carried_from, load_earlier_of}
-use Rattle.wing_saved.specs.declared.Loaded.{Loaded}
-use Rattle.wing_saved.specs.declared.LoadAnswer.{LoadAnswer}
-use Rattle.wing_saved.specs.declared.LoadAnswer.TheVariants.{Good, Refused as NotLoaded}
-use Rattle.wing_saved.proofs.Saving.Trips.{loaded-result}
 use Rattle.wing_c.specs.Kept.{value_bytes, event_bytes, answer_bytes, lent_next, next_left}
-
--- what was loaded is what the answer and the state beside it say
-module _ (r : Result State) (l : Loaded) (e : l ≡ loaded_as r) where
-  read_as : r ≡ loaded_result l.answer l.state
-  read_as = sym (ap (λ (x : Loaded). loaded_result x.answer x.state) e ∙ loaded-result r)
-
-  said-good : l.answer ≡ Good → r ≡ ok l.state
-  unfolding loaded_result
-  said-good a = read_as ∙ ap (λ (x : LoadAnswer). loaded_result x l.state) a
-
-  said-refused : (why : Refusal) → l.answer ≡ NotLoaded why → r ≡ refused why
-  unfolding loaded_result
-  said-refused why a = read_as ∙ ap (λ (x : LoadAnswer). loaded_result x l.state) a
-
-pub load-good : (bytes : List ℕ) (l : Loaded) → l ≡ load_of bytes → l.answer ≡ Good → state_from bytes ≡ ok l.state
-unfolding load_of
-load-good bytes l e a = said-good (state_from bytes) l e a
-
-pub load-refused : (bytes : List ℕ) (l : Loaded) (why : Refusal) → l ≡ load_of bytes → l.answer ≡ NotLoaded why → state_from bytes ≡ refused why
-unfolding load_of
-load-refused bytes l why e a = said-refused (state_from bytes) l e why a
-
--- the same of bytes of version 1
-pub earlier-good : (bytes : List ℕ) (l : Loaded) → l ≡ load_earlier_of bytes → l.answer ≡ Good → carried_from (earlier_from bytes) ≡ ok l.state
-unfolding load_earlier_of
-earlier-good bytes l e a = said-good (carried_from (earlier_from bytes)) l e a
-
-pub earlier-refused : (bytes : List ℕ) (l : Loaded) (why : Refusal) → l ≡ load_earlier_of bytes → l.answer ≡ NotLoaded why → carried_from (earlier_from bytes) ≡ refused why
-unfolding load_earlier_of
-earlier-refused bytes l why e a = said-refused (carried_from (earlier_from bytes)) l e why a
 
 -- a next call that is not refused is a run of the core
 next-run : (s : State) (bytes : List ℕ) → sound_state s ≡ true → length bytes ≤ 65536 → next_of s bytes ≡ next_from (advance_of s.control s.store bytes)

@@ -18,26 +18,19 @@ use Rattle.wing_wire.specs.declared.reader.Reply.{Reply}
 use Rattle.wing_wire.specs.declared.unit.Answer.{Answer}
 use Rattle.wing_wire.specs.declared.unit.Answer.TheVariants.{More, Integer as an_integer, Float as a_float, String as a_string, Body as a_body, End as an_end, Refused}
 use Rattle.wing_wire.proofs.Reading.Runs.{advance-in}
-use Rattle.wing_wire.proofs.Reading.Refusing.{Own, advance-says}
-use Rattle.wing_c.specs.Meanings.{OfRefusal, OfNext}
+use Rattle.wing_c.specs.Meanings.{OfNext}
 
-of-own : (why : Refusal) → Own why → OfRefusal why
-of-own why (inl e) = subst OfRefusal (sym e) tt
-of-own why (inr (inl e)) = subst OfRefusal (sym e) (omega arith, λ e. omega arith)
-of-own why (inr (inr (inl e))) = subst OfRefusal (sym e) (omega arith, λ e. omega arith)
-of-own why (inr (inr (inr e))) = absurd e
-
-of-next : (a : Answer) → AnswerIn a → ((why : Refusal) → a ≡ Refused why → Own why) → OfNext a
-of-next More i f = tt
-of-next (an_integer x) i f = i
-of-next (a_float bits) i f = tt
-of-next (a_string n) i f = tt
-of-next (a_body n) i f = tt
-of-next an_end i f = tt
-of-next (Refused why) i f = of-own why (f why refl)
+of-next : (a : Answer) → AnswerIn a → OfNext a
+of-next More i = tt
+of-next (an_integer x) i = i
+of-next (a_float bits) i = tt
+of-next (a_string n) i = tt
+of-next (a_body n) i = tt
+of-next an_end i = tt
+of-next (Refused why) i = tt
 
 advance-told : (c : Control) (s bytes : List ℕ) → AreBytes bytes → InRange c s → OfNext (advance_of c s bytes).effect.answered.answer
-advance-told c s bytes b r = of-next (advance_of c s bytes).effect.answered.answer (advance-in c s bytes b r).answer (λ why e. (advance-says c s bytes why e).0)
+advance-told c s bytes b r = of-next (advance_of c s bytes).effect.answered.answer (advance-in c s bytes b r).answer
 
 -- a next call
 pub next-told : (s : State) (bytes : List ℕ) → AreBytes bytes → InRange s.control s.store → OfNext (next_of s bytes).answer
@@ -45,5 +38,5 @@ unfolding next_of
 next-told s bytes b r =
     branch (λ (x : Reply). OfNext x.answer) (sound_state s) _ _
     (λ _.
-    branch (λ (x : Reply). OfNext x.answer) (leb (length bytes) 65536) _ _ (λ _. advance-told s.control s.store bytes b r) (λ _. (omega arith, λ e. omega arith)))
-    (λ _. (omega arith, λ e. omega arith))
+    branch (λ (x : Reply). OfNext x.answer) (leb (length bytes) 65536) _ _ (λ _. advance-told s.control s.store bytes b r) (λ _. tt))
+    (λ _. tt)

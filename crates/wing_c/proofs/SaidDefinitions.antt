@@ -29,17 +29,17 @@ use Rattle.wing_node.specs.declared.node_type.NodeUnit.{NodeUnit}
 use Rattle.wing_node.specs.declared.node_type.NodeUnit.TheVariants.{None as NoUnit, Db, Percent, Milliseconds, Hertz, Meters, Seconds, Octaves}
 use Rattle.wing_node.specs.declared.definition.Details.{Details}
 use Rattle.wing_node.specs.declared.definition.Item.{Item}
-use Rattle.wing_node.specs.declared.definition.Item.TheVariants.{None as NoItem, Strings, Float, Refused as ItemRefused}
+use Rattle.wing_node.specs.declared.definition.Item.TheVariants.{Strings, Float}
 use Rattle.wing_node.specs.declared.definition.Definition.{Definition}
 use Rattle.wing_node.specs.declared.items.Walk.{Walk}
 use Rattle.wing_node.specs.declared.items.Step.{Step}
 use Rattle.wing_c.specs.declared.writer.WingFields.{WingFields}
 use Rattle.wing_c.specs.Definitions.{detail_numbers, taken_numbers, definition_numbers, walk_numbers, begun_numbers, item_numbers, step_numbers, fields_given}
-use Rattle.wing_c.specs.DefinitionMeanings.{details_in, definition_in, fields_read, of_its_type, TypedFields, parsed_in, walk_in, begun_in, item_kind_in, item_in, step_in, OfType, OfParsed, OfBegun, OfItem, DefinitionsSay}
+use Rattle.wing_c.specs.DefinitionMeanings.{details_in, definition_in, fields_read, of_its_type, TypedFields, parsed_in, walk_in, begun_in, item_kind_in, item_in, step_in, OfType, OfParsed, DefinitionsSay}
 use Rattle.wing_c.specs.DefinitionMeanings.OfType.{node, linear, logarithmic, fader, integers, strings, floats, text}
-use Rattle.wing_c.proofs.Said.{both, body as body-said}
-use Rattle.wing_c.proofs.Answered.{parsed-answer, begun-answer, step-answer, numbered-answer, write-answer, anew-answer}
-use Rattle.std.specs.Prelude.{Ok, Err}
+use Rattle.wing_c.proofs.Said.{both, written}
+use Rattle.wing_c.proofs.Answered.{parsed-answer}
+use Rattle.std.specs.Prelude.{Ok, Err, Option, Some, None}
 
 types : (t : NodeType) → type_of (type_number t) ≡ t
 unfolding type_of
@@ -78,27 +78,27 @@ details d t x e text = rw e
 parsed : (p : Result Definition) → OfParsed p → parsed_in (definition_numbers p) ≡ p
 unfolding parsed_in definition_in
 parsed (Ok d) h = rw (types d.node_type, units d.unit, details d d.node_type d.details refl h)
-parsed (Err why) h = both Err _ why h
+parsed (Err why) h = both Err _ why
 
 walk : (w : Walk) → walk_in (walk_numbers w) ≡ w
 unfolding walk_in
 walk w = rw (types w.kind)
 
-begun : (b : Result Walk) → OfBegun b → begun_in (begun_numbers b) ≡ b
+begun : (b : Result Walk) → begun_in (begun_numbers b) ≡ b
 unfolding begun_in
-begun (Ok w) h = ap Ok (walk w)
-begun (Err why) h = both Err _ why h
+begun (Ok w) = ap Ok (walk w)
+begun (Err why) = both Err _ why
 
-item : (i : Item) → OfItem i → item_in (item_numbers i) ≡ i
+item : (i : Result (Option Item)) → item_in (item_numbers i) ≡ i
 unfolding item_in item_kind_in
-item NoItem h = refl
-item (Strings a b) h = refl
-item (Float bits b) h = refl
-item (ItemRefused why) h = both ItemRefused _ why h
+item (Ok None) = refl
+item (Ok (Some (Strings a b))) = refl
+item (Ok (Some (Float bits b))) = refl
+item (Err why) = both Err _ why
 
-step : (s : Step) → OfItem s.item → step_in (step_numbers s) ≡ s
+step : (s : Step) → step_in (step_numbers s) ≡ s
 unfolding step_in
-step s h = rw (item s.item h, walk s.next)
+step s = rw (item s.item, walk s.next)
 
 -- a type's own fields come back by its details, and the writer looks at no others
 given : (d : Definition) (t : NodeType) (x : Details) (l : Lent) (out : List ℕ) → d.node_type ≡ t → d.details ≡ x → OfType t x →
@@ -215,11 +215,11 @@ definitions-say =
       item = item;
       step = step;
       definition_call = λ body b. parsed (definition_of body) (parsed-answer body b);
-      begin_call = λ body b. begun (begin_of body) (begun-answer body b);
-      step_call = λ body at left t. step (step_at body at left t) (step-answer body at left t);
-      item_call = λ body n b. item (item_numbered body n) (numbered-answer body n b);
-      write_call = λ d l out. body-said (body_of_fields d l out).answer (write-answer d l out);
-      anew_call = λ body out b. body-said (anew_of body out).answer (anew-answer body out b);
+      begin_call = λ body. begun (begin_of body);
+      step_call = λ body at left t. step (step_at body at left t);
+      item_call = λ body n. item (item_numbered body n);
+      write_call = λ d l out. written (body_of_fields d l out).answer;
+      anew_call = λ body out. written (anew_of body out).answer;
       given_back = λ body out d b e. given-anew body out d e (parsed-answer body b);
       written_back = λ f l out body w e. written-again f l w out body e;
       good_beside = λ why. record { definition = refl; walk = refl; item = refl };

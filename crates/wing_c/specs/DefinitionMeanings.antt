@@ -1,5 +1,5 @@
 -- What the numbers of definitions and items mean, by the header's words, and that each of them is the meaning of its numbers.
-use Rattle.std.specs.Prelude.{ℕ, ◌^◌, ◌<◌, false, ◌≡◌, List, eqb, ℤ, pos, Ok, Err}
+use Rattle.std.specs.Prelude.{ℕ, ◌^◌, ◌<◌, false, ◌≡◌, List, eqb, ℤ, pos, Ok, Err, Option, Some, None as NoItem}
 use Rattle.wing_node.specs.Bool.{if}
 use Rattle.wing_node.specs.Refusal.{good_beside}
 use Rattle.wing_node.specs.Result.{ok, Result}
@@ -18,14 +18,14 @@ use Rattle.wing_node.specs.declared.definition.Span.{Span}
 use Rattle.wing_node.specs.declared.definition.Details.{Details}
 use Rattle.wing_node.specs.declared.definition.Details.TheVariants.{None, Floats, Integers, Items, String as MaxLen}
 use Rattle.wing_node.specs.declared.definition.Item.{Item}
-use Rattle.wing_node.specs.declared.definition.Item.TheVariants.{None as NoItem, Strings, Float, Refused as ItemRefused}
+use Rattle.wing_node.specs.declared.definition.Item.TheVariants.{Strings, Float}
 use Rattle.wing_node.specs.declared.definition.Definition.{Definition}
 use Rattle.wing_node.specs.declared.items.Walk.{Walk}
 use Rattle.wing_node.specs.declared.items.Step.{Step}
 use Rattle.wing_node.specs.declared.writer.Fields.{Fields}
-use Rattle.wing_c.specs.Numbers.{body_numbers}
+use Rattle.wing_c.specs.Numbers.{written_numbers}
 use Rattle.wing_c.specs.Definitions.{taken_numbers, definition_numbers, walk_numbers, begun_numbers, item_numbers, step_numbers, fields_given}
-use Rattle.wing_c.specs.Meanings.{by_status_and_good, body_in, OfRefusal}
+use Rattle.wing_c.specs.Meanings.{by_status_and_good, written_in}
 use Rattle.wing_c.specs.declared.definitions.WingDefinition.{WingDefinition}
 use Rattle.wing_c.specs.declared.definitions.WingWalk.{WingWalk}
 use Rattle.wing_c.specs.declared.definitions.WingItem.{WingItem}
@@ -130,14 +130,14 @@ item_kind_in r =
     (Float r.bits (span r.long_start r.long_len))
 
 -- 1 an item, 0 none
-unfoldable pub item_in : WingItem → Item
-item_in r = by_status_and_good r.status r.good ItemRefused (λ s. if (eqb s 1) (item_kind_in r) NoItem)
+unfoldable pub item_in : WingItem → Result (Option Item)
+item_in r = by_status_and_good r.status r.good Err (λ s. Ok (if (eqb s 1) (Some (item_kind_in r)) NoItem))
 
 -- a step: the item there, and the walk after it
 unfoldable pub step_in : WingStep → Step
 step_in r = record { item = item_in r.item; next = walk_in r.walk }
 
--- ---- which answers there are: a refusal is one of Meanings, an integer has 32 bits, and details are those of the type
+-- ---- which answers there are: an integer has 32 bits, and details are those of the type
 
 -- the details that each type has
 pub data OfType : NodeType → Details → Type 0 where
@@ -164,19 +164,7 @@ pub record TypedFields (f : WingFields) : Type 0 where
 -- of the parser
 abbrev pub OfParsed : Result Definition → Type 0
 OfParsed (Ok d) = OfType d.node_type d.details
-OfParsed (Err why) = OfRefusal why
-
--- of the beginning of a walk
-abbrev pub OfBegun : Result Walk → Type 0
-OfBegun (Ok w) = Unit {0}
-OfBegun (Err why) = OfRefusal why
-
--- of an item
-abbrev pub OfItem : Item → Type 0
-OfItem NoItem = Unit {0}
-OfItem (Strings a b) = Unit {0}
-OfItem (Float bits b) = Unit {0}
-OfItem (ItemRefused why) = OfRefusal why
+OfParsed (Err why) = Unit {0}
 
 -- ---- what holds of them
 
@@ -184,7 +172,7 @@ OfItem (ItemRefused why) = OfRefusal why
 pub record GoodBeside (why : Refusal) : Type 0 where
   pub definition : (definition_numbers (Err why)).good ≡ good_beside why
   pub walk : (begun_numbers (Err why)).good ≡ good_beside why
-  pub item : (item_numbers (ItemRefused why)).good ≡ good_beside why
+  pub item : (item_numbers (Err why)).good ≡ good_beside why
 
 -- where the status is a refusal, all other fields are 0, but for the good of 5
 pub record RefusedZero (why : Refusal) : Type 0 where
@@ -194,7 +182,7 @@ pub record RefusedZero (why : Refusal) : Type 0 where
   pub details : let r = definition_numbers (Err why) in
       (r.count ≡ 0) × (r.max_len ≡ 0) × (r.min ≡ 0) × (r.max ≡ 0) × (r.steps ≡ pos 0) × (r.first_item ≡ 0)
   pub walk : let r = begun_numbers (Err why) in (r.at ≡ 0) × (r.left ≡ 0) × (r.node_type ≡ 0)
-  pub item : let r = item_numbers (ItemRefused why) in
+  pub item : let r = item_numbers (Err why) in
       (r.kind ≡ 0) × (r.bits ≡ 0) × (r.len ≡ 0) × (r.long_len ≡ 0) × (r.start ≡ 0) × (r.long_start ≡ 0)
 
 -- what a type has not is 0, by the details of a definition that was read, and so is the good; two strings have no bits, a float no short string, a walk under
@@ -212,26 +200,26 @@ pub record OtherZero : Type 0 where
       (r.max_len ≡ 0) × (r.min ≡ 0) × (r.max ≡ 0) × (r.steps ≡ pos 0)
   pub text : (d : Definition) (n : ℕ) → d.details ≡ MaxLen n → let r = definition_numbers (Ok d) in
       (r.count ≡ 0) × (r.min ≡ 0) × (r.max ≡ 0) × (r.steps ≡ pos 0) × (r.first_item ≡ 0)
-  pub strings_item : (a b : Span) → let r = item_numbers (Strings a b) in (r.good ≡ 0) × (r.bits ≡ 0)
-  pub float_item : (bits : ℕ) (b : Span) → let r = item_numbers (Float bits b) in (r.good ≡ 0) × (r.len ≡ 0) × (r.start ≡ 0)
-  pub no_item : let r = item_numbers NoItem in
+  pub strings_item : (a b : Span) → let r = item_numbers (Ok (Some (Strings a b))) in (r.good ≡ 0) × (r.bits ≡ 0)
+  pub float_item : (bits : ℕ) (b : Span) → let r = item_numbers (Ok (Some (Float bits b))) in (r.good ≡ 0) × (r.len ≡ 0) × (r.start ≡ 0)
+  pub no_item : let r = item_numbers (Ok NoItem) in
       (r.good ≡ 0) × (r.kind ≡ 0) × (r.bits ≡ 0) × (r.len ≡ 0) × (r.long_len ≡ 0) × (r.start ≡ 0) × (r.long_start ≡ 0)
 
 -- every definition, item and walk is what its numbers mean
 pub record DefinitionsSay : Type 0 where
   pub parsed : (p : Result Definition) → OfParsed p → parsed_in (definition_numbers p) ≡ p
   pub walk : (w : Walk) → walk_in (walk_numbers w) ≡ w
-  pub begun : (b : Result Walk) → OfBegun b → begun_in (begun_numbers b) ≡ b
-  pub item : (i : Item) → OfItem i → item_in (item_numbers i) ≡ i
-  pub step : (s : Step) → OfItem s.item → step_in (step_numbers s) ≡ s
+  pub begun : (b : Result Walk) → begun_in (begun_numbers b) ≡ b
+  pub item : (i : Result (Option Item)) → item_in (item_numbers i) ≡ i
+  pub step : (s : Step) → step_in (step_numbers s) ≡ s
   -- what the calls over a body answer is read back from their numbers, whatever its bytes are
   pub definition_call : (body : List ℕ) → AreBytes body → parsed_in (definition_numbers (definition_of body)) ≡ definition_of body
-  pub begin_call : (body : List ℕ) → AreBytes body → begun_in (begun_numbers (begin_of body)) ≡ begin_of body
+  pub begin_call : (body : List ℕ) → begun_in (begun_numbers (begin_of body)) ≡ begin_of body
   pub step_call : (body : List ℕ) (at left : ℕ) (t : NodeType) → step_in (step_numbers (step_at body at left t)) ≡ step_at body at left t
-  pub item_call : (body : List ℕ) (n : ℕ) → AreBytes body → item_in (item_numbers (item_numbered body n)) ≡ item_numbered body n
+  pub item_call : (body : List ℕ) (n : ℕ) → item_in (item_numbers (item_numbered body n)) ≡ item_numbered body n
   -- and so is what the writers answer, whatever is given and lent
-  pub write_call : (d : Fields) (l : Lent) (out : List ℕ) → let w = (body_of_fields d l out).answer in body_in (body_numbers w) ≡ w
-  pub anew_call : (body out : List ℕ) → AreBytes body → let w = (anew_of body out).answer in body_in (body_numbers w) ≡ w
+  pub write_call : (d : Fields) (l : Lent) (out : List ℕ) → let w = (body_of_fields d l out).answer in written_in (written_numbers w) ≡ w
+  pub anew_call : (body out : List ℕ) → let w = (anew_of body out).answer in written_in (written_numbers w) ≡ w
   -- the fields that were read of a body, given with its names and items, are written as the body is anew: a limit's 32 bits serve both ways
   pub given_back : (body out : List ℕ) (d : Definition) → AreBytes body → definition_of body ≡ Ok d →
       body_of_fields (fields_given (fields_read (taken_numbers d))) (lent_from body d) out ≡ anew_of body out

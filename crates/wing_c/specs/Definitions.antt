@@ -1,12 +1,12 @@
 -- Definitions and items by numbers. A string is told by its place in the body.
-use Rattle.std.specs.Prelude.{ℕ, false, ℤ, pos, Ok, Err}
+use Rattle.std.specs.Prelude.{ℕ, false, ℤ, pos, Ok, Err, Option, Some, None as NoItem}
 use Rattle.wing_node.specs.Signed.{signed, unsigned}
 use Rattle.wing_node.specs.Types.{type_number, unit_number}
 use Rattle.wing_node.specs.declared.refusal.Refusal.{Refusal}
 use Rattle.wing_node.specs.declared.definition.Details.{Details}
 use Rattle.wing_node.specs.declared.definition.Details.TheVariants.{None, Floats, Integers, Items, String as MaxLen}
 use Rattle.wing_node.specs.declared.definition.Item.{Item}
-use Rattle.wing_node.specs.declared.definition.Item.TheVariants.{None as NoItem, Strings, Float, Refused as ItemRefused}
+use Rattle.wing_node.specs.declared.definition.Item.TheVariants.{Strings, Float}
 use Rattle.wing_node.specs.declared.definition.Definition.{Definition}
 use Rattle.wing_node.specs.declared.items.Walk.{Walk}
 use Rattle.wing_node.specs.declared.items.Step.{Step}
@@ -109,11 +109,11 @@ abbrev pub no_item : Outcome → WingItem
 no_item o = record { status = o.status; good = o.good; kind = 0; bits = 0; len = 0; long_len = 0; start = 0; long_start = 0 }
 
 -- an item: 1 and its kind (0 two strings, 1 float bits and a string)
-abbrev pub item_numbers : Item → WingItem
-item_numbers NoItem = no_item no_refusal
-item_numbers (Strings a b) = record { status = pos 1; good = 0; kind = 0; bits = 0; len = a.len; long_len = b.len; start = a.start; long_start = b.start }
-item_numbers (Float bits b) = record { status = pos 1; good = 0; kind = 1; bits = bits; len = 0; long_len = b.len; start = 0; long_start = b.start }
-item_numbers (ItemRefused why) = no_item (sent_back why)
+abbrev pub item_numbers : Result (Option Item) → WingItem
+item_numbers (Ok NoItem) = no_item no_refusal
+item_numbers (Ok (Some (Strings a b))) = record { status = pos 1; good = 0; kind = 0; bits = 0; len = a.len; long_len = b.len; start = a.start; long_start = b.start }
+item_numbers (Ok (Some (Float bits b))) = record { status = pos 1; good = 0; kind = 1; bits = bits; len = 0; long_len = b.len; start = 0; long_start = b.start }
+item_numbers (Err why) = no_item (sent_back why)
 
 -- a step: the item, and the walk after it
 abbrev pub step_numbers : Step → WingStep

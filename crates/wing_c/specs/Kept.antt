@@ -1,5 +1,5 @@
 -- A decoder state kept as bytes: what a feed, a next call and a check make of it.
-use Rattle.std.specs.Prelude.{ℕ, List, [], leb, ℤ, pos, length, drop, Err}
+use Rattle.std.specs.Prelude.{ℕ, List, [], leb, ℤ, pos, length, drop, Err, Ok}
 use Rattle.wing_node.specs.Bool.{if}
 use Rattle.wing_node.specs.Refusal.{refusal_number}
 use Rattle.wing_node.specs.Result.{Result, ok, refused}
@@ -19,12 +19,11 @@ use Rattle.wing_mirror.specs.Rows.{Table}
 use Rattle.wing_mirror.specs.Record.{full}
 use Rattle.wing_mirror.specs.Counts.{zero_counts}
 use Rattle.wing_mirror.specs.Mirror.{FeedEffect, mirror_feed}
-use Rattle.wing_mirror.specs.declared.answer.FeedAnswer.{FeedAnswer}
-use Rattle.wing_mirror.specs.declared.answer.FeedAnswer.TheVariants.{Taken, Refused}
-use Rattle.wing_c.specs.Numbers.{minus, sent_back, feed_status, fed_numbers, no_event, event_numbers}
+use Rattle.wing_c.specs.Numbers.{minus, sent_back, fed_numbers, no_event, event_numbers}
 use Rattle.wing_c.specs.declared.answers.WingFed.{WingFed}
 use Rattle.wing_c.specs.declared.answers.WingEvent.{WingEvent}
 use Rattle.wing_node.specs.declared.refusal.Refusal.TheVariants.{NumberOver, OutputShort}
+use Rattle.wing_mirror.specs.declared.answer.Counts.{Counts}
 
 -- 0 for the bytes of a sound state, else 8
 abbrev pub state_status : Result State → ℤ
@@ -60,24 +59,24 @@ abbrev pub kept_feed : WingFed → List ℕ → List ℕ → KeptFeed
 kept_feed r state buffer = record { numbers = r; state = state; table = buffer }
 
 -- a feed that is taken leaves the bytes of its state; a refused one leaves the bytes as they were
-abbrev pub state_after : FeedAnswer → State → List ℕ → List ℕ
-state_after Taken s state = state_bytes s
-state_after (Refused n) s state = state
+abbrev pub state_after : Result Counts → State → List ℕ → List ℕ
+state_after (Ok c) s state = state_bytes s
+state_after (Err why) s state = state
 
 -- what the bytes then read as: a taken feed's state, else what they read as before
-abbrev pub read_after : FeedAnswer → State → Result State → Result State
-read_after Taken s before = ok s
-read_after (Refused n) s before = before
+abbrev pub read_after : Result Counts → State → Result State → Result State
+read_after (Ok c) s before = ok s
+read_after (Err why) s before = before
 
 -- the library's effect, with numbers for its answer and bytes for its state
 abbrev pub feed_from : FeedEffect → List ℕ → KeptFeed
 feed_from e state =
-    kept_feed (fed_numbers (feed_status e.answer) e.counts e.table.count) (state_after e.answer e.state state) e.table.buffer
+    kept_feed (fed_numbers e.answer e.table.count) (state_after e.answer e.state state) e.table.buffer
 
 -- 8 for bytes that are no sound state's, and all is as it was; else the library's feed
 unfoldable pub feed_with : Result State → List ℕ → Table → List ℕ → KeptFeed
 feed_with (ok s) state t bytes = feed_from (mirror_feed full s t bytes) state
-feed_with (refused why) state t bytes = kept_feed (fed_numbers (minus (refusal_number why)) zero_counts t.count) state t.buffer
+feed_with (refused why) state t bytes = kept_feed (fed_numbers (Err why) t.count) state t.buffer
 
 -- a feed on the bytes of a state; 8, 7, 14
 abbrev pub feed_kept : List ℕ → Table → List ℕ → KeptFeed

@@ -1,11 +1,8 @@
 -- A window over readings by numbers (02): its state, what it tells, and what each of its calls leaves.
 use Rattle.std.specs.Prelude.{ℕ, List, ℤ, pos, Ok, Some, Option, None, Err}
-use Rattle.wing_meters.specs.Window.{control, window}
+use Rattle.wing_meters.specs.Window.{control, window, fresh_window}
 use Rattle.wing_meters.specs.Calls.{RowsEffect}
 use Rattle.wing_meters.specs.declared.window.Window.{Window}
-use Rattle.wing_meters.specs.declared.window.Made.{Made}
-use Rattle.wing_meters.specs.declared.window.MadeAnswer.{MadeAnswer}
-use Rattle.wing_meters.specs.declared.window.MadeAnswer.TheVariants.{Good, Refused as NotMade}
 use Rattle.wing_meters.specs.declared.reading.Taken.{Taken}
 use Rattle.wing_meters.specs.declared.reading.Followed.{Followed}
 use Rattle.wing_c.specs.Numbers.{minus}
@@ -16,6 +13,7 @@ use Rattle.wing_c.specs.declared.windows.WingTaken.{WingTaken}
 use Rattle.wing_c.specs.declared.windows.WingFollowed.{WingFollowed}
 use Rattle.wing_node.specs.Result.{Result}
 use Rattle.wing_meters.specs.declared.figures.Figures.{Figures}
+use Rattle.wing_node.specs.Refusal.{refusal_number}
 
 -- a window's state, field by field
 abbrev pub window_numbers : Window → WingWindow
@@ -35,16 +33,12 @@ no_figures status = record { status = status; held = 0; sum = pos 0; mean = pos 
 abbrev pub told_numbers : Result (Option Figures) → WingFigures
 told_numbers (Ok None) = no_figures (pos 0)
 told_numbers (Ok (Some f)) = record { status = pos 1; held = f.held; sum = f.sum; mean = f.mean; rest = f.rest; top = f.top }
-told_numbers (Err n) = no_figures (minus n)
+told_numbers (Err why) = no_figures (minus (refusal_number why))
 
--- whether a window was made
-abbrev pub made_status : MadeAnswer → ℤ
-made_status Good = pos 0
-made_status (NotMade n) = minus n
-
--- a window made: 0, and the window
-abbrev pub made_numbers : Made → WingMade
-made_numbers m = record { status = made_status m.answer; window = window_numbers m.window }
+-- a window made: 0, and the window; beside a refusal stands a window of width 0, which every call refuses
+abbrev pub made_numbers : Result Window → WingMade
+made_numbers (Ok w) = record { status = pos 0; window = window_numbers w }
+made_numbers (Err why) = record { status = minus (refusal_number why); window = window_numbers (fresh_window 0) }
 
 -- a reading taken: the figures, and the window after it
 abbrev pub reading_numbers : Taken → WingTaken
@@ -57,7 +51,7 @@ followed_as status rows w = record { status = status; rows = rows; window = wind
 -- readings taken: 0 and a row of figures for each
 abbrev pub followed_by : Result ℕ → Window → WingFollowed
 followed_by (Ok n) w = followed_as (pos 0) n w
-followed_by (Err n) w = followed_as (minus n) 0 w
+followed_by (Err why) w = followed_as (minus (refusal_number why)) 0 w
 
 -- with the window after them
 abbrev pub followed_numbers : Followed → WingFollowed

@@ -5,7 +5,7 @@ use Rattle.wing_wire.specs.Write.{WriteEffect}
 use Rattle.wing_wire.specs.Meter.{RequestEffect, PacketEffect}
 use Rattle.wing_mirror.specs.Mirror.{SetEffect}
 use Rattle.wing_listing.specs.Calls.{LoadEffect}
-use Rattle.wing_c.specs.Numbers.{written_numbers, body_numbers, set_numbers, requested_numbers, meters_numbers, loaded_numbers}
+use Rattle.wing_c.specs.Numbers.{written_numbers, set_numbers, requested_numbers, meters_numbers, loaded_numbers}
 use Rattle.wing_c.specs.declared.answers.WingWritten.{WingWritten}
 use Rattle.wing_c.specs.declared.answers.WingSet.{WingSet}
 use Rattle.wing_c.specs.declared.answers.WingRequested.{WingRequested}
@@ -27,7 +27,7 @@ command_of e = command (written_numbers e.answer) e.out
 
 -- of what the writer of definitions leaves
 abbrev pub body_from : BodyEffect → Command
-body_from e = command (body_numbers e.answer) e.out
+body_from e = command (written_numbers e.answer) e.out
 
 -- a set through the mirror: its numbers, the output and the table buffer
 pub record MirrorCommand : Type 0 where

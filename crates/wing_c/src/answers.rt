@@ -2,15 +2,14 @@
 // sign; where a call can answer 1 or 5, the good of the string stands beside it (02), 0 for all else.
 ghost use Rattle.std.specs.Prelude.{◌≡◌};
 ghost use Rattle.wing_node.specs.Refusal.{refusal_number, good_beside};
-ghost use Rattle.wing_mirror.specs.Counts.{zero_counts};
-ghost use Rattle.wing_c.specs.Numbers.{minus as minus_of, sent_back, no_refusal, written_as, written_numbers, body_numbers, set_as, set_numbers, feed_status, fed_numbers, lookup_numbers, same_number};
+ghost use Rattle.wing_c.specs.Numbers.{minus as minus_of, sent_back, no_refusal, written_as, written_numbers, set_as, set_numbers, fed_as, fed_numbers, lookup_numbers, same_number};
 ghost use Rattle.wing_c.specs.Numbers.{held_numbers, record_numbers, event_as, no_event, event_numbers, requested_numbers, meters_numbers, loaded_as, loaded_numbers};
 
 use wing_listing::answer::Loaded;
-use wing_mirror::answer::{LentFeedReply, RecordRead};
+use wing_mirror::answer::{Counts, RecordRead};
 use wing_mirror::origin;
 use wing_node::field::of_i32;
-use wing_node::refusal::{Refusal, number};
+use wing_node::refusal::Refusal;
 use wing_node::value::Value;
 use wing_wire::meter::{MetersRead, Requested};
 use wing_wire::unit::Answer;
@@ -120,23 +119,19 @@ pub struct WingLoaded {
 }
 
 // A refusal's number with a minus sign.
-pub(crate) fn minus(why: u8) -> i32
-    ensures { result ≡ minus_of why }
+pub(crate) fn minus(why: Refusal) -> i32
+    ensures { result ≡ minus_of (refusal_number why) }
 {
-    if why == 0 {
-        return 0;
-    }
-    !((why - 1) as i32)
+    -i32::from(why.number())
 }
 
-// 02: a number alone has no good.
+// 02: the good beside 1 and 5; the others have none.
 fn good_beside(why: Refusal) -> u16
     ensures { result ≡ good_beside why }
 {
     match why {
-        Refusal::Number(_) => 0,
-        Refusal::StringNotUtf8 { good } => good,
-        Refusal::DefinitionNotUtf8 { good } => good,
+        Refusal::StringNotUtf8 { good } | Refusal::DefinitionNotUtf8 { good } => good,
+        _ => 0,
     }
 }
 
@@ -144,7 +139,7 @@ pub(crate) fn sent_back(why: Refusal) -> Outcome
     ensures { result ≡ sent_back why }
 {
     Outcome {
-        status: minus(why.number()),
+        status: minus(why),
         good: good_beside(why),
     }
 }
@@ -174,15 +169,6 @@ pub(crate) fn written(w: Result<usize, Refusal>) -> WingWritten
     }
 }
 
-pub(crate) fn body(w: Result<usize, Refusal>) -> WingWritten
-    ensures { result ≡ body_numbers w }
-{
-    match w {
-        Ok(n) => written_as(no_refusal(), n),
-        Err(why) => written_as(sent_back(why), 0),
-    }
-}
-
 fn set_as(o: Outcome, len: usize, count: usize) -> WingSet
     ensures { result ≡ set_as o len count }
 {
@@ -203,44 +189,38 @@ pub(crate) fn set(w: Result<usize, Refusal>, count: usize) -> WingSet
     }
 }
 
-pub(crate) fn feed_status(a: FeedAnswer) -> i32
-    ensures { result ≡ feed_status a }
+fn fed_as(status: i32, c: Counts, count: usize) -> WingFed
+    ensures { result ≡ fed_as status c count }
 {
-    match a {
-        FeedAnswer::Taken => 0,
-        Err(why) => minus(why),
-    }
-}
-
-pub(crate) fn fed(r: LentFeedReply) -> WingFed
-    ensures { result ≡ fed_numbers (feed_status r.answer) r.counts r.count }
-{
-    let a = r.answer;
-    let c = r.counts;
     WingFed {
-        status: feed_status(a),
+        status,
         stored: c.stored,
         unplaced: c.unplaced,
         strings_refused: c.strings_refused,
         definitions_read: c.definitions_read,
         definitions_refused: c.definitions_refused,
         ends: c.ends,
-        count: r.count,
+        count,
     }
 }
 
-pub(crate) fn feed_refused(why: Refusal, count: usize) -> WingFed
-    ensures { result ≡ fed_numbers (minus_of (refusal_number why)) zero_counts count }
+// A refused feed counts nothing.
+pub(crate) fn fed(answer: Result<Counts, Refusal>, count: usize) -> WingFed
+    ensures { result ≡ fed_numbers answer count }
 {
-    WingFed {
-        status: minus(why.number()),
-        stored: 0,
-        unplaced: 0,
-        strings_refused: 0,
-        definitions_read: 0,
-        definitions_refused: 0,
-        ends: 0,
-        count: count,
+    match answer {
+        Ok(c) => fed_as(0, c, count),
+        Err(why) => {
+            let none = Counts {
+                stored: 0,
+                unplaced: 0,
+                strings_refused: 0,
+                definitions_read: 0,
+                definitions_refused: 0,
+                ends: 0,
+            };
+            fed_as(minus(why), none, count)
+        }
     }
 }
 
@@ -307,15 +287,11 @@ fn record_of(id: i32, value: Value, origin: u8, string: [u8; 256]) -> WingRecord
     }
 }
 
-pub(crate) fn record(r: RecordRead) -> WingRecord
-    ensures { result ≡ record_numbers r.answer r.string }
+pub(crate) fn record(r: Result<RecordRead, Refusal>) -> WingRecord
+    ensures { result ≡ record_numbers r }
 {
-    let a = r.answer;
-    let string = r.string;
-    match a {
-        RecordAnswer::Record { id, value, origin } => {
-            record_of(id, value, origin::number(origin), string)
-        }
+    match r {
+        Ok(r) => record_of(r.id, r.value, origin::number(r.origin), r.string),
         Err(why) => WingRecord {
             status: minus(why),
             id: 0,
@@ -323,7 +299,7 @@ pub(crate) fn record(r: RecordRead) -> WingRecord
             len: 0,
             kind: 0,
             origin: 0,
-            string: string,
+            string: [0u8; 256],
         },
     }
 }
@@ -372,14 +348,14 @@ pub(crate) fn event(a: Answer, node: i32, taken: usize) -> WingEvent
     }
 }
 
-pub(crate) fn requested(r: Requested) -> WingRequested
+pub(crate) fn requested(r: Result<Requested, Refusal>) -> WingRequested
     ensures { result ≡ requested_numbers r }
 {
     match r {
-        Requested::Bytes { len, id } => WingRequested {
+        Ok(r) => WingRequested {
             status: 0,
-            id: id,
-            len: len,
+            id: r.id,
+            len: r.len,
         },
         Err(why) => WingRequested {
             status: minus(why),
@@ -389,14 +365,14 @@ pub(crate) fn requested(r: Requested) -> WingRequested
     }
 }
 
-pub(crate) fn meters(r: MetersRead) -> WingMeters
+pub(crate) fn meters(r: Result<MetersRead, Refusal>) -> WingMeters
     ensures { result ≡ meters_numbers r }
 {
     match r {
-        MetersRead::Readings { id, count } => WingMeters {
+        Ok(r) => WingMeters {
             status: 0,
-            id: id,
-            count: count,
+            id: r.id,
+            count: r.count,
         },
         Err(why) => WingMeters {
             status: minus(why),
@@ -421,7 +397,7 @@ pub(crate) fn loaded(a: Loaded) -> WingLoaded
     ensures { result ≡ loaded_numbers a }
 {
     match a {
-        Loaded::Records(n) => loaded_as(no_refusal(), n, 0),
-        Loaded::Refused { why, line } => loaded_as(sent_back(why), 0, line),
+        Ok(n) => loaded_as(no_refusal(), n, 0),
+        Err(bad) => loaded_as(sent_back(bad.why), 0, bad.line),
     }
 }

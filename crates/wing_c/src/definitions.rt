@@ -9,6 +9,7 @@ ghost use Rattle.wing_c.specs.Definitions.{walk_as, begun_numbers, no_item, item
 use crate::answers::{Outcome, no_refusal, sent_back};
 use wing_node::definition::{Definition, Details, Item};
 use wing_node::field::of_i32;
+use wing_node::items::Walk;
 use wing_node::node_type::{type_number, type_of, unit_number};
 use wing_node::refusal::Refusal;
 use wing_node::{definition, items};
@@ -181,8 +182,7 @@ fn refused(why: Refusal) -> WingDefinition
 pub extern "C" fn wing_definition(body: &[u8]) -> WingDefinition
     ensures { result ≡ definition_numbers (definition_of body.now) }
 {
-    let parsed = definition::from_bytes(body);
-    match parsed {
+    match definition::from_bytes(body) {
         Ok(d) => taken(d),
         Err(why) => refused(why),
     }
@@ -205,12 +205,8 @@ fn walk(o: Outcome, at: usize, left: u16, node_type: u8) -> WingWalk
 pub extern "C" fn wing_items_begin(body: &[u8]) -> WingWalk
     ensures { result ≡ begun_numbers (begin_of body.now) }
 {
-    let begun = items::items_begin(body);
-    match begun {
-        Ok(w) => {
-            let kind = w.kind;
-            walk(no_refusal(), w.at, w.left, type_number(kind))
-        }
+    match items::items_begin(body) {
+        Ok(w) => walk(no_refusal(), w.at, w.left, type_number(w.kind)),
         Err(why) => walk(sent_back(why), 0, 0, 0),
     }
 }
@@ -230,12 +226,12 @@ fn without_item(o: Outcome) -> WingItem
     }
 }
 
-fn item(i: Item) -> WingItem
+fn item(i: Result<Option<Item>, Refusal>) -> WingItem
     ensures { result ≡ item_numbers i }
 {
     match i {
         Ok(None) => without_item(no_refusal()),
-        Item::Strings { item, long_item } => WingItem {
+        Ok(Some(Item::Strings { item, long_item })) => WingItem {
             status: 1,
             good: 0,
             kind: 0,
@@ -245,7 +241,7 @@ fn item(i: Item) -> WingItem
             start: item.start,
             long_start: long_item.start,
         },
-        Item::Float { item, long_item } => WingItem {
+        Ok(Some(Item::Float { item, long_item })) => WingItem {
             status: 1,
             good: 0,
             kind: 1,
@@ -264,14 +260,16 @@ fn item(i: Item) -> WingItem
 pub extern "C" fn wing_item_step(body: &[u8], at: usize, left: u16, node_type: u8) -> WingStep
     ensures { result ≡ step_numbers (step_at body.now at left (type_of node_type)) }
 {
-    let kind = type_of(node_type as u16);
-    let step = items::item_step(body, at, left, kind);
-    let i = step.item;
+    let there = Walk {
+        at,
+        left,
+        kind: type_of(node_type as u16),
+    };
+    let step = items::item_step(body, there);
     let next = step.next;
-    let after = next.kind;
     WingStep {
-        item: item(i),
-        walk: walk(no_refusal(), next.at, next.left, type_number(after)),
+        item: item(step.item),
+        walk: walk(no_refusal(), next.at, next.left, type_number(next.kind)),
     }
 }
 

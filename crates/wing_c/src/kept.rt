@@ -11,5 +11,6 @@ pub(crate) fn keep(state: &mut [u8], after: Control)
     requires { (sound_state (state_in after state.old) ≡ true) × (length state.old ≡ saved_size) }
     ensures { Saves state.new (state_in after state.old) }
 {
-    wing_saved::lay_head(state, after);
+    // There is room: the state has its whole size.
+    let _ = wing_saved::lay_head(state, after);
 }

@@ -23,7 +23,5 @@ pub extern "C" fn wing_print(table: &[u8], count: usize, out: &mut [u8]) -> Wing
 pub extern "C" fn wing_load(text: &[u8], table: &mut [u8]) -> WingLoaded
     ensures { table_load result table.new ≡ table_load_of (load_of text.now table.old) }
 {
-    let r = load(text, table);
-    let a = r.answer;
-    answers::loaded(a)
+    answers::loaded(load(text, table).answer)
 }

@@ -1,5 +1,5 @@
 // The mirror: a state's bytes, a table buffer and its count.
-ghost use Rattle.std.specs.Prelude.{◌≡◌, true, pos, length};
+ghost use Rattle.std.specs.Prelude.{◌≡◌, true, pos, length, is_ok};
 ghost use Rattle.wing_node.specs.Bool.{if};
 ghost use Rattle.wing_node.specs.Value.{integer, float, string as string_of};
 ghost use Rattle.wing_wire.specs.State.{sound_state};
@@ -7,7 +7,6 @@ ghost use Rattle.wing_saved.specs.Saved.{saved_size, state_from, HeadOf};
 ghost use Rattle.wing_mirror.specs.Record.{full};
 ghost use Rattle.wing_mirror.specs.Table.{table as table_of, usable};
 ghost use Rattle.wing_mirror.specs.Mirror.{mirror_set};
-ghost use Rattle.wing_mirror.specs.declared.answer.FeedAnswer.TheVariants.{Taken};
 ghost use Rattle.wing_mirror.specs.Recall.{recall_of};
 ghost use Rattle.wing_mirror.specs.Query.{lookup_answer, record_answer, same_answer};
 ghost use Rattle.wing_c.specs.Numbers.{minus, lookup_numbers, record_numbers, same_number};
@@ -17,10 +16,12 @@ ghost use Rattle.wing_c.specs.Kept.{state_in, kept_feed, state_after, read_after
 use crate::answers;
 use crate::answers::{WingFed, WingLookup, WingRecord, WingSet, WingWritten};
 use crate::kept::keep;
+use wing_mirror::answer::Counts;
 use wing_mirror::feed::feed_lent;
 use wing_mirror::recall::recall;
 use wing_mirror::table::is_usable;
 use wing_mirror::{query, set};
+use wing_node::refusal::Refusal;
 use wing_saved::HEAD;
 use wing_wire::state::Control;
 
@@ -32,19 +33,17 @@ pub extern "C" fn wing_table_check(table: &[u8], count: usize) -> i32
     if is_usable(table, count) {
         return 0;
     }
-    answers::minus(7)
+    answers::minus(Refusal::TableUnsound)
 }
 
 // A feed that was taken leaves its control before the store.
-fn keep_state(state: &mut [u8], a: FeedAnswer, after: Control)
-    requires { (a ≡ Taken → sound_state (state_in after state.old) ≡ true) × (length state.old ≡ saved_size) }
+fn keep_state(state: &mut [u8], a: Result<Counts, Refusal>, after: Control)
+    requires { (is_ok a ≡ true → sound_state (state_in after state.old) ≡ true) × (length state.old ≡ saved_size) }
     ensures state_after { state.new ≡ state_after a (state_in after state.old) state.old }
     ensures state_after_2 { state_from state.new ≡ read_after a (state_in after state.old) (state_from state.old) }
 {
     match a {
-        FeedAnswer::Taken => {
-            keep(state, after);
-        }
+        Ok(_) => keep(state, after),
         Err(_) => {}
     }
 }
@@ -56,10 +55,8 @@ fn feed_in(state: &mut [u8], c: Control, table: &mut [u8], count: usize, bytes: 
     ensures state_after { state_from state.new ≡ state_fed (state_from state.old) (table_of table.old count) bytes.now }
 {
     let r = feed_lent(c, &mut state[HEAD..], table, count, bytes);
-    let a = r.answer;
-    let after = r.control;
-    keep_state(state, a, after);
-    answers::fed(r)
+    keep_state(state, r.answer, r.control);
+    answers::fed(r.answer, r.count)
 }
 
 // 01: up to 65,536 bytes; the six counts, and the records there are. 8, 7, 14.
@@ -73,14 +70,9 @@ pub extern "C" fn wing_feed(
     ensures table_after { kept_feed result state.new table.new ≡ feed_kept state.old (table_of table.old count) bytes.now }
     ensures state_after { state_from state.new ≡ state_fed (state_from state.old) (table_of table.old count) bytes.now }
 {
-    let h = wing_saved::head(state);
-    let a = h.answer;
-    match a {
-        LoadAnswer::Good => {
-            let c = h.control;
-            feed_in(state, c, table, count, bytes)
-        }
-        Err(why) => answers::feed_refused(why, count),
+    match wing_saved::head(state) {
+        Ok(c) => feed_in(state, c, table, count, bytes),
+        Err(why) => answers::fed(Err(why), count),
     }
 }
 
@@ -96,8 +88,7 @@ pub extern "C" fn wing_set_int(
     ensures { mirror_command result out.new table.new ≡ mirror_command_of (mirror_set full id (integer value) (table_of table.old count) out.old) }
 {
     let r = set::set_int(table, count, out, id, value);
-    let a = r.answer;
-    answers::set(a, r.count)
+    answers::set(r.answer, r.count)
 }
 
 // The same for a float, by its 32 bits.
@@ -112,8 +103,7 @@ pub extern "C" fn wing_set_float(
     ensures { mirror_command result out.new table.new ≡ mirror_command_of (mirror_set full id (float bits) (table_of table.old count) out.old) }
 {
     let r = set::set_float(table, count, out, id, bits);
-    let a = r.answer;
-    answers::set(a, r.count)
+    answers::set(r.answer, r.count)
 }
 
 // The same for a string. 7, 10, 1, 6, 9.
@@ -128,8 +118,7 @@ pub extern "C" fn wing_set_string(
     ensures { mirror_command result out.new table.new ≡ mirror_command_of (mirror_set full id (string_of value.now) (table_of table.old count) out.old) }
 {
     let r = set::set_string(table, count, out, id, value);
-    let a = r.answer;
-    answers::set(a, r.count)
+    answers::set(r.answer, r.count)
 }
 
 // 01: df d1, then the set bytes of each record in order. 7, 9.
@@ -151,7 +140,7 @@ pub extern "C" fn wing_lookup(table: &[u8], count: usize, id: i32) -> WingLookup
 // 01: a record is read by number, from 0; 02: with its origin. 7, 14.
 #[unsafe(no_mangle)]
 pub extern "C" fn wing_record(table: &[u8], count: usize, number: usize) -> WingRecord
-    ensures { result ≡ record_numbers (record_answer full (table_of table.now count) number).answer (record_answer full (table_of table.now count) number).string }
+    ensures { result ≡ record_numbers (record_answer full (table_of table.now count) number) }
 {
     answers::record(query::record(table, count, number))
 }

@@ -11,8 +11,8 @@ ghost use Rattle.wing_c.specs.Kept.{state_status, carried_kept, state_carried, s
 use crate::answers::{WingEvent, WingWritten, event, minus, written};
 use crate::kept::keep;
 use wing_node::refusal::Refusal;
-use wing_saved::earlier::load_earlier;
 use wing_saved::HEAD;
+use wing_saved::earlier::load_earlier;
 use wing_wire::reader::copy_front;
 use wing_wire::state::{Control, State, is_sound_lent};
 use wing_wire::stream::{Advanced, advance, release};

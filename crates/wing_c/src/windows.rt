@@ -1,14 +1,15 @@
 // A window over a strip's last readings (02, Job 6). Its state is numbers that the caller keeps: it goes in and comes back by value.
 ghost use Rattle.std.specs.Prelude.{◌≡◌};
 ghost use Rattle.wing_meters.specs.Calls.{made_of, figures_answer, reading_of, readings_of};
-ghost use Rattle.wing_c.specs.Windows.{window_numbers, window_given, no_figures, told_numbers, made_status, made_numbers, reading_numbers, followed_as, followed_numbers};
+ghost use Rattle.wing_c.specs.Windows.{window_numbers, window_given, no_figures, told_numbers, made_numbers, reading_numbers, followed_as, followed_numbers};
 ghost use Rattle.wing_c.specs.Windows.{rows_left, rows_from};
 
 use crate::answers::minus;
-use wing_meters::figures::Told;
+use wing_meters::figures::Figures;
 use wing_meters::reading::{Followed, Taken};
-use wing_meters::window::{Control, Made, Window};
+use wing_meters::window::{Control, Window};
 use wing_meters::{reading, window};
+use wing_node::refusal::Refusal;
 
 // A window's state: the width, how many readings are held, the place of the next one, the largest level, the sum of the levels, and the levels:
 // a reading raised by 32,768 is one.
@@ -105,12 +106,12 @@ fn without_figures(status: i32) -> WingFigures
     }
 }
 
-fn told(a: Told) -> WingFigures
+fn told(a: Result<Option<Figures>, Refusal>) -> WingFigures
     ensures { result ≡ told_numbers a }
 {
     match a {
-        Told::None => without_figures(0),
-        Told::Figures(f) => WingFigures {
+        Ok(None) => without_figures(0),
+        Ok(Some(f)) => WingFigures {
             status: 1,
             held: f.held,
             sum: f.sum,
@@ -122,34 +123,35 @@ fn told(a: Told) -> WingFigures
     }
 }
 
-fn made_status(a: MadeAnswer) -> i32
-    ensures { result ≡ made_status a }
-{
-    match a {
-        MadeAnswer::Good => 0,
-        Err(why) => minus(why),
-    }
-}
-
-fn made(m: Made) -> WingMade
+// Beside a refusal stands a window of width 0, which every call refuses.
+fn made(m: Result<Window, Refusal>) -> WingMade
     ensures { result ≡ made_numbers m }
 {
-    let a = m.answer;
-    let w = m.window;
-    WingMade {
-        status: made_status(a),
-        window: kept(w),
+    match m {
+        Ok(w) => WingMade {
+            status: 0,
+            window: kept(w),
+        },
+        Err(why) => WingMade {
+            status: minus(why),
+            window: WingWindow {
+                width: 0,
+                held: 0,
+                next: 0,
+                top: 0,
+                sum: 0,
+                levels: [0u16; 256],
+            },
+        },
     }
 }
 
 fn taken(t: Taken) -> WingTaken
     ensures { result ≡ reading_numbers t }
 {
-    let a = t.answer;
-    let w = t.window;
     WingTaken {
-        figures: told(a),
-        window: kept(w),
+        figures: told(t.answer),
+        window: kept(t.window),
     }
 }
 
@@ -166,11 +168,9 @@ fn followed_as(status: i32, rows: usize, w: Window) -> WingFollowed
 fn followed(f: Followed) -> WingFollowed
     ensures { result ≡ followed_numbers f }
 {
-    let a = f.answer;
-    let w = f.window;
-    match a {
-        RowsAnswer::Rows(n) => followed_as(0, n, w),
-        Err(why) => followed_as(minus(why), 0, w),
+    match f.answer {
+        Ok(n) => followed_as(0, n, f.window),
+        Err(why) => followed_as(minus(why), 0, f.window),
     }
 }
 

@@ -61,7 +61,7 @@ pub extern "C" fn wing_write_definition(
 ) -> WingWritten
     ensures { command result out.new ≡ body_from (body_of_fields (fields_given fields) (lent name.now long_name.now items.now) out.old) }
 {
-    answers::body(writer::to_bytes(fields_given(fields), name, long_name, items, out))
+    answers::written(writer::to_bytes(fields_given(fields), name, long_name, items, out))
 }
 
 // 02: a body read and written anew. The parser's 4 or 5, then as above.
@@ -69,5 +69,5 @@ pub extern "C" fn wing_write_definition(
 pub extern "C" fn wing_write_anew(body: &[u8], out: &mut [u8]) -> WingWritten
     ensures { command result out.new ≡ body_from (anew_of body.now out.old) }
 {
-    answers::body(anew::write_anew(body, out))
+    answers::written(anew::write_anew(body, out))
 }

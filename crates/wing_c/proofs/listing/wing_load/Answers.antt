@@ -4,4 +4,4 @@ use Rattle.wing_c.proofs.listing.wing_load.Goals as goal
 
 pub returns : goal.returns
 returns c =
-    load-as c.load-r.result c.loaded.ensures c.load-r.ensures
+    load-as c.load.result c.loaded.ensures c.load.ensures

@@ -4,4 +4,4 @@ use Rattle.wing_c.proofs.writer.wing_write_anew.Goals as goal
 
 pub returns : goal.returns
 returns c =
-    body-as c.write_anew.result c.body.ensures c.write_anew.ensures
+    body-as c.write_anew.result c.written.ensures c.write_anew.ensures

@@ -4,4 +4,4 @@ use Rattle.wing_c.proofs.writer.wing_write_definition.Goals as goal
 
 pub returns : goal.returns
 returns c =
-    body-as c.to_bytes.result c.body.ensures (rw c.fields_given.ensures at c.to_bytes.ensures)
+    body-as c.to_bytes.result c.written.ensures (rw c.fields_given.ensures at c.to_bytes.ensures)
