@@ -81,15 +81,16 @@ fn suffix(bytes: &[u8]) -> Result<Option<u8>, Unanswered> {
 }
 
 // Past the items: rta, unless the order names a meter.
-fn meters(alloc: Global, words: &mut Words, is_named: bool) -> Result<Command, Unanswered> {
+fn meters(alloc: Global, name: &str, words: &mut Words) -> Result<Command, Unanswered> {
     let port = words.number()?;
     let last = words.number()?;
     let count = words.up_to(255)?;
-    let mut other = Meter::Rta;
-    if is_named {
-        let [kind, index] = field::bytes_16((words.hex(4)? % 0x1_0000) as u16);
-        other = meter_of(kind, index);
-    }
+    let other = if name == "askmetersfill" {
+        let named = words.hex(4)?;
+        meter_of((named / 0x100 % 0x100) as u8, (named % 0x100) as u8)
+    } else {
+        Meter::Rta
+    };
     let meters = words.bytes(alloc)?;
     Ok(Command::AskMeters(Request {
         port,
@@ -112,8 +113,7 @@ fn command_of(alloc: Global, name: &str, words: &mut Words) -> Result<Command, U
         },
         "askdefinition" => Command::AskDefinition(words.number()?),
         "askdata" => Command::AskData(words.number()?),
-        "askmeters" => meters(alloc, words, false)?,
-        "askmetersfill" => meters(alloc, words, true)?,
+        "askmeters" | "askmetersfill" => meters(alloc, name, words)?,
         "keepalive" => Command::KeepAlive {
             last: words.number()?,
             port: words.number()?,
@@ -285,14 +285,14 @@ pub fn obey_body(alloc: Global, order: Body, text: &mut String) -> Answered {
 pub fn of_written(text: &mut String, w: Written, word: &str, lent: &[u8]) -> Answered {
     match w {
         Written::Bytes(len) => told(text, word, lent, len),
-        Written::Refused(why) => told_refused(text, Refused::from(why), lent),
+        Written::Refused(why) => told_refused(text, why.into(), lent),
     }
 }
 
 fn of_body(text: &mut String, w: BodyWritten, lent: &[u8]) -> Answered {
     match w {
         BodyWritten::Bytes(len) => told(text, "wrote", lent, len),
-        BodyWritten::Refused(why) => told_refused(text, Refused::from(why), lent),
+        BodyWritten::Refused(why) => told_refused(text, why.into(), lent),
     }
 }
 
@@ -312,7 +312,7 @@ fn told_refused(text: &mut String, why: Refused, lent: &[u8]) -> Answered {
 fn of_again(text: &mut String, w: BodyWritten, lent: &[u8], before: &[u8]) -> Answered {
     match w {
         BodyWritten::Bytes(len) => again(text, lent.get(..len), before),
-        BodyWritten::Refused(why) => tell_refused(text, Refused::from(why)),
+        BodyWritten::Refused(why) => tell_refused(text, why.into()),
     }
 }
 
@@ -329,14 +329,14 @@ fn again(text: &mut String, written: Option<&[u8]>, before: &[u8]) -> Answered {
 fn of_command(text: &mut String, w: Written, lent: &[u8]) -> Answered {
     match w {
         Written::Bytes(len) => shortly(text, 0, lent, len),
-        Written::Refused(why) => shortly_refused(text, Refused::from(why), lent),
+        Written::Refused(why) => shortly_refused(text, why.into(), lent),
     }
 }
 
 fn of_requested(text: &mut String, r: meter::Requested, lent: &[u8]) -> Answered {
     match r {
         meter::Requested::Bytes { len, id } => shortly(text, id, lent, len),
-        meter::Requested::Refused(why) => shortly_refused(text, Refused::from(why), lent),
+        meter::Requested::Refused(why) => shortly_refused(text, why.into(), lent),
     }
 }
 
@@ -359,7 +359,7 @@ fn of_read(text: &mut String, r: meter::MetersRead, lent: &[i16]) -> Answered {
     match r {
         meter::MetersRead::Readings { id, count } => readings(text, id, count, lent),
         meter::MetersRead::Refused(why) => {
-            tell_short(text, Refused::from(why))?;
+            tell_short(text, why.into())?;
             kept_readings(text, 0, lent)
         }
     }

@@ -85,11 +85,8 @@ fn refused_in(text: &mut String, why: Refused, manner: Manner) -> Answered {
     }
 }
 
-// The walker is made anew by the library for each step.
-fn one_step(body: &[u8], w: items::Walk, lent: bool) -> items::Step {
-    if lent {
-        return walker::step_over(body, w);
-    }
+// One step of the library's own.
+fn one_step(body: &[u8], w: items::Walk) -> items::Step {
     let kind = w.kind;
     items::item_step(body, w.at, w.left, kind)
 }
@@ -104,35 +101,41 @@ fn step_text(text: &mut String, body: &[u8], s: items::Step) -> Answered {
     Ok(())
 }
 
-// Every item short, and what stands after the last.
-fn walk(text: &mut String, body: &[u8], first: items::Walk) -> Answered {
+// Every item, and what stands after the last, by a step that tells an item and goes on.
+fn walk<F: Fn(&mut String, items::Walk) -> Result<items::Walk, Unanswered>>(
+    text: &mut String,
+    first: items::Walk,
+    step: F,
+) -> Answered
+    requires { F.IsAlwaysCallable step }
+{
     let mut w = first;
     for _ in 0..=first.left {
-        let s = one_step(body, w, false);
-        let i = s.item;
-        item(text, body, i, Manner::Short)?;
-        w = s.next;
+        w = step(text, w)?;
     }
     Ok(())
 }
 
-// The same by the walker, each step in words.
-fn walk_lent(text: &mut String, body: &[u8], first: items::Walk) -> Answered {
-    let mut w = first;
-    for _ in 0..=first.left {
-        let s = one_step(body, w, true);
-        text.push_str("; ")?;
-        step_text(text, body, s)?;
-        w = s.next;
-    }
-    Ok(())
+fn step_short(text: &mut String, body: &[u8], w: items::Walk) -> Result<items::Walk, Unanswered> {
+    let s = one_step(body, w);
+    let i = s.item;
+    item(text, body, i, Manner::Short)?;
+    Ok(s.next)
+}
+
+// The walker is made anew by the library for each step.
+fn step_lent(text: &mut String, body: &[u8], w: items::Walk) -> Result<items::Walk, Unanswered> {
+    let s = walker::step_over(body, w);
+    text.push_str("; ")?;
+    step_text(text, body, s)?;
+    Ok(s.next)
 }
 
 fn walked(text: &mut String, body: &[u8]) -> Answered {
     let begun = items::items_begin(body);
     match begun {
-        items::Begun::Good(first) => walk(text, body, first),
-        items::Begun::Refused(why) => tell_short(text, Refused::from(why)),
+        items::Begun::Good(first) => walk(text, first, |text, w| step_short(text, body, w)),
+        items::Begun::Refused(why) => tell_short(text, why.into()),
     }
 }
 
@@ -185,7 +188,7 @@ pub fn definition(text: &mut String, body: &[u8]) -> Answered {
     let parsed = definition::from_bytes(body);
     match parsed {
         definition::Parsed::Good(d) => fields(text, body, d),
-        definition::Parsed::Refused(why) => tell_short(text, Refused::from(why)),
+        definition::Parsed::Refused(why) => tell_short(text, why.into()),
     }
 }
 
@@ -228,8 +231,8 @@ fn cuts(text: &mut String, body: &[u8]) -> Answered {
 // One step; the walker's is held against it.
 fn step(alloc: Global, text: &mut String, body: &[u8], w: items::Walk) -> Answered {
     let mut again = String::new(alloc);
-    step_text(text, body, one_step(body, w, false))?;
-    step_text(&mut again, body, one_step(body, w, true))?;
+    step_text(text, body, one_step(body, w))?;
+    step_text(&mut again, body, walker::step_over(body, w))?;
     same_again(text, again.as_str())
 }
 
@@ -243,9 +246,9 @@ fn walk_items(text: &mut String, body: &[u8]) -> Answered {
     match opening {
         walker::Opening::Good => {
             write!(text, "at {at} left {left}")?;
-            walk_lent(text, body, first)
+            walk(text, first, |text, w| step_lent(text, body, w))
         }
-        walker::Opening::Refused(why) => tell_refused(text, Refused::from(why)),
+        walker::Opening::Refused(why) => tell_refused(text, why.into()),
     }
 }
 

@@ -57,7 +57,7 @@ fn load(m: &mut Mirror, listing: &[u8], text: &mut String) -> Result<Option<usiz
             Ok(None)
         }
         Loaded::Refused { why, line } => {
-            tell_refused(text, Refused::from(why))?;
+            tell_refused(text, why.into())?;
             Ok(Some(line))
         }
     }

@@ -1,6 +1,7 @@
 // The good of strings of 256 bytes that are 61 but for a piece, in three ways that must agree: by the check itself, by the
 // set order and by the decoder.
 use crate::show::{Answered, Unanswered, expect};
+use crate::values::STRING;
 use std::alloc::{AllocError, Global};
 use wing_node::refusal::Refusal;
 use wing_node::utf8;
@@ -8,9 +9,6 @@ use wing_wire::state::State;
 use wing_wire::unit::Answer;
 use wing_wire::write::Written;
 use wing_wire::{reader, set};
-
-// The longest string.
-const STRING: usize = 256;
 
 // The good of a string that is refused for it.
 fn refused_good(why: Refusal) -> Option<usize> {

@@ -141,7 +141,7 @@ fn event_of(text: &mut String, r: &LentReply, node: i32, place: usize) -> Answer
         }
         Answer::Body(n) => body(text, &r.body, n as usize)?,
         Answer::End => write!(text, "e")?,
-        Answer::Refused(why) => tell_short(text, Refused::from(why))?,
+        Answer::Refused(why) => tell_short(text, why.into())?,
     }
     write!(text, "@{place:08x}")?;
     Ok(())
@@ -278,7 +278,7 @@ fn from_earlier(text: &mut String, mut saved: Vec<u8>, bytes: &[u8]) -> Answered
             write!(text, "carried ")?;
             inside(text, bytes, pieces(bytes.len()), loaded.state)
         }
-        LoadAnswer::Refused(why) => tell_short(text, Refused::from(why)),
+        LoadAnswer::Refused(why) => tell_short(text, why.into()),
     }
 }
 

@@ -8,7 +8,7 @@ use wing_node::{field, utf8, value};
 use wing_wire::state::zeros_from;
 
 // The longest string.
-const STRING: usize = 256;
+pub const STRING: usize = 256;
 
 #[derive(Drop)]
 pub enum Order {
