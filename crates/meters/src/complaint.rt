@@ -1,46 +1,61 @@
-// What is said on standard error.
-use crate::column::onward;
-use std::io;
+// What is said on standard error, after the program's name.
+use std::alloc::{AllocError, AllocFailed};
+use std::fmt;
+use wing_node::refusal::Refusal;
 
-pub fn complain(to: &impl Print, text: &[u8]) -> io::Result<()> {
-    to.write_all(text)
+// Packets are counted from 1.
+#[derive(Clone, Copy)]
+pub enum Complaint {
+    Arguments,
+    Width(Refusal),
+    Unread,
+    TooLong,
+    Inside { packet: usize },
+    Refused { packet: usize, why: Refusal },
+    Memory,
+    Unwritten,
 }
 
-fn number(to: &impl Print, before: &[u8], n: usize) -> io::Result<()> {
-    complain(to, before)?;
-    to.print(n)
-}
-
-pub fn unread(to: &impl Print) -> io::Result<()> {
-    complain(to, b"meters: standard input was not read to its end\n")
-}
-
-// What a number means of a width or of a packet.
-fn cause(to: &impl Print, why: u8) -> io::Result<()> {
-    match why {
-        13 => complain(to, b", length outside 4 to 8,192\n"),
-        19 => complain(to, b", width not a number from 1 to 256\n"),
-        _ => complain(to, b", refused\n"),
+impl From<AllocError> for Complaint {
+    fn from(_e: AllocError) -> Complaint {
+        Complaint::Memory
     }
 }
 
-pub fn refused_width(to: &impl Print, why: u8) -> io::Result<()> {
-    number(to, b"meters: ", why as usize)?;
-    cause(to, why)
+impl<T: Drop> From<AllocFailed<T>> for Complaint {
+    fn from(_e: AllocFailed<T>) -> Complaint {
+        Complaint::Memory
+    }
 }
 
-// The packet after so many good ones.
-fn packet(to: &impl Print, good: usize) -> io::Result<()> {
-    number(to, b"meters: packet ", onward(good, 1, usize::MAX))
+// What a number means of a width or of a packet.
+fn cause(why: Refusal) -> &'static str {
+    match why {
+        Refusal::PacketSize => "length outside 4 to 8,192",
+        Refusal::WidthWrong => "width not a number from 1 to 256",
+        _ => "refused",
+    }
 }
 
-pub fn refused_packet(to: &impl Print, good: usize, why: u8) -> io::Result<()> {
-    packet(to, good)?;
-    number(to, b": ", why as usize)?;
-    cause(to, why)
-}
-
-pub fn inside_packet(to: &impl Print, good: usize) -> io::Result<()> {
-    packet(to, good)?;
-    complain(to, b": the input ends inside it\n")
+impl fmt::Display for Complaint {
+    fn fmt<W: fmt::Write>(&self, f: &mut fmt::Formatter<W>) -> fmt::Result {
+        match *self {
+            Complaint::Arguments => write!(f, "the width is the only argument"),
+            Complaint::Width(why) => {
+                let number = why.number();
+                let cause = cause(why);
+                write!(f, "{number}, {cause}")
+            }
+            Complaint::Unread => write!(f, "standard input was not read to its end"),
+            Complaint::TooLong => write!(f, "the input is longer than 1,048,576 bytes"),
+            Complaint::Inside { packet } => write!(f, "packet {packet}: the input ends inside it"),
+            Complaint::Refused { packet, why } => {
+                let number = why.number();
+                let cause = cause(why);
+                write!(f, "packet {packet}: {number}, {cause}")
+            }
+            Complaint::Memory => write!(f, "there was not enough memory"),
+            Complaint::Unwritten => write!(f, "the figures were not written to their end"),
+        }
+    }
 }

@@ -1,123 +1,64 @@
-// The packets of the input: their ids, and their readings one after the other.
-use crate::column::{entry, onward, put};
-use wing_node::field::{left, u16_at};
-use wing_wire::meter::{MetersRead, read_meters};
+// The packets of the input by their ids.
+ghost use Rattle.std.specs.Prelude.{◌<◌, length, IfOk};
+
+use crate::complaint::Complaint;
+use std::alloc::{AllocError, Global};
+use std::collections::BTreeMap;
 use wing_node::refusal::Refusal;
+use wing_wire::meter::{MetersRead, read_meters};
 
-// The most bytes that an input may have.
-pub const INPUT: usize = 1048576;
+// 01: a packet has at most 8,192 bytes, so at most 4,094 readings.
+pub const STRIPS: usize = 4094;
 
-// Packets are counted from 1, so that their columns have a place 0 besides. None has fewer than 6 bytes with its length,
-// so that an input has at most 174,762.
-pub const PACKETS: usize = 174763;
-
-pub type Ids = [u16; PACKETS];
-
-pub type Column = [u32; PACKETS];
-
-// A reading has two bytes.
-pub const READINGS: usize = 524288;
-
-pub type Readings = [i16; READINGS];
-
-// 01: an id has two bytes.
-pub const FIRSTS: usize = 65536;
-
-pub type Firsts = [u32; FIRSTS];
-
-// Whether the input goes on, is at its end, ends inside the next packet, or has a next packet that is refused.
-#[derive(Clone, Copy)]
-pub enum Stand {
-    More,
-    Whole,
-    Inside,
-    Refused(u8),
+// The packets of an id, each by its readings, one for each strip.
+#[derive(Drop)]
+pub struct Row {
+    pub id: u16,
+    pub packets: Vec<Vec<i16>>,
 }
 
-// The place reached in the input, and how many packets and readings stand before it.
-#[derive(Clone, Copy)]
-pub struct Packets {
-    pub at: usize,
-    pub packets: usize,
-    pub readings: usize,
-    pub stand: Stand,
+// The rows in the order in which their ids first come, and where the row of an id stands.
+#[derive(Drop)]
+struct Rows {
+    rows: Vec<Row>,
+    places: BTreeMap<u16, usize>,
 }
 
-fn packets_of(at: usize, packets: usize, readings: usize, stand: Stand) -> Packets {
-    Packets {
-        at,
-        packets,
-        readings,
-        stand,
-    }
+#[derive(Drop)]
+struct Packet {
+    id: u16,
+    readings: Vec<i16>,
 }
 
-fn stopped(p: Packets, stand: Stand) -> Packets {
-    packets_of(p.at, p.packets, p.readings, stand)
-}
-
-fn stand_at(input: &[u8], at: usize) -> Stand {
-    if left(input, at) > 0 {
-        return Stand::More;
-    }
-    Stand::Whole
-}
-
-fn goes_on(p: Packets) -> bool {
-    let s = p.stand;
-    match s {
-        Stand::More => true,
-        Stand::Whole => false,
-        Stand::Inside => false,
-        Stand::Refused(_) => false,
-    }
-}
-
-fn put_id(ids: &mut [u16], at: usize, id: u16) {
-    if at < ids.len() {
-        ids[at] = id;
-    }
-}
-
-pub fn id_of(ids: &[u16], packet: usize) -> u16 {
-    if packet < ids.len() { ids[packet] } else { 0 }
-}
-
-// The readings of a packet, after those of the packets before it.
-fn read_after(packet: &[u8], readings: &mut [i16], at: usize) -> MetersRead {
-    if at <= readings.len() {
-        return read_meters(packet, &mut readings[at..]);
-    }
-    Err(Refusal::OutputShort)
-}
-
-// One more packet, which ends at a place.
-fn kept(p: Packets, to: usize, stand: Stand, count: usize) -> Packets {
-    packets_of(
-        to,
-        onward(p.packets, 1, PACKETS),
-        onward(p.readings, count, READINGS),
-        stand,
-    )
-}
-
-// What was read of the packet up to a place: its id, and where its readings end.
-fn keep(
-    p: Packets,
-    r: MetersRead,
-    to: usize,
-    stand: Stand,
-    ids: &mut Ids,
-    ends: &mut Column,
-) -> Packets {
-    match r {
-        MetersRead::Readings { id, count } => {
-            let after = kept(p, to, stand, count);
-            put_id(ids, after.packets, id);
-            put(ends, after.packets, after.readings);
-            after
+impl Rows {
+    fn add(&mut self, alloc: Global, packet: Packet) -> Result<(), AllocError> {
+        let Packet { id, readings } = packet;
+        let next = self.rows.len();
+        let place = *self.places.entry(id)?.or_insert(next);
+        match self.rows.get_mut(place) {
+            Some(row) => row.packets.push(readings)?,
+            None => {
+                let packets = vec![in alloc; readings]?;
+                self.rows.push(Row { id, packets })?;
+            }
         }
-        Err(why) => stopped(p, Stand::Refused(why)),
+        Ok(())
+    }
+}
+
+// What was read of a packet by its number.
+fn keep(
+    alloc: Global,
+    r: Result<MetersRead, Refusal>,
+    readings: &[i16],
+    packet: usize,
+) -> Result<Packet, Complaint> {
+    match r {
+        Ok(r) => Ok(Packet {
+            id: r.id,
+            readings: readings.get(..r.count).unwrap_or(&[]).to_vec(alloc)?,
+        }),
+        Err(why) => Err(Complaint::Refused { packet, why }),
     }
 }
 
@@ -126,59 +67,39 @@ fn is_outside(len: usize) -> bool {
     len < 4 || 8192 < len
 }
 
-// The next packet, after its length.
-fn take_packet(
-    p: Packets,
-    input: &[u8],
-    readings: &mut Readings,
-    ids: &mut Ids,
-    ends: &mut Column,
-) -> Packets {
-    let at = p.at;
-    if left(input, at) < 2 {
-        return stopped(p, Stand::Inside);
-    }
-    let len = u16_at(input, at) as usize;
+// The next packet, by its number, and what comes after it.
+fn split(input: &[u8], packet: usize) -> Result<(&[u8], &[u8]), Complaint>
+    ensures { IfOk result (λ p. length p.1.now < length input.now) }
+{
+    let Some((length, rest)) = input.split_first_chunk::<2>() else {
+        return Err(Complaint::Inside { packet });
+    };
+    let len = u16::from_be_bytes(*length) as usize;
     if is_outside(len) {
-        return stopped(p, Stand::Refused(13));
+        return Err(Complaint::Refused {
+            packet,
+            why: Refusal::PacketSize,
+        });
     }
-    let from = at + 2;
-    if left(input, from) < len {
-        return stopped(p, Stand::Inside);
-    }
-    let to = from + len;
-    let r = read_after(&input[from..to], readings, p.readings);
-    keep(p, r, to, stand_at(input, to), ids, ends)
+    rest.split_at_checked(len)
+        .ok_or(Complaint::Inside { packet })
 }
 
-// All packets of the input, up to one that is wrong. A packet has more bytes than one, so that there are turns enough.
-pub fn take_packets(
-    input: &[u8],
-    readings: &mut Readings,
-    ids: &mut Ids,
-    ends: &mut Column,
-) -> Packets {
-    let mut p = packets_of(0, 0, 0, stand_at(input, 0));
-    let mut turns = input.len();
-    while turns > 0 && goes_on(p) {
-        p = take_packet(p, input, readings, ids, ends);
-        turns -= 1;
+// All packets of the input, unless one is wrong.
+pub fn by_id(alloc: Global, input: &[u8]) -> Result<Vec<Row>, Complaint> {
+    let mut all = Rows {
+        rows: Vec::new(alloc),
+        places: BTreeMap::new(alloc),
+    };
+    let mut readings = [0i16; STRIPS];
+    let mut rest = input;
+    let mut packet = 0usize;
+    while !rest.is_empty() {
+        packet = packet.saturating_add(1);
+        let (bytes, after) = split(rest, packet)?;
+        let r = read_meters(bytes, &mut readings);
+        all.add(alloc, keep(alloc, r, &readings, packet)?)?;
+        rest = after;
     }
-    p
-}
-
-fn link_one(packet: usize, ids: &Ids, firsts: &mut Firsts, nexts: &mut Column) {
-    let id = id_of(ids, packet) as usize;
-    put(nexts, packet, entry(firsts, id));
-    put(firsts, id, packet);
-}
-
-// The first packet of each id, and of each packet the next one of its id, 0 for the last: from the last packet back, so
-// that the first of an id is put last.
-pub fn link(packets: usize, ids: &Ids, firsts: &mut Firsts, nexts: &mut Column) {
-    let mut k = packets;
-    while k > 0 {
-        link_one(k, ids, firsts, nexts);
-        k -= 1;
-    }
+    Ok(all.rows)
 }

@@ -2,38 +2,20 @@
 use std::env::FillError;
 use std::rt::Env;
 
-// More than any width.
-const NONE: u32 = 1000;
-
-// A number with one digit more; over all widths for any other byte, and after that whatever comes.
-fn with_digit(n: u32, c: u8) -> u32 {
-    if n < NONE {
-        return match c {
-            b'0'..=b'9' => n * 10 + (c - b'0') as u32,
-            _ => NONE,
-        };
-    }
-    NONE
-}
-
-// What the decimal digits of a word spell, 0 where there are none.
+// What a word of decimal digits spells, 0, which is no width, for any other.
 fn spelled(word: &[u8]) -> u32 {
-    let mut n = 0;
-    let mut i = 0;
-    while i < word.len() {
-        n = with_digit(n, word[i]);
-        i += 1;
+    if !word.iter().all(|c| c.is_ascii_digit()) {
+        return 0;
     }
-    n
+    match str::from_utf8(word) {
+        Ok(digits) => digits.parse().unwrap_or(0),
+        Err(_) => 0,
+    }
 }
 
 // Whether the program has an argument at a place; at 0 is its name.
 pub fn is_given(rt: &impl Env, at: usize) -> bool {
-    match rt.arg(at, &mut []) {
-        Ok(_) => true,
-        Err(FillError::TooLong) => true,
-        Err(FillError::NotPresent) => false,
-    }
+    !matches!(rt.arg(at, &mut []), Err(FillError::NotPresent))
 }
 
 // The program's first argument, 256 where there is none. One of over 64 bytes is no width.

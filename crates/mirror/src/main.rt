@@ -2,9 +2,9 @@
 // Where it fails it says so on standard error and ends with status 0, or with 1 where it cannot say so.
 #![tactic(auto)]
 
-use std::io;
 use std::io::Read;
-use wing_mirror::{answer, feed};
+use std::{fmt, io};
+use wing_mirror::feed;
 use wing_wire::state::State;
 
 // 128 places of 264 bytes.
@@ -13,88 +13,92 @@ const TABLE: usize = 33792;
 // The header of 14 bytes, and at most 527 for each of 128 records.
 const LISTING: usize = 67470;
 
-// A mirror while its input is read: more says that the input may go on, whole that all of it so far is in the mirror.
+// The bytes of one read: at most those that a feed may have.
+const READ: usize = 65536;
+
+#[derive(Clone, Copy)]
+enum Failure {
+    Unread,
+    Unwritten,
+}
+
+impl fmt::Display for Failure {
+    fn fmt<W: fmt::Write>(&self, f: &mut fmt::Formatter<W>) -> fmt::Result {
+        match self {
+            Failure::Unread => write!(f, "standard input was not read to its end"),
+            Failure::Unwritten => write!(f, "the listing was not written to its end"),
+        }
+    }
+}
+
 #[derive(Drop)]
-pub struct Mirror {
-    pub state: State,
-    pub count: usize,
-    pub more: bool,
-    pub whole: bool,
+struct Mirror {
+    state: State,
+    table: [u8; TABLE],
+    count: usize,
 }
 
-fn mirror_of(state: State, count: usize, more: bool, whole: bool) -> Mirror {
-    Mirror {
-        state,
-        count,
-        more,
-        whole,
+impl Mirror {
+    fn fresh() -> Mirror {
+        Mirror {
+            state: State::fresh(),
+            table: [0; TABLE],
+            count: 0,
+        }
+    }
+
+    fn feed(&mut self, bytes: &[u8]) -> Result<(), Failure> {
+        let r = feed::feed(self.state, &mut self.table, self.count, bytes);
+        self.state = r.state;
+        self.count = r.count;
+        match r.answer {
+            Ok(_) => Ok(()),
+            Err(_) => Err(Failure::Unread),
+        }
+    }
+
+    // All of the input, a read at a time.
+    fn take_all(&mut self, input: &mut impl Read) -> Result<(), Failure> {
+        let mut buffer = [0u8; READ];
+        for _ in 0..u64::MAX {
+            let Ok(n) = input.read(&mut buffer) else {
+                return Err(Failure::Unread);
+            };
+            if n == 0 {
+                return Ok(());
+            }
+            self.feed(&buffer[..n])?;
+        }
+        Err(Failure::Unread)
+    }
+
+    // The listing goes out in one write where the system takes it so.
+    fn print(&self, to: &impl Print) -> Result<(), Failure> {
+        let mut out = [0u8; LISTING];
+        let w = wing_listing::print::print(&self.table, self.count, &mut out);
+        match w {
+            Ok(n) => write_front(to, &out, n),
+            Err(_) => Err(Failure::Unwritten),
+        }
     }
 }
 
-fn fed(r: answer::FeedReply) -> Mirror {
-    let s = r.state;
-    let a = r.answer;
-    match a {
-        answer::FeedAnswer::Taken => mirror_of(s, r.count, true, true),
-        answer::Err(_) => mirror_of(s, r.count, false, false),
-    }
-}
-
-// One read and its feed. A read takes at most the bytes that 01 lets a feed have.
-fn take_some(input: &mut impl Read, m: Mirror, table: &mut [u8]) -> Mirror {
-    let mut buf = [0u8; 65536];
-    let got = input.read(&mut buf);
-    let s = m.state;
-    match got {
-        Ok(0) => mirror_of(s, m.count, false, true),
-        Ok(n) => fed(feed::feed(s, table, m.count, &buf[..n])),
-        Err(_) => mirror_of(s, m.count, false, false),
-    }
-}
-
-fn take_all(input: &mut impl Read, table: &mut [u8]) -> Mirror {
-    let mut m = mirror_of(State::fresh(), 0, true, true);
-    let mut turns = u64::MAX;
-    while turns > 0 && m.more {
-        m = take_some(input, m, table);
-        turns -= 1;
-    }
-    m
-}
-
-// Whether all n bytes were written; none where there are not so many.
-fn write_front(to: &impl Print, bytes: &[u8], n: usize) -> bool {
-    if n <= bytes.len() {
-        return to.write_all(&bytes[0..n]).is_ok();
-    }
-    false
-}
-
-// The listing goes out in one write where the system takes it so.
-fn print(to: &impl Print, table: &[u8], count: usize) -> bool {
-    let mut out = [0u8; LISTING];
-    let w = wing_listing::print::print(table, count, &mut out);
-    match w {
-        Ok(n) => write_front(to, &out, n),
-        Err(_) => false,
-    }
-}
-
-fn complain(to: &impl Print, text: &[u8]) -> io::Result<()> {
-    to.write_all(text)
+// The first n bytes, which are there.
+fn write_front(to: &impl Print, bytes: &[u8], n: usize) -> Result<(), Failure> {
+    let front = bytes.get(..n).ok_or(Failure::Unwritten)?;
+    to.write_all(front).map_err(|_| Failure::Unwritten)
 }
 
 // Half a table must not look like a whole one: nothing is listed of an input that was not read to its end.
+fn run(input: &mut impl Read, to: &impl Print) -> Result<(), Failure> {
+    let mut m = Mirror::fresh();
+    m.take_all(input)?;
+    m.print(to)
+}
+
 fn main(rt: HostRuntime) -> io::Result<()> {
-    let mut table = [0u8; TABLE];
-    let m = take_all(&mut rt.stdin(), &mut table);
-    if m.more || !m.whole {
-        let text = b"mirror: standard input was not read to its end\n";
-        return complain(&rt.stderr(), text);
+    match run(&mut rt.stdin(), &rt.stdout()) {
+        Ok(()) => Ok(()),
+        Err(failure) => eprintln!(rt; "mirror: {failure}"),
     }
-    if !print(&rt.stdout(), &table, m.count) {
-        let text = b"mirror: the listing was not written to its end\n";
-        return complain(&rt.stderr(), text);
-    }
-    Ok(())
 }

@@ -1,49 +1,48 @@
-// What is said on standard error.
-use std::io;
-use wing_node::refusal;
+// What is said on standard error, after the program's name.
+use std::fmt;
 use wing_node::refusal::Refusal;
 
-pub fn complain(to: &impl Print, text: &[u8]) -> io::Result<()> {
-    to.write_all(text)
-}
-
-// What a number means of a listing.
-fn cause(to: &impl Print, why: u8) -> io::Result<()> {
-    match why {
-        1 => complain(to, b"string not UTF-8\n"),
-        6 => complain(to, b"more than 1,024 records\n"),
-        7 => complain(to, b"places outside 1 to 1,024\n"),
-        10 => complain(to, b"string over 256 bytes\n"),
-        14 => complain(to, b"text over 65,536 bytes\n"),
-        17 => complain(to, b"header or line out of form\n"),
-        18 => complain(to, b"id not above the one before\n"),
-        _ => complain(to, b"refused\n"),
-    }
-}
-
-fn number(to: &impl Print, before: &[u8], n: u64) -> io::Result<()> {
-    complain(to, before)?;
-    to.print(n)
-}
-
-// 02: how much of a string was good.
-fn good(to: &impl Print, why: Refusal) -> io::Result<()> {
-    match why {
-        Refusal::Number(_) => Ok(()),
-        Refusal::StringNotUtf8 { good } => number(to, b" good ", good as u64),
-        Refusal::DefinitionNotUtf8 { good } => number(to, b" good ", good as u64),
-    }
-}
-
 // A refusal that is about no line has the line 0.
-pub fn refused(to: &impl Print, why: Refusal, line: usize) -> io::Result<()> {
-    let n = refusal::why.number();
-    complain(to, b"recall")?;
-    if line > 0 {
-        number(to, b": line ", line as u64)?;
+#[derive(Clone, Copy)]
+pub enum Complaint {
+    Unread,
+    Unwritten,
+    Refused { why: Refusal, line: usize },
+}
+
+// What a refusal means of a listing.
+fn cause(why: Refusal) -> &'static str {
+    match why {
+        Refusal::StringNotUtf8 { good: _ } => "string not UTF-8",
+        Refusal::NoPlace => "more than 1,024 records",
+        Refusal::TableUnsound => "places outside 1 to 1,024",
+        Refusal::StringLong => "string over 256 bytes",
+        Refusal::NumberOver => "text over 65,536 bytes",
+        Refusal::LineWrong => "header or line out of form",
+        Refusal::IdNotAbove => "id not above the one before",
+        _ => "refused",
     }
-    number(to, b": ", n as u64)?;
-    good(to, why)?;
-    complain(to, b", ")?;
-    cause(to, n)
+}
+
+fn refused<W: fmt::Write>(f: &mut fmt::Formatter<W>, why: Refusal, line: usize) -> fmt::Result {
+    let number = why.number();
+    let cause = cause(why);
+    if line > 0 {
+        write!(f, ": line {line}")?;
+    }
+    write!(f, ": {number}")?;
+    if let Some(good) = why.good() {
+        write!(f, " good {good}")?;
+    }
+    write!(f, ", {cause}")
+}
+
+impl fmt::Display for Complaint {
+    fn fmt<W: fmt::Write>(&self, f: &mut fmt::Formatter<W>) -> fmt::Result {
+        match *self {
+            Complaint::Unread => write!(f, ": standard input was not read to its end"),
+            Complaint::Unwritten => write!(f, ": the bytes were not written to their end"),
+            Complaint::Refused { why, line } => refused(f, why, line),
+        }
+    }
 }

@@ -5,15 +5,15 @@
 
 mod complaint;
 
-use crate::complaint::complain;
+use crate::complaint::Complaint;
+use std::alloc::Global;
 use std::io;
 use std::io::Read;
-use wing_listing::answer::Loaded;
 use wing_listing::load::load;
 use wing_mirror::recall::recall;
 
 // One byte more than 02 lets a listing have, so that load says of a longer one what it is.
-const TEXT: usize = 65537;
+const TEXT: u64 = 65537;
 
 // 1,024 places of 264 bytes.
 const TABLE: usize = 270336;
@@ -21,81 +21,52 @@ const TABLE: usize = 270336;
 // df d1, and at most 395 bytes for each of 1,024 records.
 const RECALL: usize = 404482;
 
-// How many bytes of the input are read: more says that it may go on, whole that no read failed.
-#[derive(Drop)]
-pub struct Input {
-    pub len: usize,
-    pub more: bool,
-    pub whole: bool,
-}
-
-fn input_of(len: usize, more: bool, whole: bool) -> Input {
-    Input { len, more, whole }
-}
-
-// One read, after the bytes that are there. A full buffer is the end.
-fn take_some(input: &mut impl Read, t: Input, text: &mut [u8]) -> Input {
-    let at = t.len;
-    if at < text.len() {
-        let got = input.read(&mut text[at..]);
-        return match got {
-            Ok(n) => input_of(at + n, n > 0, true),
-            Err(_) => input_of(at, false, false),
-        };
+// All of the input, up to the bytes that tell a listing too long.
+fn take_all(alloc: Global, input: impl Read + Drop) -> Result<Vec<u8>, Complaint> {
+    let mut text = Vec::new(alloc);
+    match input.take(TEXT).read_to_end(&mut text) {
+        Ok(_) => Ok(text),
+        Err(_) => Err(Complaint::Unread),
     }
-    input_of(at, false, true)
 }
 
-fn take_all(input: &mut impl Read, text: &mut [u8]) -> Input {
-    let mut t = input_of(0, true, true);
-    let mut turns = u64::MAX;
-    while turns > 0 && t.more {
-        t = take_some(input, t, text);
-        turns -= 1;
-    }
-    t
+// The first n bytes, which are there.
+fn write_front(to: &impl Print, bytes: &[u8], n: usize) -> Result<(), Complaint> {
+    let front = bytes.get(..n).ok_or(Complaint::Unwritten)?;
+    to.write_all(front).map_err(|_| Complaint::Unwritten)
 }
 
-// The first n bytes; none where there are not so many.
-fn front(s: &[u8], n: usize) -> &[u8] {
-    if n <= s.len() {
-        return &s[0..n];
-    }
-    &s[..0]
-}
-
-// Whether all of it was written.
-fn send(to: &impl Print, table: &[u8], count: usize) -> bool {
+fn send(to: &impl Print, table: &[u8], count: usize) -> Result<(), Complaint> {
     let mut out = [0u8; RECALL];
     let w = recall(table, count, &mut out);
     match w {
-        Ok(n) => to.write_all(front(&out, n)).is_ok(),
-        Err(_) => false,
+        Ok(n) => write_front(to, &out, n),
+        Err(_) => Err(Complaint::Unwritten),
     }
 }
 
-fn answer(stdout: &impl Print, stderr: &impl Print, text: &[u8]) -> io::Result<()> {
+fn answer(to: &impl Print, text: &[u8]) -> Result<(), Complaint> {
     let mut table = [0u8; TABLE];
     let r = load(text, &mut table);
     let a = r.answer;
     match a {
-        Loaded::Records(count) => {
-            if !send(stdout, &table, count) {
-                complain(stderr, b"recall: the bytes were not written to their end\n")?;
-            }
-            Ok(())
-        }
-        Loaded::Refused { why, line } => complaint::refused(stderr, why, line),
+        Ok(count) => send(to, &table, count),
+        Err(bad) => Err(Complaint::Refused {
+            why: bad.why,
+            line: bad.line,
+        }),
     }
 }
 
 // Half a listing may be a good one: nothing is sent of an input that was not read to its end.
+fn run(alloc: Global, input: impl Read + Drop, to: &impl Print) -> Result<(), Complaint> {
+    let text = take_all(alloc, input)?;
+    answer(to, &text)
+}
+
 fn main(rt: HostRuntime) -> io::Result<()> {
-    let stderr = rt.stderr();
-    let mut text = [0u8; TEXT];
-    let t = take_all(&mut rt.stdin(), &mut text);
-    if t.more || !t.whole {
-        return complain(&stderr, b"recall: standard input was not read to its end\n");
+    match run(rt.alloc(), rt.stdin(), &rt.stdout()) {
+        Ok(()) => Ok(()),
+        Err(complaint) => eprintln!(rt; "recall{complaint}"),
     }
-    answer(&rt.stdout(), &stderr, front(&text, t.len))
 }

@@ -1,37 +1,187 @@
 // Commands and definitions, each written into an output of a given length, and meter packets: what was written, and
 // whether the output is as it was past it.
-use crate::forms::{Asked, Numbers};
-use crate::show::{Log, Said};
-use crate::{read, show};
+use crate::mirror::ROOM;
+use crate::show;
+use crate::show::{Answered, Dashed, Pairs, Unanswered, tell_refused, tell_short};
+use crate::words::Words;
+use std::alloc::Global;
+use wing_node::refusal::Refusal;
+use wing_node::writer::Fields;
 use wing_node::{anew, field, writer};
 use wing_wire::meter::Meter;
 use wing_wire::{meter, request, set};
-use wing_node::refusal::Refusal;
 
 const READING_MARK: i16 = 0x6eee;
 
 // Keep-alives of 13 bytes for 65,536 ids.
-const ROOM: usize = 851968;
+const KEEP_ALIVES: usize = 851968;
 
 const READINGS: usize = 4200;
 
-pub fn word(n: usize) -> u32 {
-    (n % 0x1_0000_0000) as u32
+// A command's writer with what it is given.
+#[derive(Drop)]
+pub enum Command {
+    SetInt(i32, i32),
+    SetFloat(i32, u32),
+    SetString(i32, Vec<u8>),
+    Format {
+        id: i32,
+        prefix: u8,
+        suffix: Option<u8>,
+    },
+    AskDefinition(i32),
+    AskData(i32),
+    AskMeters(Request),
+    KeepAlive {
+        last: u16,
+        port: u16,
+    },
 }
 
-pub fn int(n: usize) -> i32 {
-    field::to_i32(word(n))
+// The meters that are asked for, by kind and index; past them the other one.
+#[derive(Drop)]
+pub struct Request {
+    port: u16,
+    last: u16,
+    count: usize,
+    other: Meter,
+    meters: Vec<u8>,
 }
 
-pub fn half(n: usize) -> u16 {
-    (n % 0x1_0000) as u16
+// An order whose answer is short.
+#[derive(Drop)]
+pub enum Order {
+    Write { room: usize, command: Command },
+    Packet { room: usize, bytes: Vec<u8> },
 }
 
-fn suffix(bytes: &[u8]) -> set::Suffix {
-    if bytes.len() == 0 {
-        return set::None;
+// An order to write a definition's body, or to write one anew.
+#[derive(Drop)]
+pub enum Body {
+    Define(Definition),
+    Again(Vec<u8>),
+}
+
+#[derive(Drop)]
+pub struct Definition {
+    fields: Fields,
+    name: Vec<u8>,
+    long_name: Vec<u8>,
+    items: Vec<u8>,
+    room: usize,
+}
+
+// A suffix has one byte or none.
+fn suffix(bytes: &[u8]) -> Result<Option<u8>, Unanswered> {
+    match bytes {
+        [] => Ok(None),
+        [b] => Ok(Some(*b)),
+        _ => Err(Unanswered::Form),
     }
-    set::Some(bytes[0])
+}
+
+// Past the items: rta, unless the order names a meter.
+fn meters(alloc: Global, name: &str, words: &mut Words) -> Result<Command, Unanswered> {
+    let port = words.number()?;
+    let last = words.number()?;
+    let count = words.up_to(255)?;
+    let other = if name == "askmetersfill" {
+        let named = words.hex(4)?;
+        meter_of((named / 0x100 % 0x100) as u8, (named % 0x100) as u8)
+    } else {
+        Meter::Rta
+    };
+    let meters = words.bytes(alloc)?;
+    Ok(Command::AskMeters(Request {
+        port,
+        last,
+        count,
+        other,
+        meters,
+    }))
+}
+
+fn command_of(alloc: Global, name: &str, words: &mut Words) -> Result<Command, Unanswered> {
+    Ok(match name {
+        "setint" => Command::SetInt(words.number()?, words.number()?),
+        "setfloat" => Command::SetFloat(words.number()?, words.hex(8)?),
+        "setstring" => Command::SetString(words.number()?, words.bytes(alloc)?),
+        "format" => Command::Format {
+            id: words.number()?,
+            prefix: (words.hex(2)? % 0x100) as u8,
+            suffix: suffix(&words.bytes(alloc)?)?,
+        },
+        "askdefinition" => Command::AskDefinition(words.number()?),
+        "askdata" => Command::AskData(words.number()?),
+        "askmeters" | "askmetersfill" => meters(alloc, name, words)?,
+        "keepalive" => Command::KeepAlive {
+            last: words.number()?,
+            port: words.number()?,
+        },
+        _ => return Err(Unanswered::Form),
+    })
+}
+
+pub fn parse(alloc: Global, name: &str, words: &mut Words) -> Result<Order, Unanswered> {
+    if name == "packet" {
+        let room = words.up_to(READINGS)?;
+        let bytes = words.bytes_or_held(alloc)?;
+        return Ok(Order::Packet { room, bytes });
+    }
+    let most = if name == "keepalive" {
+        KEEP_ALIVES
+    } else {
+        ROOM
+    };
+    let room = words.up_to(most)?;
+    let command = command_of(alloc, name, words)?;
+    Ok(Order::Write { room, command })
+}
+
+// The limits are handed over as float bits and as integers: the writer takes those that the type has.
+fn fields(words: &mut Words) -> Result<Fields, Unanswered> {
+    let parent_id = words.number()?;
+    let id = words.number()?;
+    let index = words.number()?;
+    let node_type = words.number()?;
+    let unit = words.number()?;
+    let read_only = words.up_to(1)? == 1;
+    let min = words.hex(8)?;
+    let max = words.hex(8)?;
+    Ok(Fields {
+        parent_id,
+        id,
+        index,
+        node_type,
+        unit,
+        read_only,
+        min_float: min,
+        max_float: max,
+        min_int: field::to_i32(min),
+        max_int: field::to_i32(max),
+        steps: words.number()?,
+        count: words.number()?,
+        max_len: words.number()?,
+    })
+}
+
+pub fn parse_body(
+    alloc: Global,
+    name: &str,
+    words: &mut Words,
+) -> Result<Option<Body>, Unanswered> {
+    let body = match name {
+        "define" => Body::Define(Definition {
+            fields: fields(words)?,
+            name: words.bytes(alloc)?,
+            long_name: words.bytes(alloc)?,
+            items: words.bytes(alloc)?,
+            room: words.up_to(ROOM)?,
+        }),
+        "again" => Body::Again(words.bytes(alloc)?),
+        _ => return Ok(None),
+    };
+    Ok(Some(body))
 }
 
 // 01's order. A kind past the last is rta.
@@ -56,159 +206,173 @@ fn meter_of(kind: u8, index: u8) -> Meter {
     }
 }
 
-// The meter at a place: kind and index, a missing index being 0; past the items the other one.
-fn meter_at(items: &[u8], at: usize, other: u16) -> Meter {
-    if at < items.len() {
-        return meter_of(items[at], read::byte_or(items, at + 1, 0));
-    }
-    meter_of((other / 256) as u8, (other % 256) as u8)
-}
-
-fn meters_of(items: &[u8], other: u16) -> [Meter; 64] {
-    let mut meters = [Meter::Rta; 64];
-    let mut i = 0;
-    while i < 64 {
-        meters[i] = meter_at(items, 2 * i, other);
-        i += 1;
+// A missing last index is 0.
+fn meters_of(items: &[u8], other: Meter) -> [Meter; 64] {
+    let mut meters = [other; 64];
+    for (meter, item) in meters.iter_mut().zip(items.chunks(2)) {
+        *meter = match item {
+            [kind, index] => meter_of(*kind, *index),
+            [kind] => meter_of(*kind, 0),
+            _ => other,
+        };
     }
     meters
 }
 
-// Past the items: rta, unless the order names a meter.
-fn other_meter(letter: u8, named: usize) -> u16 {
-    if letter == b'n' { half(named) } else { 0x0a00 }
+fn ask_meters(r: &Request, lent: &mut [u8]) -> Result<meter::Requested, Refusal> {
+    let meters = meters_of(&r.meters, r.other);
+    meter::request_meter(lent, meters, r.count, r.port, r.last)
 }
 
-fn ask_meters(a: Asked, items: &[u8], out: &mut [u8]) -> meter::Requested {
-    let n = a.numbers;
-    let meters = meters_of(items, other_meter(a.letter, n[4]));
-    meter::request_meter(out, meters, n[3], half(a.second), half(a.third))
+// One call of the writer that the command names.
+fn written(text: &mut String, command: &Command, lent: &mut [u8]) -> Answered {
+    let w = match command {
+        Command::SetInt(id, x) => set::set_int(lent, *id, *x),
+        Command::SetFloat(id, bits) => set::set_float(lent, *id, *bits),
+        Command::SetString(id, s) => set::set_string(lent, *id, s),
+        Command::Format { id, prefix, suffix } => { set::format_id(lent, *id, *prefix, *suffix) }
+        Command::AskDefinition(id) => request::request_node_definition(lent, *id),
+        Command::AskData(id) => request::request_node_data(lent, *id),
+        Command::AskMeters(r) => {
+            let asked = ask_meters(r, lent);
+            return of_requested(text, asked, lent);
+        }
+        Command::KeepAlive { last, port } => meter::keep_alive_meters(lent, *last, *port),
+    };
+    of_command(text, w, lent)
 }
 
-// One call of the writer that the letter names, with the two numbers after the room.
-fn written(letter: u8, a: Asked, bytes: &[u8], out: &mut [u8]) -> Result<usize, Refusal> {
-    let id = int(a.second);
-    match letter {
-        b'i' => set::set_int(out, id, int(a.third)),
-        b'f' => set::set_float(out, id, word(a.third)),
-        b's' => set::set_string(out, id, bytes),
-        b't' => set::format_id(out, id, (a.third % 256) as u8, suffix(bytes)),
-        b'd' => request::request_node_definition(out, id),
-        b'a' => request::request_node_data(out, id),
-        _ => meter::keep_alive_meters(out, half(a.second), half(a.third)),
-    }
-}
-
-// The limits are handed over as float bits and as integers: the writer takes those that the type has.
-fn fields(n: Numbers) -> writer::Fields {
-    writer::Fields {
-        parent_id: int(n[0]),
-        id: int(n[1]),
-        index: half(n[2]),
-        node_type: (n[3] % 256) as u8,
-        unit: (n[4] % 256) as u8,
-        read_only: n[5] > 0,
-        min_float: word(n[6]),
-        max_float: word(n[7]),
-        min_int: int(n[6]),
-        max_int: int(n[7]),
-        steps: int(n[8]),
-        count: half(n[9]),
-        max_len: half(n[10]),
-    }
-}
-
-fn define(a: Asked, bytes: &[u8], out: &mut [u8]) -> Result<usize, Refusal> {
-    let n = a.numbers;
-    let name = read::part(bytes, 0, n[11]);
-    let long_name = read::part(bytes, n[11], n[12]);
-    let items = read::part(bytes, n[12], n[13]);
-    writer::to_bytes(fields(n), name, long_name, items, out)
-}
-
-// What a call wrote: the meter id, 0 where there is none, and how many bytes, twice: those told, and where the rest begins.
-// Or the refusal.
-pub fn of_written(w: Result<usize, Refusal>, good: u8, bad: u8) -> Said {
-    match w {
-        Ok(len) => show::three(good, 0, len, len),
-        Err(why) => show::refused(bad, why),
-    }
-}
-
-fn of_body(w: Result<usize, Refusal>, good: u8, bad: u8) -> Said {
-    match w {
-        Ok(len) => show::three(good, 0, len, len),
-        Err(why) => show::refused(bad, why),
-    }
-}
-
-fn of_requested(r: meter::Requested) -> Said {
-    match r {
-        meter::Requested::Bytes { len, id } => show::three(b'w', id as usize, len, len),
-        meter::Err(why) => show::one(b'q', why as usize),
-    }
-}
-
-fn of_read(r: meter::MetersRead) -> Said {
-    match r {
-        meter::MetersRead::Readings { id, count } => show::three(b'm', id as usize, count, 0),
-        meter::Err(why) => show::one(b'_', why as usize),
-    }
-}
-
-fn call(a: Asked, bytes: &[u8], out: &mut [u8]) -> Said {
-    let letter = a.letter;
-    match letter {
-        b'm' | b'n' => of_requested(ask_meters(a, bytes, out)),
-        b'D' => of_body(define(a, bytes, out), b'W', b'R'),
-        b'A' => of_body(anew::write_anew(bytes, out), b'O', b'?'),
-        _ => of_written(written(letter, a, bytes, out), b'w', b'q'),
+pub fn obey(alloc: Global, order: Order, text: &mut String) -> Answered {
+    match order {
+        Order::Write { room, command } => {
+            let mut lent = vec![in alloc; show::MARK; room]?;
+            written(text, &command, &mut lent)
+        }
+        Order::Packet { room, bytes } => {
+            let mut lent = vec![in alloc; READING_MARK; room]?;
+            let r = meter::read_meters(&bytes, &mut lent);
+            of_read(text, r, &lent)
+        }
     }
 }
 
 // A body written anew that has the same bytes is answered by a word.
-fn into(log: &mut Log, most: usize, a: Asked, bytes: &[u8], out: &mut [u8]) -> usize {
-    let room = read::at_most(most, out.len());
-    let s = call(a, bytes, &mut out[0..room]);
-    if s.letter == b'O' && read::same(read::part(out, 0, s.second), bytes) {
-        return read::lay(log, 0, b"same");
-    }
-    show::say(log, 0, s, read::part(out, 0, room))
-}
-
-// A suffix has one byte or none.
-pub fn order(log: &mut Log, room: usize, a: Asked, bytes: &[u8]) -> usize {
-    if a.letter == b't' && 1 < bytes.len() {
-        return 0;
-    }
-    let mut out = [show::MARK; ROOM];
-    into(log, room, a, bytes, &mut out)
-}
-
-// So many readings, and whether the output is as it was past them.
-fn readings(log: &mut Log, mut at: usize, out: &[i16], count: usize) -> usize {
-    let mut kept = true;
-    let mut i = 0;
-    while i < out.len() {
-        let reading = out[i];
-        if i < count {
-            at = show::hex(log, at, field::of_i16(reading) as usize, 4);
-        } else if reading != READING_MARK {
-            kept = false;
+pub fn obey_body(alloc: Global, order: Body, text: &mut String) -> Answered {
+    match order {
+        Body::Define(d) => {
+            let mut lent = vec![in alloc; show::MARK; d.room]?;
+            let w = writer::to_bytes(d.fields, &d.name, &d.long_name, &d.items, &mut lent);
+            of_body(text, w, &lent)
         }
-        i += 1;
+        Body::Again(bytes) => {
+            let mut lent = vec![in alloc; show::MARK; 4096]?;
+            let w = anew::write_anew(&bytes, &mut lent);
+            of_again(text, w, &lent, &bytes)
+        }
     }
-    show::hex(log, at, show::flag(kept), 1)
 }
 
-fn packet_into(log: &mut Log, room: usize, bytes: &[u8], out: &mut [i16]) -> usize {
-    let end = read::at_most(room, out.len());
-    let s = of_read(meter::read_meters(bytes, &mut out[0..end]));
-    let at = show::say(log, 0, s, bytes);
-    readings(log, at, out, s.second)
+// What a call wrote, after a word for it, or the refusal, and whether the rest of the output is as it was.
+pub fn of_written(
+    text: &mut String,
+    w: Result<usize, Refusal>,
+    word: &str,
+    lent: &[u8],
+) -> Answered {
+    match w {
+        Ok(len) => told(text, word, lent, len),
+        Err(why) => told_refused(text, why, lent),
+    }
 }
 
-pub fn packet(log: &mut Log, room: usize, bytes: &[u8]) -> usize {
-    let mut out = [READING_MARK; READINGS];
-    packet_into(log, room, bytes, &mut out)
+fn of_body(text: &mut String, w: Result<usize, Refusal>, lent: &[u8]) -> Answered {
+    match w {
+        Ok(len) => told(text, "wrote", lent, len),
+        Err(why) => told_refused(text, why, lent),
+    }
+}
+
+fn told(text: &mut String, word: &str, lent: &[u8], len: usize) -> Answered {
+    let bytes = Dashed(lent.get(..len));
+    let clean = show::clean(show::is_kept(lent, len));
+    write!(text, "{word} {bytes} {clean}")?;
+    Ok(())
+}
+
+fn told_refused(text: &mut String, why: Refusal, lent: &[u8]) -> Answered {
+    tell_refused(text, why)?;
+    let clean = show::clean(show::is_kept(lent, 0));
+    write!(text, " {clean}")?;
+    Ok(())
+}
+
+fn of_again(text: &mut String, w: Result<usize, Refusal>, lent: &[u8], before: &[u8]) -> Answered {
+    match w {
+        Ok(len) => again(text, lent.get(..len), before),
+        Err(why) => tell_refused(text, why),
+    }
+}
+
+fn again(text: &mut String, written: Option<&[u8]>, before: &[u8]) -> Answered {
+    if written == Some(before) {
+        text.push_str("same")?;
+        return Ok(());
+    }
+    let bytes = Dashed(written);
+    write!(text, "other {bytes}")?;
+    Ok(())
+}
+
+fn of_command(text: &mut String, w: Result<usize, Refusal>, lent: &[u8]) -> Answered {
+    match w {
+        Ok(len) => shortly(text, 0, lent, len),
+        Err(why) => shortly_refused(text, why, lent),
+    }
+}
+
+fn of_requested(text: &mut String, r: Result<meter::Requested, Refusal>, lent: &[u8]) -> Answered {
+    match r {
+        Ok(r) => shortly(text, r.id, lent, r.len),
+        Err(why) => shortly_refused(text, why, lent),
+    }
+}
+
+// The meter id, 0 where there is none, and the bytes.
+fn shortly(text: &mut String, id: u16, lent: &[u8], len: usize) -> Answered {
+    let bytes = Pairs(lent.get(..len));
+    let kept = show::is_kept(lent, len) as u8;
+    write!(text, "{id:04x}{bytes}{kept}")?;
+    Ok(())
+}
+
+fn shortly_refused(text: &mut String, why: Refusal, lent: &[u8]) -> Answered {
+    tell_short(text, why)?;
+    let kept = show::is_kept(lent, 0) as u8;
+    write!(text, "{kept}")?;
+    Ok(())
+}
+
+fn of_read(text: &mut String, r: Result<meter::MetersRead, Refusal>, lent: &[i16]) -> Answered {
+    match r {
+        Ok(r) => readings(text, r.id, r.count, lent),
+        Err(why) => {
+            tell_short(text, why)?;
+            kept_readings(text, 0, lent)
+        }
+    }
+}
+
+fn readings(text: &mut String, id: u16, count: usize, lent: &[i16]) -> Answered {
+    write!(text, "{id:04x}{count:08x}:")?;
+    for reading in lent.iter().take(count) {
+        write!(text, "{reading:04x}")?;
+    }
+    kept_readings(text, count, lent)
+}
+
+// Whether the output is as it was from a place on.
+fn kept_readings(text: &mut String, from: usize, lent: &[i16]) -> Answered {
+    let kept = lent.iter().skip(from).all(|x| *x == READING_MARK) as u8;
+    write!(text, "{kept}")?;
+    Ok(())
 }

@@ -1,244 +1,261 @@
 // A definition's body: what the parser says, with every item; its cuts; its items by number and through the walker.
-use crate::forms::Asked;
-use crate::show::{Log, Said};
-use crate::{read, show};
-use wing_node::definition::Details;
+use crate::show::{Answered, Pairs, Refused, Unanswered, same_again, tell_refused, tell_short};
+use crate::words::Words;
+use std::alloc::Global;
+use wing_node::definition::{Details, Item, Span};
+use wing_node::refusal::Refusal;
 use wing_node::{definition, items, node_type, walker};
 
-// A string of the body: its place and its length as one number.
-fn string(s: definition::Span) -> usize {
-    s.start % 0x8000_0000 * 0x1_0000_0000 + s.len as usize
+#[derive(Drop)]
+pub enum Order {
+    Definition(Vec<u8>),
+    Cuts(Vec<u8>),
+    Item { number: usize, body: Vec<u8> },
+    Step { walk: items::Walk, body: Vec<u8> },
+    Walk(Vec<u8>),
 }
 
-// An item; none and a refusal by letters of texts in words or short.
-fn item(i: definition::Item, none: u8, refused: u8) -> Said {
+// A place that need not come from a walk.
+fn walk_from(words: &mut Words) -> Result<items::Walk, Unanswered> {
+    let at = words.number::<u16>()? as usize;
+    let left = words.number()?;
+    let kind = node_type::type_of(words.number()?);
+    Ok(items::Walk { at, left, kind })
+}
+
+pub fn parse(alloc: Global, name: &str, words: &mut Words) -> Result<Option<Order>, Unanswered> {
+    let order = match name {
+        "definition" => Order::Definition(words.bytes_or_held(alloc)?),
+        "cuts" => Order::Cuts(words.bytes(alloc)?),
+        "item" => Order::Item {
+            number: words.number::<u32>()? as usize,
+            body: words.bytes(alloc)?,
+        },
+        "step" => Order::Step {
+            walk: walk_from(words)?,
+            body: words.bytes(alloc)?,
+        },
+        "walk" => Order::Walk(words.bytes(alloc)?),
+        _ => return Ok(None),
+    };
+    Ok(Some(order))
+}
+
+// A string of the body.
+fn string(body: &[u8], s: Span) -> Pairs<'_> {
+    let end = s.start.saturating_add(s.len as usize);
+    Pairs(body.get(s.start..end))
+}
+
+// How an item is told: none and a refusal in words, or short.
+#[derive(Clone, Copy, PartialEq, Eq)]
+enum Manner {
+    Words,
+    Short,
+}
+
+fn item(
+    text: &mut String,
+    body: &[u8],
+    i: Result<Option<Item>, Refusal>,
+    manner: Manner,
+) -> Answered {
     match i {
-        definition::Ok(None) => show::one(none, 0),
-        definition::Item::Strings { item, long_item } => {
-            show::three(b',', string(item), string(long_item), 0)
+        Ok(None) => none(text, manner)?,
+        Ok(Some(Item::Strings { item, long_item })) => {
+            let item = string(body, item);
+            let long_item = string(body, long_item);
+            write!(text, ",{item}/{long_item}")?
         }
-        definition::Item::Float { item, long_item } => {
-            show::three(b'/', item as usize, string(long_item), 0)
+        Ok(Some(Item::Float { item, long_item })) => {
+            let long_item = string(body, long_item);
+            write!(text, ",{item:08x}/{long_item}")?
         }
-        definition::Err(why) => show::refused(refused, why),
+        Err(why) => refused_in(text, why, manner)?,
     }
+    Ok(())
 }
 
-// The walker is made anew by the library for each step.
-fn one_step(body: &[u8], w: items::Walk, lent: bool) -> items::Step {
-    if lent {
-        return walker::step_over(body, w);
+fn none(text: &mut String, manner: Manner) -> Answered {
+    match manner {
+        Manner::Words => text.push_str("none")?,
+        Manner::Short => text.push('-')?,
     }
-    let kind = w.kind;
-    items::item_step(body, w.at, w.left, kind)
+    Ok(())
+}
+
+fn refused_in(text: &mut String, why: Refusal, manner: Manner) -> Answered {
+    match manner {
+        Manner::Words => tell_refused(text, why),
+        Manner::Short => tell_short(text, why),
+    }
 }
 
 // The item of a step in words, and where the walk stands after it.
-fn step_text(log: &mut Log, at: usize, body: &[u8], s: items::Step) -> usize {
+fn step_text(text: &mut String, body: &[u8], s: items::Step) -> Answered {
     let i = s.item;
-    let end = show::say(log, at, item(i, b'*', b'?'), body);
-    show::tell(log, end, b'l', s.next.at, s.next.left as usize, 0, body)
+    item(text, body, i, Manner::Words)?;
+    let at = s.next.at;
+    let left = s.next.left;
+    write!(text, " at {at} left {left}")?;
+    Ok(())
 }
 
-// Where a walk and the text stand.
-#[derive(Drop)]
-struct Turned {
-    walk: items::Walk,
-    text: usize,
+// Every item, and what stands after the last, by a step that tells an item and goes on.
+fn walk<F: Fn(&mut String, items::Walk) -> Result<items::Walk, Unanswered>>(
+    text: &mut String,
+    first: items::Walk,
+    step: F,
+) -> Answered
+    requires { F.IsAlwaysCallable step }
+{
+    let mut w = first;
+    for _ in 0..=first.left {
+        w = step(text, w)?;
+    }
+    Ok(())
 }
 
-// A step by number, short; or one of the walker, in words.
-fn turn(log: &mut Log, mut t: Turned, body: &[u8], lent: bool) -> Turned {
-    let s = one_step(body, t.walk, lent);
+fn step_short(text: &mut String, body: &[u8], w: items::Walk) -> Result<items::Walk, Unanswered> {
+    let s = items::item_step(body, w);
     let i = s.item;
-    let next = s.next;
-    t.walk = next;
-    if lent {
-        t.text = show::tell(log, t.text, b';', 0, 0, 0, body);
-        t.text = step_text(log, t.text, body, s);
-    } else {
-        t.text = show::say(log, t.text, item(i, b'-', b'_'), body);
-    }
-    t
+    item(text, body, i, Manner::Short)?;
+    Ok(s.next)
 }
 
-// Every item, and what stands after the last.
-fn walk(log: &mut Log, at: usize, body: &[u8], first: items::Walk, lent: bool) -> usize {
-    let mut t = Turned {
-        walk: first,
-        text: at,
-    };
-    let mut left = first.left as u32 + 1;
-    while left > 0 {
-        t = turn(log, t, body, lent);
-        left -= 1;
-    }
-    t.text
+// The walker is made anew by the library for each step.
+fn step_lent(text: &mut String, body: &[u8], w: items::Walk) -> Result<items::Walk, Unanswered> {
+    let s = walker::step_over(body, w);
+    text.push_str("; ")?;
+    step_text(text, body, s)?;
+    Ok(s.next)
 }
 
-fn walked(log: &mut Log, at: usize, body: &[u8]) -> usize {
+fn walked(text: &mut String, body: &[u8]) -> Answered {
     let begun = items::items_begin(body);
     match begun {
-        items::Ok(first) => walk(log, at, body, first, false),
-        items::Err(why) => show::say(log, at, show::refused(b'_', why), body),
+        Ok(first) => walk(text, first, |text, w| step_short(text, body, w)),
+        Err(why) => tell_short(text, why),
     }
 }
 
-fn numbered(log: &mut Log, at: usize, body: &[u8], number: usize, refused: u8) -> usize {
+fn numbered(text: &mut String, body: &[u8], number: usize) -> Answered {
     let i = items::item_by_number(body, number);
-    show::say(log, at, item(i, b'-', refused), body)
+    item(text, body, i, Manner::Short)
 }
 
 // The items in order, the last one by its number, and the number past it.
-fn all_items(log: &mut Log, at: usize, body: &[u8], count: usize) -> usize {
-    let number_at = walked(log, at, body);
-    let last_at = read::put(log, number_at, b'#');
-    let past_at = numbered(log, last_at, body, read::less(count, 1), b'_');
-    numbered(log, past_at, body, count, b'_')
+fn all_items(text: &mut String, body: &[u8], count: u16) -> Answered {
+    walked(text, body)?;
+    text.push('#')?;
+    numbered(text, body, count.saturating_sub(1) as usize)?;
+    numbered(text, body, count as usize)
 }
 
-// The last fields of a definition: type, unit, read-only and what the type adds.
-fn details(d: Details, kind: usize, unit: usize, read_only: usize) -> Said {
+// What the type adds.
+fn details(text: &mut String, body: &[u8], d: Details) -> Answered {
     match d {
-        Details::None => show::three(b'0', kind, unit, read_only),
-        Details::Floats { min, max, steps } => {
-            let last = show::bits(steps);
-            show::six(
-                b'1',
-                kind,
-                unit,
-                read_only,
-                min as usize,
-                max as usize,
-                last,
-            )
-        }
-        Details::Integers { min, max } => {
-            let most = show::bits(max);
-            show::six(b'2', kind, unit, read_only, show::bits(min), most, 0)
-        }
-        Details::String { max_len } => {
-            show::six(b'3', kind, unit, read_only, max_len as usize, 0, 0)
-        }
+        Details::None => write!(text, "-")?,
+        Details::Floats { min, max, steps } => write!(text, "f{min:08x}{max:08x}{steps:08x}")?,
+        Details::Integers { min, max } => write!(text, "i{min:08x}{max:08x}")?,
+        Details::String { max_len } => write!(text, "s{max_len:04x}")?,
         Details::Items { count, first: _ } => {
-            show::six(b'4', kind, unit, read_only, count as usize, 0, 0)
+            write!(text, "c{count:04x}")?;
+            all_items(text, body, count)?
         }
     }
+    Ok(())
 }
 
-// The last fields of a definition.
-fn last_fields(d: definition::Definition) -> Said {
-    let more = d.details;
+fn fields(text: &mut String, body: &[u8], d: definition::Definition) -> Answered {
+    let parent = d.parent_id;
+    let id = d.id;
+    let index = d.index;
+    let name = string(body, d.name);
+    let long_name = string(body, d.long_name);
+    write!(text, "{parent:08x}{id:08x}{index:04x}n{name}l{long_name}")?;
     let t = d.node_type;
     let u = d.unit;
-    details(
-        more,
-        node_type::type_number(t) as usize,
-        node_type::unit_number(u) as usize,
-        show::flag(d.read_only),
-    )
+    let kind = node_type::type_number(t);
+    let unit = node_type::unit_number(u);
+    let read_only = d.read_only as u8;
+    write!(text, "k{kind:02x}{unit:02x}{read_only}")?;
+    let more = d.details;
+    details(text, body, more)
 }
 
-fn first_fields(d: definition::Definition) -> Said {
-    let id = show::bits(d.id);
-    let parent = show::bits(d.parent_id);
-    show::six(
-        b'd',
-        parent,
-        id,
-        d.index as usize,
-        string(d.name),
-        string(d.long_name),
-        0,
-    )
-}
-
-fn fields(log: &mut Log, at: usize, body: &[u8], d: definition::Definition) -> usize {
-    let last = last_fields(d);
-    let last_at = show::say(log, at, first_fields(d), body);
-    let end = show::say(log, last_at, last, body);
-    if last.letter == b'4' {
-        return all_items(log, end, body, last.fourth);
-    }
-    end
-}
-
-pub fn definition(log: &mut Log, at: usize, body: &[u8]) -> usize {
+pub fn definition(text: &mut String, body: &[u8]) -> Answered {
     let parsed = definition::from_bytes(body);
     match parsed {
-        definition::Ok(d) => fields(log, at, body, d),
-        definition::Err(why) => show::say(log, at, show::refused(b'_', why), body),
+        Ok(d) => fields(text, body, d),
+        Err(why) => tell_short(text, why),
     }
 }
 
-// The refusal as a number, 0 for a body that the parser takes.
-fn refusal(body: &[u8]) -> usize {
-    let parsed = definition::from_bytes(body);
-    match parsed {
-        definition::Ok(_) => 0,
-        definition::Err(why) => show::refusal(why),
-    }
+// None for a body that the parser takes.
+fn refusal(body: &[u8]) -> Option<Refusal> {
+    definition::from_bytes(body).err()
 }
 
 // A run of fronts that have one answer.
-fn run(log: &mut Log, at: usize, from: usize, to: usize, why: usize, body: &[u8]) -> usize {
-    let letter = if why == 0 { b'g' } else { b'x' };
-    show::tell(log, at, letter, from, to, why, body)
+fn run(text: &mut String, from: usize, to: usize, why: Option<Refusal>) -> Answered {
+    if from > 0 {
+        text.push_str(", ")?;
+    }
+    match why {
+        None => write!(text, "{from}-{to} good")?,
+        Some(why) => {
+            let why = Refused(why);
+            write!(text, "{from}-{to} {why}")?
+        }
+    }
+    Ok(())
 }
 
-// What the parser says of every front of a body, in runs of equal answers. No comma stands after the last.
-fn cuts(log: &mut Log, body: &[u8]) -> usize {
-    let mut why = refusal(read::part(body, 0, 0));
+// What the parser says of every front of a body, in runs of equal answers.
+fn cuts(text: &mut String, body: &[u8]) -> Answered {
+    let mut why = refusal(b"");
     let mut from = 0;
-    let mut text = 0;
-    let mut len = 0;
-    while len < body.len() {
-        let next = refusal(read::part(body, 0, len + 1));
+    for len in 0..body.len() {
+        let next = refusal(&body[..len + 1]);
         if next != why {
-            text = run(log, text, from, len, why, body);
+            run(text, from, len, why)?;
             from = len + 1;
             why = next;
         }
-        len += 1;
     }
-    read::less(run(log, text, from, len, why, body), 2)
+    run(text, from, body.len(), why)
 }
 
-// One step from a place that need not come from a walk; after it, in the same log, the walker's, to be held against it.
-fn step(log: &mut Log, a: Asked, body: &[u8]) -> usize {
-    let kind = node_type::type_of((a.third % 0x1_0000) as u16);
-    let at = a.first;
-    let left = (a.second % 0x1_0000) as u16;
-    let w = items::Walk { at, left, kind };
-    let end = step_text(log, 0, body, one_step(body, w, false));
-    let second_end = step_text(log, end, body, one_step(body, w, true));
-    show::same_again(log, end, second_end)
+// One step; the walker's is held against it.
+fn step(alloc: Global, text: &mut String, body: &[u8], w: items::Walk) -> Answered {
+    let mut again = String::new(alloc);
+    step_text(text, body, items::item_step(body, w))?;
+    step_text(&mut again, body, walker::step_over(body, w))?;
+    same_again(text, again.as_str())
 }
 
-fn walk_items(log: &mut Log, body: &[u8]) -> usize {
-    let start = walker::begin_over(body);
-    let opening = start.opening;
-    let kind = start.kind;
-    let first = items::Walk {
-        at: start.at,
-        left: start.left,
-        kind,
-    };
-    match opening {
-        walker::Opening::Good => {
-            let steps_at = show::tell(log, 0, b'a', start.at, start.left as usize, 0, body);
-            walk(log, steps_at, body, first, true)
+fn walk_items(text: &mut String, body: &[u8]) -> Answered {
+    let begun = walker::begin_over(body);
+    match begun {
+        Ok(first) => {
+            let items::Walk { at, left, .. } = first;
+            write!(text, "at {at} left {left}")?;
+            walk(text, first, |text, w| step_lent(text, body, w))
         }
-        walker::Err(why) => show::say(log, 0, show::refused(b'?', why), body),
+        Err(why) => tell_refused(text, why),
     }
 }
 
-pub fn order(log: &mut Log, letter: u8, a: Asked, bytes: &[u8]) -> usize {
-    match letter {
-        b'd' => definition(log, 0, bytes),
-        b'c' => cuts(log, bytes),
-        b'i' => numbered(log, 0, bytes, a.first, b'?'),
-        b's' => step(log, a, bytes),
-        _ => walk_items(log, bytes),
+pub fn obey(alloc: Global, order: Order, text: &mut String) -> Answered {
+    match order {
+        Order::Definition(body) => definition(text, &body),
+        Order::Cuts(body) => cuts(text, &body),
+        Order::Item { number, body } => {
+            let i = items::item_by_number(&body, number);
+            item(text, &body, i, Manner::Words)
+        }
+        Order::Step { walk, body } => step(alloc, text, &body, walk),
+        Order::Walk(body) => walk_items(text, &body),
     }
 }

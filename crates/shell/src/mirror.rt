@@ -1,287 +1,287 @@
 // The mirror that the orders go to. Its table buffer is the front of one memory.
-use crate::commands::{int, of_written, word};
-use crate::forms::Asked;
-use crate::show::{Log, Said};
-use crate::{forms, read, show};
+use crate::commands::of_written;
+use crate::show;
+use crate::show::{Answered, Dashed, Pairs, Unanswered, tell_refused};
+use crate::words::Words;
+use std::alloc::{AllocError, Global};
 use wing_mirror::{answer, origin, query, recall, set, table};
+use wing_node::refusal::Refusal;
 use wing_node::value::Value;
 use wing_wire::state::State;
 
 // 1,026 places: 01 allows 1,024, and a buffer of one place more is refused.
-pub const MEMORY: usize = 270864;
+const MEMORY: usize = 270864;
 
-pub type Memory = [u8; MEMORY];
+const PLACE: usize = State::PLACE_WIDTH;
 
-const ROOM: usize = 16384;
+// The most room of an output.
+pub const ROOM: usize = 16384;
 
-// The most bytes held for a later order.
-const HELD: usize = 80000;
-
-// What lasts from line to line, and the length of the last answer's text, 0 for a line out of form. The count is that of the
-// records, the size the table buffer's, the fill what the memory held when the mirror was fresh. fresh: the next feed
-// begins with a fresh decoder. held: the bytes at the front of the orders' buffer that wait for a later order.
-#[derive(Clone, Copy)]
-pub struct Kept {
-    pub count: usize,
-    pub size: usize,
-    pub fill: u8,
-    pub fresh: bool,
-    pub held: usize,
-    pub len: usize,
-}
-
-// The decoder's state stands apart, since feeds and loads alone go through it.
+// An order to the mirror. A set and a recall write into so many bytes.
 #[derive(Drop)]
-pub struct Session {
-    pub state: State,
-    pub kept: Kept,
+pub enum Order {
+    New { size: usize, fill: u8 },
+    Count(usize),
+    Poke { at: usize, bytes: Vec<u8> },
+    Feed(Vec<u8>),
+    Send { what: Sent, room: usize },
+    Dump,
+    Lookup(i32),
+    Record(usize),
+    Peek { at: usize, len: usize },
 }
 
-// The remainders are the numbers themselves: with them the size is known to be a number.
-fn size_of(places: usize, extra: usize) -> usize {
-    places % 1027 * 264 + extra % 264
+// What is sent: a node's set, or everything.
+#[derive(Drop)]
+pub enum Sent {
+    Int(i32, i32),
+    Float(i32, u32),
+    String(i32, Vec<u8>),
+    Recall,
 }
 
-pub fn start() -> Session {
-    let state = State::fresh();
-    let kept = Kept {
-        count: 0,
-        size: 0,
-        fill: 0,
-        fresh: true,
-        held: 0,
-        len: 0,
+fn send(what: Sent, words: &mut Words, most: usize) -> Result<Order, Unanswered> {
+    let room = words.up_to(most)?;
+    Ok(Order::Send { what, room })
+}
+
+// A buffer of places and some bytes more, within the memory, and what it is filled with, 0 unless that is said.
+fn fresh(words: &mut Words) -> Result<Order, Unanswered> {
+    let places = words.up_to(1026)?;
+    let extra = if words.is_empty() {
+        0
+    } else {
+        words.up_to(263)?
     };
-    Session { state, kept }
-}
-
-// After an order with a text of so many bytes, none for one out of form. Bytes held that it took are held no more.
-pub fn with_text(mut k: Kept, len: usize, held: usize) -> Kept {
-    k.len = len;
-    if len > 0 {
-        k.held = held;
+    let fill = if words.is_empty() { 0 } else { words.number()? };
+    let size = places * PLACE + extra;
+    if MEMORY < size {
+        return Err(Unanswered::Form);
     }
-    k
+    Ok(Order::New { size, fill })
 }
 
-fn fed(a: answer::FeedAnswer, c: answer::Counts) -> Said {
+pub fn parse(alloc: Global, name: &str, words: &mut Words) -> Result<Option<Order>, Unanswered> {
+    let order = match name {
+        "new" => fresh(words)?,
+        "count" => Order::Count(words.number::<u32>()? as usize),
+        "poke" => Order::Poke {
+            at: words.up_to(MEMORY)?,
+            bytes: words.bytes(alloc)?,
+        },
+        "feed" => Order::Feed(words.bytes(alloc)?),
+        "repeat" => Order::Feed(words.repeated(alloc)?),
+        "int" => send(Sent::Int(words.number()?, words.number()?), words, 512)?,
+        "float" => send(Sent::Float(words.number()?, words.hex(8)?), words, 512)?,
+        "string" => send(
+            Sent::String(words.number()?, words.bytes(alloc)?),
+            words,
+            512,
+        )?,
+        "recall" => send(Sent::Recall, words, ROOM)?,
+        "dump" => Order::Dump,
+        "lookup" => Order::Lookup(words.number()?),
+        "record" => Order::Record(words.number::<u32>()? as usize),
+        "peek" => Order::Peek {
+            at: words.up_to(MEMORY)?,
+            len: words.up_to(4096)?,
+        },
+        _ => return Ok(None),
+    };
+    Ok(Some(order))
+}
+
+// The count is that of the records, the size the table buffer's, the fill what the memory held when the mirror was fresh.
+#[derive(Drop)]
+pub struct Mirror {
+    pub state: State,
+    memory: Vec<u8>,
+    size: usize,
+    fill: u8,
+    pub count: usize,
+}
+
+impl Mirror {
+    // Before the first order there is a buffer of no bytes.
+    pub fn start(alloc: Global) -> Result<Mirror, AllocError> {
+        Ok(Mirror {
+            state: State::fresh(),
+            memory: vec![in alloc; 0; MEMORY]?,
+            size: 0,
+            fill: 0,
+            count: 0,
+        })
+    }
+
+    pub fn table(&self) -> &[u8] {
+        self.memory.get(..self.size).unwrap_or(b"")
+    }
+
+    pub fn table_mut(&mut self) -> &mut [u8] {
+        let size = self.size.min(self.memory.len());
+        &mut self.memory[..size]
+    }
+
+    pub fn obey(&mut self, alloc: Global, order: Order, text: &mut String) -> Answered {
+        match order {
+            Order::New { size, fill } => self.renew(size, fill, text),
+            Order::Count(count) => {
+                self.count = count;
+                write!(text, "count {count}")?;
+                Ok(())
+            }
+            Order::Poke { at, bytes } => self.poke(at, &bytes, text),
+            Order::Feed(bytes) => self.feed(&bytes, text),
+            Order::Send { what, room } => self.send(alloc, &what, room, text),
+            Order::Dump => self.dump(text),
+            Order::Lookup(id) => found(text, query::lookup(self.table(), self.count, id)),
+            Order::Record(n) => entry_origin(text, query::record(self.table(), self.count, n)),
+            Order::Peek { at, len } => self.peek(at, len, text),
+        }
+    }
+
+    // A fresh mirror.
+    fn renew(&mut self, size: usize, fill: u8, text: &mut String) -> Answered {
+        self.state = State::fresh();
+        self.memory.fill(fill);
+        self.size = size;
+        self.fill = fill;
+        self.count = 0;
+        let places = table::places(self.table());
+        write!(text, "places {places}")?;
+        Ok(())
+    }
+
+    // Bytes within the table buffer.
+    fn poke(&mut self, at: usize, bytes: &[u8], text: &mut String) -> Answered {
+        let end = at.saturating_add(bytes.len());
+        let place = self.table_mut().get_mut(at..end).ok_or(Unanswered::Form)?;
+        place.copy_from_slice(bytes);
+        text.push_str("poked")?;
+        Ok(())
+    }
+
+    fn peek(&self, at: usize, len: usize, text: &mut String) -> Answered {
+        let end = at.saturating_add(len);
+        let place = self.table().get(at..end).ok_or(Unanswered::Form)?;
+        let bytes = Dashed(Some(place));
+        write!(text, "{bytes}")?;
+        Ok(())
+    }
+
+    fn feed(&mut self, bytes: &[u8], text: &mut String) -> Answered {
+        let (state, count) = (self.state, self.count);
+        let r = wing_mirror::feed::feed(state, self.table_mut(), count, bytes);
+        self.state = r.state;
+        self.count = r.count;
+        fed(text, r.answer)
+    }
+
+    fn send(&mut self, alloc: Global, what: &Sent, room: usize, text: &mut String) -> Answered {
+        let mut lent = vec![in alloc; show::MARK; room]?;
+        let count = self.count;
+        let r = written(what, self.table_mut(), count, &mut lent);
+        self.count = r.count;
+        let w = r.answer;
+        of_written(text, w, "sent", &lent)
+    }
+
+    // The memory past the last record holds what it held when the mirror was fresh. Each record is read by itself, as the table of
+    // one place that it is: so the places of the whole are no matter.
+    fn dump(&self, text: &mut String) -> Answered {
+        let count = self.count;
+        if !table::is_sound(self.table(), count) {
+            return tell_refused(text, Refusal::TableUnsound);
+        }
+        let fill = self.fill;
+        let records = count.saturating_mul(PLACE);
+        let clean = show::clean(self.memory.iter().skip(records).all(|b| *b == fill));
+        write!(text, "{count} records {clean}")?;
+        for place in self.table().chunks(PLACE).take(count) {
+            text.push(' ')?;
+            record(text, query::record(place, 1, 0))?;
+        }
+        Ok(())
+    }
+}
+
+fn fed(text: &mut String, a: Result<answer::Counts, Refusal>) -> Answered {
     match a {
-        answer::FeedAnswer::Taken => show::six(
-            b'F',
-            c.stored as usize,
-            c.unplaced as usize,
-            c.strings_refused as usize,
-            c.definitions_read as usize,
-            c.definitions_refused as usize,
-            c.ends as usize,
-        ),
-        answer::Err(why) => show::one(b'?', why as usize),
+        Ok(c) => counts(text, c),
+        Err(why) => tell_refused(text, why),
     }
 }
 
-fn after_feed(r: answer::FeedReply, mut kept: Kept, bytes: &[u8], log: &mut Log) -> Session {
-    let a = r.answer;
-    let state = r.state;
-    kept.fresh = false;
-    kept.count = r.count;
-    kept.len = show::say(log, 0, fed(a, r.counts), bytes);
-    Session { state, kept }
-}
-
-pub fn feed(mut s: State, k: Kept, memory: &mut [u8], bytes: &[u8], log: &mut Log) -> Session {
-    let size = read::at_most(k.size, memory.len());
-    if k.fresh {
-        s = State::fresh();
-    }
-    let r = wing_mirror::feed::feed(s, &mut memory[0..size], k.count, bytes);
-    after_feed(r, k, bytes, log)
-}
-
-fn recalled(table: &[u8], count: usize, out: &mut [u8]) -> answer::SetReply {
-    let answer = recall::recall(table, count, out);
-    answer::SetReply { answer, count }
+fn counts(text: &mut String, c: answer::Counts) -> Answered {
+    let answer::Counts {
+        stored,
+        unplaced,
+        strings_refused: strings,
+        definitions_read: read,
+        definitions_refused: refused,
+        ends,
+    } = c;
+    write!(
+        text,
+        "fed {stored} {unplaced} {strings} {read} {refused} {ends}"
+    )?;
+    Ok(())
 }
 
 // A set or a recall.
-fn written(a: Asked, s: &[u8], table: &mut [u8], count: usize, out: &mut [u8]) -> answer::SetReply {
-    let id = int(a.first);
-    let letter = a.letter;
-    match letter {
-        b'I' => set::set_int(table, count, out, id, int(a.second)),
-        b'F' => set::set_float(table, count, out, id, word(a.second)),
-        b'S' => set::set_string(table, count, out, id, s),
-        _ => recalled(table, count, out),
+fn written(what: &Sent, table: &mut [u8], count: usize, lent: &mut [u8]) -> answer::SetReply {
+    match what {
+        Sent::Int(id, x) => set::set_int(table, count, lent, *id, *x),
+        Sent::Float(id, bits) => set::set_float(table, count, lent, *id, *bits),
+        Sent::String(id, s) => set::set_string(table, count, lent, *id, s),
+        Sent::Recall => answer::SetReply {
+            answer: recall::recall(table, count, lent),
+            count,
+        },
     }
 }
 
-// The room is the last of the numbers. What was written into it is told, and whether the rest of it is as it was.
-fn into(mut k: Kept, m: &mut [u8], a: Asked, s: &[u8], out: &mut [u8], log: &mut Log) -> Kept {
-    let size = read::at_most(k.size, m.len());
-    let room = read::at_most(a.last, out.len());
-    let r = written(a, s, &mut m[0..size], k.count, &mut out[0..room]);
-    let w = r.answer;
-    k.count = r.count;
-    k.len = show::say(log, 0, of_written(w, b'T', b'R'), read::part(out, 0, room));
-    k
-}
-
-pub fn send(k: Kept, memory: &mut Memory, a: Asked, s: &[u8], log: &mut Log) -> Kept {
-    let mut out = [show::MARK; ROOM];
-    into(k, memory, a, s, &mut out, log)
-}
-
-// The origin is the last number, which the text of a record does not show.
-fn value(id: usize, v: Value, origin: usize) -> Said {
+fn value(text: &mut String, id: i32, v: Value, string: &[u8]) -> Answered {
     match v {
-        Value::Integer(x) => show::three(b'I', id, show::bits(x), origin),
-        Value::Float(bits) => show::three(b'B', id, bits as usize, origin),
-        Value::String(n) => show::three(b'G', id, n as usize, origin),
+        Value::Integer(x) => write!(text, "{id},i,{x}")?,
+        Value::Float(bits) => write!(text, "{id},f,{bits:08x}")?,
+        Value::String(n) => {
+            let pairs = Pairs(string.get(..n as usize));
+            write!(text, "{id},s,{pairs}")?
+        }
+    }
+    Ok(())
+}
+
+type Record = Result<answer::RecordRead, Refusal>;
+
+// A record as mirror lists it, and its origin; a refusal has none.
+fn record(text: &mut String, r: Record) -> Result<Option<origin::Origin>, Unanswered> {
+    match r {
+        Ok(r) => {
+            value(text, r.id, r.value, &r.string)?;
+            Ok(Some(r.origin))
+        }
+        Err(why) => {
+            tell_refused(text, why)?;
+            Ok(None)
+        }
     }
 }
 
-fn record(a: answer::RecordAnswer) -> Said {
+fn entry_origin(text: &mut String, r: Record) -> Answered {
+    if let Some(origin) = record(text, r)? {
+        let number = origin::number(origin);
+        write!(text, " origin {number}")?;
+    }
+    Ok(())
+}
+
+fn found(text: &mut String, a: Result<Option<usize>, Refusal>) -> Answered {
     match a {
-        answer::RecordAnswer::Record {
-            id,
-            value: v,
-            origin: o,
-        } => value(show::bits(id), v, origin::number(o) as usize),
-        answer::Err(why) => show::one(b'?', why as usize),
+        Ok(Some(n)) => write!(text, "at {n}")?,
+        Ok(None) => write!(text, "none")?,
+        Err(why) => tell_refused(text, why)?,
     }
-}
-
-// A record as mirror lists it.
-fn entry(log: &mut Log, at: usize, r: answer::RecordRead) -> usize {
-    let a = r.answer;
-    show::say(log, at, record(a), &r.string)
-}
-
-// The same with its origin; a refusal has none.
-fn entry_origin(log: &mut Log, at: usize, r: answer::RecordRead) -> usize {
-    let a = r.answer;
-    let s = record(a);
-    let to = show::say(log, at, s, &r.string);
-    if s.letter == b'?' {
-        return to;
-    }
-    show::tell(log, to, b'z', s.third, 0, 0, &r.string)
-}
-
-// The record of a number by itself, as the table of one place that it is: so the places of the whole are no matter.
-fn alone(table: &[u8], number: usize) -> answer::RecordRead {
-    let at = number % 1027 * 264;
-    query::record(read::part(table, at, at + 264), 1, 0)
-}
-
-fn entries(log: &mut Log, mut at: usize, table: &[u8], count: usize) -> usize {
-    let mut number = 0;
-    while number < count {
-        at = read::put(log, at, b' ');
-        at = entry(log, at, alone(table, number));
-        number += 1;
-    }
-    at
-}
-
-// The memory past the last record holds what it held when the mirror was fresh.
-fn dump(k: Kept, memory: &[u8], log: &mut Log) -> usize {
-    let records = read::part(memory, 0, k.size);
-    if !table::is_sound(records, k.count) {
-        return show::tell(log, 0, b'?', 7, 0, 0, records);
-    }
-    let clean = show::flag(show::all_same(memory, k.count % 1027 * 264, k.fill));
-    let at = show::tell(log, 0, b'D', k.count, clean, 0, records);
-    entries(log, at, records, k.count)
-}
-
-fn found(a: answer::Lookup) -> Said {
-    match a {
-        answer::Ok(Some(n)) => show::one(b'A', n),
-        answer::Ok(None) => show::one(b'*', 0),
-        answer::Err(why) => show::one(b'?', why as usize),
-    }
-}
-
-// A place and a number of bytes within the table buffer.
-fn is_within(k: Kept, at: usize, len: usize) -> bool {
-    at <= k.size && len <= read::less(k.size, at)
-}
-
-fn peek(k: Kept, memory: &[u8], at: usize, len: usize, log: &mut Log) -> usize {
-    if is_within(k, at, len) {
-        let bytes = read::part(memory, at, read::onward(at, len, k.size));
-        return show::tell(log, 0, b'L', len, 0, 0, bytes);
-    }
-    0
-}
-
-// What an order that changes nothing says.
-pub fn query(letter: u8, k: Kept, memory: &[u8], a: Asked, log: &mut Log) -> usize {
-    let records = read::part(memory, 0, k.size);
-    match letter {
-        b'D' => dump(k, memory, log),
-        b'L' => {
-            let n = query::lookup(records, k.count, int(a.first));
-            show::say(log, 0, found(n), records)
-        }
-        b'R' => entry_origin(log, 0, query::record(records, k.count, a.first)),
-        _ => peek(k, memory, a.first, a.second, log),
-    }
-}
-
-fn fill(memory: &mut Memory, fill: u8) {
-    let mut i = 0;
-    while i < MEMORY {
-        memory[i] = fill;
-        i += 1;
-    }
-}
-
-// Whether a change is in form: the buffer within the memory, the bytes within the buffer, no more held than can be.
-fn is_change(letter: u8, k: Kept, a: Asked, len: usize) -> bool {
-    match letter {
-        b'N' => size_of(a.first, a.second) <= MEMORY,
-        b'P' => is_within(k, a.first, len),
-        b'H' => a.to <= HELD,
-        _ => true,
-    }
-}
-
-// A fresh mirror, bytes in its memory, the count that the caller hands over from now on, or the order's bytes, which stand
-// after those held so far.
-fn changed(letter: u8, mut k: Kept, memory: &mut Memory, a: Asked, bytes: &[u8]) -> Kept {
-    match letter {
-        b'N' => {
-            k.count = 0;
-            k.size = size_of(a.first, a.second);
-            k.fill = (a.third % 256) as u8;
-            k.fresh = true;
-            fill(memory, k.fill);
-        }
-        b'P' => {
-            read::lay(memory, a.first, bytes);
-        }
-        b'C' => k.count = a.first,
-        _ => k.held = a.to,
-    }
-    k
-}
-
-// The number that a change is answered with.
-fn change_number(k: Kept, memory: &[u8], letter: u8) -> usize {
-    match letter {
-        b'N' => table::places(read::part(memory, 0, k.size)),
-        b'H' => k.held,
-        _ => k.count,
-    }
-}
-
-pub fn change(k: Kept, memory: &mut Memory, a: Asked, bytes: &[u8], log: &mut Log) -> Kept {
-    if !is_change(a.letter, k, a, bytes.len()) {
-        return with_text(k, 0, 0);
-    }
-    let mut after = changed(a.letter, k, memory, a, bytes);
-    let n = change_number(after, memory, a.letter);
-    after.len = show::tell(log, 0, a.letter, n, 0, 0, bytes);
-    after
+    Ok(())
 }

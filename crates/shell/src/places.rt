@@ -1,92 +1,81 @@
 // The good of strings of 256 bytes that are 61 but for a piece, in three ways that must agree: by the check itself, by the
 // set order and by the decoder.
-use crate::show::Log;
-use crate::{read, show};
+use crate::show::{Answered, Unanswered, expect};
+use crate::values::STRING;
+use std::alloc::{AllocError, Global};
 use wing_node::refusal::Refusal;
 use wing_node::utf8;
 use wing_wire::state::State;
 use wing_wire::unit::Answer;
 use wing_wire::{reader, set};
 
-// The longest string.
-const STRING: usize = 256;
-
-// The good by an answer that says none: more than any string's.
-const NONE: usize = 257;
-
-fn refused_good(why: Refusal) -> usize {
+// The good of a string that is refused for it.
+fn refused_good(why: Refusal) -> Option<usize> {
     match why {
-        Refusal::Number(_) => NONE,
-        Refusal::StringNotUtf8 { good } => good as usize,
-        Refusal::DefinitionNotUtf8 { good: _ } => NONE,
+        Refusal::StringNotUtf8 { good } => Some(good as usize),
+        _ => None,
     }
 }
 
 // All of a string that is taken is good.
-fn set_good(s: &[u8]) -> usize {
+fn set_good(s: &[u8]) -> Option<usize> {
     let mut out = [0u8; 512];
     let w = set::set_string(&mut out, 0, s);
     match w {
-        Ok(_) => s.len(),
+        Ok(_) => Some(s.len()),
         Err(why) => refused_good(why),
     }
 }
 
-fn put_escaped(out: &mut [u8], at: usize, b: u8) -> usize {
-    let next = read::put(out, at, b);
-    if b == 0xdf {
-        return read::put(out, next, 0xde);
-    }
-    next
-}
-
 // 01: d1, the length minus 1, and the bytes, each df followed by de.
-fn lay_token(out: &mut [u8], s: &[u8]) -> usize {
-    let mut at = read::lay(out, 0, b"\xd1\xff");
-    let mut i = 0;
-    while i < s.len() {
-        at = put_escaped(out, at, s[i]);
-        i += 1;
+fn token_of(alloc: Global, s: &[u8]) -> Result<Vec<u8>, AllocError> {
+    let mut token = vec![in alloc; 0xd1, 0xff]?;
+    for b in s {
+        token.push(*b)?;
+        if *b == 0xdf {
+            token.push(0xde)?;
+        }
     }
-    at
+    Ok(token)
 }
 
-fn answer_good(a: Answer) -> usize {
+fn answer_good(a: Answer) -> Option<usize> {
     match a {
-        Answer::String(n) => n as usize,
+        Answer::String(n) => Some(n as usize),
         Answer::Refused(why) => refused_good(why),
-        _ => NONE,
+        _ => None,
     }
 }
 
-fn read_good(s: &[u8]) -> usize {
-    let mut token = [0u8; 514];
-    let n = lay_token(&mut token, s);
-    let r = reader::next(State::fresh(), read::part(&token, 0, n));
+fn read_good(alloc: Global, s: &[u8]) -> Result<Option<usize>, AllocError> {
+    let token = token_of(alloc, s)?;
+    let r = reader::next(State::fresh(), &token);
     let a = r.answer;
-    answer_good(a)
+    Ok(answer_good(a))
 }
 
 // A string with the piece in a place: its good, and `!` where the ways differ.
-fn good(log: &mut Log, at: usize, piece: &[u8], place: usize) -> usize {
+fn good(text: &mut String, piece: &[u8], place: usize) -> Answered {
     let mut s = [b'a'; STRING];
-    read::lay(&mut s, place, piece);
+    for (to, from) in s.iter_mut().skip(place).zip(piece) {
+        *to = *from;
+    }
+    let alloc = *text.allocator();
     let n = utf8::good_len(&s);
-    let to = show::hex(log, at, n, 4);
-    show::expect(log, to, set_good(&s) == n && read_good(&s) == n)
+    write!(text, "{n:04x}")?;
+    expect(
+        text,
+        set_good(&s) == Some(n) && read_good(alloc, &s)? == Some(n),
+    )
 }
 
 // The piece in every place that it fits. No bytes are out of form, and so are more than a string has.
-pub fn order(log: &mut Log, piece: &[u8]) -> usize {
-    if piece.len() == 0 {
-        return 0;
+pub fn all(text: &mut String, piece: &[u8]) -> Answered {
+    if piece.is_empty() || STRING < piece.len() {
+        return Err(Unanswered::Form);
     }
-    let places = read::less(STRING + 1, piece.len());
-    let mut text = 0;
-    let mut place = 0;
-    while place < places {
-        text = good(log, text, piece, place);
-        place += 1;
+    for place in 0..=STRING - piece.len() {
+        good(text, piece, place)?;
     }
-    text
+    Ok(())
 }

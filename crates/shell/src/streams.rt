@@ -1,118 +1,154 @@
 // A stream from a state: every event and refusal with the place that the reading has reached, then the state.
-use crate::forms::Asked;
-use crate::show::{Log, Said};
-use crate::{definitions, forms, read, show, states};
+use crate::show::{Answered, Pairs, Unanswered, expect, same_again, tell_short};
+use crate::words::Words;
+use crate::{definitions, states};
+use std::alloc::Global;
 use wing_saved::earlier::load_earlier;
-use wing_saved::Loaded;
 use wing_wire::lent::LentReply;
 use wing_wire::unit::Answer;
 use wing_wire::{escape, lent, reader, state};
 
-// How a stream is cut: at two places, and after these into pieces of a size; or each call gets a piece, through the lent
-// next of a random size, else, where there is a list of sizes, by the list over and over. inside: all of the state is told.
-#[derive(Clone, Copy)]
-struct Pieces {
-    inside: bool,
-    lent: bool,
-    first: usize,
-    second: usize,
-    size: usize,
-    count: usize,
-    sizes: forms::Numbers,
+#[derive(Drop)]
+pub enum Order {
+    // At most the bytes of one call.
+    Stream(Vec<u8>),
+    Pieces { size: usize, bytes: Vec<u8> },
+    PieceList { sizes: Vec<usize>, bytes: Vec<u8> },
+    Units(Vec<u8>),
+    State { number: usize, bytes: Vec<u8> },
+    Splits(Vec<u8>),
+    Lent(Vec<u8>),
+    Earlier { saved: Vec<u8>, bytes: Vec<u8> },
 }
 
-// How far a stream is read: the state, the bytes taken, the end of the piece, the place that the text has reached, and
-// whether all the bytes are taken and the last answer was more.
+// The fields and the front of the store of a state of version 1.
+fn earlier(alloc: Global, words: &mut Words) -> Result<Order, Unanswered> {
+    let mut saved = words.bytes(alloc)?;
+    let store = words.bytes(alloc)?;
+    saved.extend_from_slice(&store)?;
+    let bytes = words.bytes(alloc)?;
+    Ok(Order::Earlier { saved, bytes })
+}
+
+pub fn parse(alloc: Global, name: &str, words: &mut Words) -> Result<Option<Order>, Unanswered> {
+    let order = match name {
+        "stream" => Order::Stream(words.bytes_or_held(alloc)?),
+        "pieces" => Order::Pieces {
+            size: words.number::<u16>()? as usize,
+            bytes: words.bytes_or_held(alloc)?,
+        },
+        "piecelist" => Order::PieceList {
+            sizes: words.sizes(alloc)?,
+            bytes: words.bytes_or_held(alloc)?,
+        },
+        "units" => Order::Units(words.bytes(alloc)?),
+        "state" => Order::State {
+            number: words.up_to(34)?,
+            bytes: words.repeated(alloc)?,
+        },
+        "splits" => Order::Splits(words.bytes(alloc)?),
+        "lent" => Order::Lent(words.bytes(alloc)?),
+        "earlier" => earlier(alloc, words)?,
+        _ => return Ok(None),
+    };
+    Ok(Some(order))
+}
+
+// How a stream is cut.
+#[derive(Clone, Copy)]
+enum Cut<'a> {
+    // At two places, and after these into pieces of a size.
+    Places {
+        first: usize,
+        second: usize,
+        size: usize,
+    },
+    // Each call gets a piece, by a list of sizes over and over.
+    Sizes(&'a [usize]),
+    // Each call gets a piece of a random size, through the lent next.
+    Lent,
+}
+
+// How far a stream is read: the state, the bytes taken, the end of the piece, and how many calls were made.
 #[derive(Drop)]
 struct Progress {
     state: state::State,
     at: usize,
     end: usize,
-    text: usize,
-    done: bool,
+    calls: u32,
 }
 
 // A stream of n bytes, at most 80,000, gives at most n + 1 answers and one 'more' for each piece.
 const TURNS: u32 = 200000;
 
-fn sized(size: usize, inside: bool) -> Pieces {
-    Pieces {
-        inside,
-        lent: false,
+fn pieces<'a>(size: usize) -> Cut<'a> {
+    Cut::Places {
         first: 0,
         second: 0,
         size,
-        count: 0,
-        sizes: [0; forms::COUNT],
     }
 }
 
-// The size of the piece for the call of a number.
-fn size_of(p: Pieces, call: u32) -> usize {
-    if p.lent {
-        return ((call % 0x10000 * 25173 + 13849) % 0x10000 / 256 % 9) as usize;
+fn size_of(sizes: &[usize], call: u32) -> usize {
+    if sizes.is_empty() {
+        return 0;
     }
-    if p.count == 0 {
-        return p.size;
-    }
-    let sizes = p.sizes;
-    read::number_at(&sizes, call as usize % p.count)
+    sizes[call as usize % sizes.len()]
 }
 
-// The end of the piece that begins at a place.
-fn piece_end(p: Pieces, at: usize, len: usize, call: u32) -> usize {
-    if at < p.first {
-        return p.first;
-    }
-    if at < p.second {
-        return p.second;
-    }
-    read::onward(at, size_of(p, call), len)
-}
-
-// An answer by the letter of its text, with the node, its value or length, or the refusal, and the place reached.
-fn event_of(a: Answer, node: usize, place: usize) -> Said {
-    match a {
-        Answer::More => show::one(b'.', 0),
-        Answer::Integer(x) => show::three(b'i', node, show::bits(x), place),
-        Answer::Float(bits) => show::three(b'f', node, bits as usize, place),
-        Answer::String(n) => show::three(b's', node, n as usize, place),
-        Answer::Body(n) => show::three(b'b', node, n as usize, place),
-        Answer::End => show::three(b'e', node, 0, place),
-        Answer::Refused(why) => show::three(b'r', node, show::refusal(why), place),
-    }
+// The end of the piece for the call of a number, which begins at a place.
+fn piece_end(cut: Cut, at: usize, len: usize, call: u32) -> usize {
+    let size = match cut {
+        Cut::Places { first, .. } if at < first => return first,
+        Cut::Places { second, .. } if at < second => return second,
+        Cut::Places { size, .. } => size,
+        Cut::Sizes(sizes) => size_of(sizes, call),
+        Cut::Lent => ((call % 0x10000 * 25173 + 13849) % 0x10000 / 256 % 9) as usize,
+    };
+    at.saturating_add(size).min(len)
 }
 
 // The body, then what the parser says of it, as libwing's reader gives both at once.
-fn body(log: &mut Log, at: usize, e: Said, bytes: &[u8]) -> usize {
-    let said_at = show::say(log, at, e, bytes);
-    let place_at = definitions::definition(log, said_at, read::part(bytes, 0, e.second));
-    show::tell(log, place_at, b'@', e.third, 0, 0, bytes)
+fn body(text: &mut String, bytes: &[u8], n: usize) -> Answered {
+    let pairs = Pairs(bytes.get(..n));
+    write!(text, "b{pairs}:")?;
+    definitions::definition(text, bytes.get(..n).unwrap_or(b""))
 }
 
 // 01: the bytes beside an answer are zero-filled, and with any other answer all 0.
-fn is_zero_filled(e: Said, string: &[u8], body: &[u8]) -> bool {
-    state::zeros_from(string, show::second(e, b's'))
-        && state::zeros_from(body, show::second(e, b'b'))
+fn is_zero_filled(r: &LentReply) -> bool {
+    let a = r.answer;
+    let (string, body) = match a {
+        Answer::String(n) => (n as usize, 0),
+        Answer::Body(n) => (0, n as usize),
+        _ => (0, 0),
+    };
+    state::zeros_from(&r.string, string) && state::zeros_from(&r.body, body)
 }
 
-// The text of an answer; more has none.
-fn event(log: &mut Log, at: usize, r: LentReply, e: Said) -> usize {
-    let string = r.string;
-    let bytes = r.body;
-    let to = show::expect(log, at, is_zero_filled(e, &string, &bytes));
-    if e.letter == b'.' {
-        return to;
+// The text of an answer with the node, its value or bytes, or the refusal, and the place reached; more has none.
+fn event_of(text: &mut String, r: &LentReply, node: i32, place: usize) -> Answered {
+    expect(text, is_zero_filled(r))?;
+    let a = r.answer;
+    match a {
+        Answer::More => return Ok(()),
+        Answer::Integer(x) => write!(text, "i{node:08x}{x:08x}")?,
+        Answer::Float(bits) => write!(text, "f{node:08x}{bits:08x}")?,
+        Answer::String(n) => {
+            let pairs = Pairs(r.string.get(..n as usize));
+            write!(text, "s{node:08x}{pairs}")?
+        }
+        Answer::Body(n) => body(text, &r.body, n as usize)?,
+        Answer::End => write!(text, "e")?,
+        Answer::Refused(why) => tell_short(text, why)?,
     }
-    if e.letter == b'b' {
-        return body(log, to, e, &bytes);
-    }
-    show::say(log, to, e, &string)
+    write!(text, "@{place:08x}")?;
+    Ok(())
 }
 
 // The lent next is called through next_over. The reply of next by value is parted from the state as the lent form has it.
-fn next(is_lent: bool, s: state::State, bytes: &[u8]) -> lent::Parted {
-    if is_lent {
+fn next(cut: Cut, s: state::State, bytes: &[u8]) -> lent::Parted {
+    if let Cut::Lent = cut {
         return lent::next_over(s, bytes);
     }
     let r = reader::next(s, bytes);
@@ -131,140 +167,130 @@ fn next(is_lent: bool, s: state::State, bytes: &[u8]) -> lent::Parted {
 }
 
 // A refusal of the state or of the bytes' number takes nothing: the next call would answer the same.
-fn is_last(e: Said, at_end: bool) -> bool {
-    at_end && e.letter == b'.' || show::refusal_number(show::second(e, b'r')) >= 8
-}
-
-// One call on what is left of the piece. After more, and by a list after every call, the next piece begins.
-fn turn(log: &mut Log, mut p: Progress, c: Pieces, bytes: &[u8], call: u32) -> Progress {
-    let n = next(c.lent, p.state, read::part(bytes, p.at, p.end));
-    let r = n.reply;
-    let a = r.answer;
-    let after = n.state;
-    p.state = after;
-    p.at = read::onward(p.at, r.taken, bytes.len());
-    let e = event_of(a, show::bits(after.control.node), p.at);
-    p.text = event(log, p.text, r, e);
-    p.done = is_last(e, p.at == bytes.len());
-    if e.letter == b'.' || c.count > 0 {
-        p.end = piece_end(c, p.at, bytes.len(), call);
+fn is_last(a: Answer, at_end: bool) -> bool {
+    match a {
+        Answer::More => at_end,
+        Answer::Refused(why) => why.number() >= 8,
+        _ => false,
     }
-    p
 }
 
-// The whole stream from a state, and the text of its events.
-fn read_all(log: &mut Log, text: usize, bytes: &[u8], c: Pieces, state: state::State) -> Progress {
+fn is_more(a: Answer) -> bool {
+    matches!(a, Answer::More)
+}
+
+impl Progress {
+    // One call on what is left of the piece, and whether it is the last. After more, and by a list after every call, the next
+    // piece begins.
+    fn turn(&mut self, text: &mut String, cut: Cut, bytes: &[u8]) -> Result<bool, Unanswered> {
+        self.calls = self.calls.saturating_add(1);
+        let n = next(cut, self.state, bytes.get(self.at..self.end).unwrap_or(b""));
+        let r = n.reply;
+        let a = r.answer;
+        self.state = n.state;
+        self.at = self.at.saturating_add(r.taken).min(bytes.len());
+        event_of(text, &r, self.state.control.node, self.at)?;
+        if is_more(a) || matches!(cut, Cut::Sizes(_)) {
+            self.end = piece_end(cut, self.at, bytes.len(), self.calls);
+        }
+        Ok(is_last(a, self.at == bytes.len()))
+    }
+}
+
+// The whole stream from a state, and the text of its events; the answer is the state after it.
+fn read_all(
+    text: &mut String,
+    bytes: &[u8],
+    cut: Cut,
+    state: state::State,
+) -> Result<state::State, Unanswered> {
     let mut p = Progress {
         state,
         at: 0,
-        end: piece_end(c, 0, bytes.len(), 0),
-        text,
-        done: false,
+        end: piece_end(cut, 0, bytes.len(), 0),
+        calls: 0,
     };
-    let mut calls = 0;
-    while calls < TURNS && !p.done {
-        calls += 1;
-        p = turn(log, p, c, bytes, calls);
+    for _ in 0..TURNS {
+        if p.turn(text, cut, bytes)? {
+            break;
+        }
     }
-    p
-}
-
-// By itself, so that the field's range is known where it is widened.
-fn wide(x: i8) -> i32 {
-    x as i32
+    Ok(p.state)
 }
 
 // Escaped, channel and node after the last byte, and whether a token waits.
-fn last(c: state::Control) -> Said {
+fn last(text: &mut String, c: &state::Control) -> Answered {
+    let escaped = c.escape.escaped as u8;
+    let channel = c.escape.channel as i32;
+    let node = c.node;
     let t = c.token;
-    let token = states::token(t);
-    let waits = show::flag(token.letter != b't');
-    let channel = show::bits(wide(c.escape.channel));
-    show::six(
-        b'.',
-        show::flag(c.escape.escaped),
-        channel,
-        show::bits(c.node),
-        waits,
-        0,
-        0,
-    )
+    let waits = !matches!(t, state::Token::Between) as u8;
+    write!(text, ".{escaped}{channel:08x}{node:08x}{waits}")?;
+    Ok(())
 }
 
-// A stream from a state in any cut, then the state, where it is asked with all that LAST leaves out.
-fn cut_from(log: &mut Log, text: usize, bytes: &[u8], c: Pieces, state: state::State) -> usize {
-    let p = read_all(log, text, bytes, c, state);
-    let end = show::say(log, p.text, last(p.state.control), bytes);
-    if c.inside {
-        return states::state(log, end, p.state);
-    }
-    end
+// A stream from a state in any cut; the answer is the state after it.
+fn cut_from(
+    text: &mut String,
+    bytes: &[u8],
+    cut: Cut,
+    state: state::State,
+) -> Result<state::State, Unanswered> {
+    let after = read_all(text, bytes, cut, state)?;
+    last(text, &after.control)?;
+    Ok(after)
 }
 
 // From a fresh state.
-fn cut_stream(log: &mut Log, text: usize, bytes: &[u8], c: Pieces) -> usize {
-    cut_from(log, text, bytes, c, state::State::fresh())
+fn cut_stream(text: &mut String, bytes: &[u8], cut: Cut) -> Answered {
+    cut_from(text, bytes, cut, state::State::fresh())?;
+    Ok(())
 }
 
-// In pieces of one size.
-pub fn stream(log: &mut Log, text: usize, bytes: &[u8], size: usize) -> usize {
-    cut_stream(log, text, bytes, sized(size, false))
+// In one call.
+pub fn stream(text: &mut String, bytes: &[u8]) -> Answered {
+    cut_stream(text, bytes, pieces(bytes.len()))
 }
 
-// In one call, which by 01 has at most 65,536 bytes, in pieces of one size, or by a list.
-fn in_pieces(log: &mut Log, a: Asked, bytes: &[u8]) -> usize {
-    let mut c = sized(bytes.len(), false);
-    let sizes = a.numbers;
-    c.sizes = sizes;
-    c.count = a.count;
-    if a.letter == b'p' {
-        c.size = a.first;
-    } else if a.letter == b's' && 65536 < bytes.len() {
-        return 0;
-    }
-    cut_stream(log, 0, bytes, c)
+// A stream and the state after it, with all that LAST leaves out.
+fn inside(text: &mut String, bytes: &[u8], cut: Cut, state: state::State) -> Answered {
+    let after = cut_from(text, bytes, cut, state)?;
+    states::state(text, &after)
 }
 
-fn from_state(log: &mut Log, number: usize, bytes: &[u8]) -> usize {
+fn from_state(text: &mut String, number: usize, bytes: &[u8]) -> Answered {
     let s = states::by_number(number);
-    let sound = show::flag(state::is_sound(s));
-    let text = show::tell(log, 0, b'=', sound, 0, 0, bytes);
-    cut_from(log, text, bytes, sized(bytes.len(), true), s)
+    let sound = state::is_sound(s) as u8;
+    write!(text, "sound={sound} ")?;
+    inside(text, bytes, pieces(bytes.len()), s)
 }
 
-// Bytes of version 1, filled up with 0 to those of a state.
-fn load_filled(saved: &[u8]) -> Loaded {
-    if wing_saved::SIZE < saved.len() {
-        return load_earlier(saved);
+// The bytes of a state of version 1, filled up with 0 to those of a state, which is carried over; then a stream from it.
+fn from_earlier(text: &mut String, mut saved: Vec<u8>, bytes: &[u8]) -> Answered {
+    if saved.len() < wing_saved::SIZE {
+        saved.resize(wing_saved::SIZE, 0)?;
     }
-    let mut filled = [0u8; wing_saved::SIZE];
-    read::lay(&mut filled, 0, saved);
-    load_earlier(&filled)
-}
-
-// The fields and the front of the store of a state of version 1, which is carried over; then a stream from it.
-fn from_earlier(log: &mut Log, end: usize, bytes: &[u8]) -> usize {
-    let loaded = load_filled(read::part(bytes, 0, end));
-    let a = loaded.answer;
-    match a {
-        LoadAnswer::Good => {
-            let stream = read::part(bytes, end, bytes.len());
-            let text = show::tell(log, 0, b'~', 0, 0, 0, stream);
-            let s = loaded.state;
-            cut_from(log, text, stream, sized(stream.len(), true), s)
+    let loaded = load_earlier(&saved);
+    match loaded {
+        Ok(state) => {
+            write!(text, "carried ")?;
+            inside(text, bytes, pieces(bytes.len()), state)
         }
-        Err(why) => show::say(log, 0, show::refused(b'_', why), bytes),
+        Err(why) => tell_short(text, why),
     }
 }
 
-// Through the lent next; after it, in the same log, by value, to be held against it.
-fn lent(log: &mut Log, bytes: &[u8]) -> usize {
-    let whole = sized(bytes.len(), true);
-    let mut c = whole;
-    c.lent = true;
-    let n = cut_stream(log, 0, bytes, c);
-    let end = cut_stream(log, n, bytes, whole);
-    show::same_again(log, n, end)
+// Through the lent next; the same by value is held against it.
+fn lent(alloc: Global, text: &mut String, bytes: &[u8]) -> Answered {
+    let mut again = String::new(alloc);
+    inside(text, bytes, Cut::Lent, state::State::fresh())?;
+    inside(
+        &mut again,
+        bytes,
+        pieces(bytes.len()),
+        state::State::fresh(),
+    )?;
+    same_again(text, again.as_str())
 }
 
 // The longest stream that is cut into three pieces, and the first that is too long to be cut.
@@ -273,81 +299,96 @@ const SHORT: usize = 24;
 const LONG: usize = 4201;
 
 fn cuts_of(len: usize) -> usize {
-    if len <= SHORT { 626 } else { len % LONG + 1 }
+    if len <= SHORT {
+        626
+    } else {
+        len.saturating_add(1)
+    }
 }
 
 // The cuts of a stream by number: two pieces; for a short one two or three, with every place from 0 to 24, which is
 // its end where that is less, and last byte by byte.
-fn cut_of(k: usize, len: usize) -> Pieces {
-    let mut c = sized(len, true);
+fn cut_of<'a>(k: usize, len: usize) -> Cut<'a> {
     if SHORT < len {
-        c.first = k;
-    } else if k == 625 {
-        c.size = 1;
-    } else {
-        c.first = read::at_most(k % 25, len);
-        c.second = read::at_most(k / 25, len);
+        return Cut::Places {
+            first: k,
+            second: 0,
+            size: len,
+        };
     }
-    c
+    if k == 625 {
+        return pieces(1);
+    }
+    Cut::Places {
+        first: len.min(k % 25),
+        second: len.min(k / 25),
+        size: len,
+    }
 }
 
 // The cuts that say what the whole stream says, up to the first that does not.
-fn splits(log: &mut Log, bytes: &[u8]) -> usize {
+fn splits(alloc: Global, text: &mut String, bytes: &[u8]) -> Answered {
     let len = bytes.len();
     if LONG <= len {
-        return 0;
+        return Err(Unanswered::Form);
     }
-    let n = cut_stream(log, 0, bytes, sized(len, true));
-    let count = cuts_of(len);
-    let mut k = 0;
-    while k < count {
-        let end = cut_stream(log, n, bytes, cut_of(k, len));
-        if !show::is_again(log, n, end) {
-            return show::tell(log, 0, b'<', k, 0, 0, bytes);
+    let mut whole = String::new(alloc);
+    let mut again = String::new(alloc);
+    inside(&mut whole, bytes, pieces(len), state::State::fresh())?;
+    for k in 0..cuts_of(len) {
+        again.clear();
+        inside(&mut again, bytes, cut_of(k, len), state::State::fresh())?;
+        if again.as_str() != whole.as_str() {
+            write!(text, "differs at {k}")?;
+            return Ok(());
         }
-        k += 1;
     }
-    show::tell(log, 0, b'>', k, 0, 0, bytes)
+    let count = cuts_of(len);
+    write!(text, "{count} same")?;
+    Ok(())
 }
 
-fn unit(log: &mut Log, at: usize, u: escape::Unit, bytes: &[u8]) -> usize {
+fn unit(text: &mut String, u: escape::Unit) -> Answered {
     match u {
-        escape::Unit::Nothing => at,
-        escape::Unit::Bare(b) => show::tell(log, at, b'u', b as usize, 0, 0, bytes),
-        escape::Unit::Appended(b) => show::tell(log, at, b'+', b as usize, 0, 0, bytes),
+        escape::Unit::Nothing => Ok(()),
+        escape::Unit::Bare(b) => Ok(write!(text, " {b:02x}")?),
+        escape::Unit::Appended(b) => Ok(write!(text, " {b:02x}+")?),
     }
 }
 
 // From fresh escapes: each unit as hex, with + if it is appended, then the channel and escaped. At each place the byte there,
 // and then the byte that it made pending: at the end of the bytes a step takes no other.
-fn units(log: &mut Log, bytes: &[u8]) -> usize {
+fn units(text: &mut String, bytes: &[u8]) -> Answered {
     let fresh = state::Control::fresh();
     let mut e = fresh.escape;
-    let mut text = show::tell(log, 0, b'U', 0, 0, 0, bytes);
-    let mut k = 0;
-    while k / 2 < bytes.len() {
-        let mut at = bytes.len();
-        if k % 2 == 0 {
-            at = k / 2;
+    text.push_str("units")?;
+    for at in 0..bytes.len() {
+        for place in [at, bytes.len()] {
+            let d = escape::decode_next(e, bytes, place);
+            unit(text, d.unit)?;
+            e = d.escape;
         }
-        let d = escape::decode_next(e, bytes, at);
-        let u = d.unit;
-        let after = d.escape;
-        text = unit(log, text, u, bytes);
-        e = after;
-        k += 1;
     }
-    let channel = show::bits(wide(e.channel));
-    show::tell(log, text, b':', channel, show::flag(e.escaped), 0, bytes)
+    let channel = e.channel;
+    let escaped = e.escaped as u8;
+    write!(text, "; channel={channel} escaped={escaped}")?;
+    Ok(())
 }
 
-pub fn order(log: &mut Log, letter: u8, a: Asked, bytes: &[u8]) -> usize {
-    match letter {
-        b's' | b'p' | b'l' => in_pieces(log, a, bytes),
-        b'u' => units(log, bytes),
-        b'e' => from_state(log, a.first, bytes),
-        b'c' => splits(log, bytes),
-        b'o' => from_earlier(log, a.second, bytes),
-        _ => lent(log, bytes),
+pub fn obey(alloc: Global, order: Order, text: &mut String) -> Answered {
+    match order {
+        Order::Stream(bytes) => {
+            if 65536 < bytes.len() {
+                return Err(Unanswered::Form);
+            }
+            stream(text, &bytes)
+        }
+        Order::Pieces { size, bytes } => cut_stream(text, &bytes, pieces(size)),
+        Order::PieceList { sizes, bytes } => cut_stream(text, &bytes, Cut::Sizes(&sizes)),
+        Order::Units(bytes) => units(text, &bytes),
+        Order::State { number, bytes } => from_state(text, number, &bytes),
+        Order::Splits(bytes) => splits(alloc, text, &bytes),
+        Order::Lent(bytes) => lent(alloc, text, &bytes),
+        Order::Earlier { saved, bytes } => from_earlier(text, saved, &bytes),
     }
 }

@@ -1,91 +1,113 @@
 // Characters, the getters of values, and what one byte more makes of a front.
-use crate::show::Log;
-use crate::{places, read, show, streams};
+use crate::show::{Answered, Pairs, Unanswered, expect};
+use crate::words::Words;
+use crate::{places, streams};
+use std::alloc::Global;
 use wing_node::value::Value;
 use wing_node::{field, utf8, value};
+use wing_wire::state::zeros_from;
+
+// The longest string.
+pub const STRING: usize = 256;
+
+#[derive(Drop)]
+pub enum Order {
+    Utf8(Vec<u8>),
+    // These two are of the byte strings that are one byte longer.
+    Utf8s(Vec<u8>),
+    Streams(Vec<u8>),
+    Places(Vec<u8>),
+    // A value whose array holds so many bytes; those past them are none that a getter may give.
+    Getters { value: Value, bytes: Vec<u8> },
+}
+
+// A value by its kind and the bytes of its array.
+fn value_of(kind: usize, s: &[u8]) -> Result<Value, Unanswered> {
+    match (kind, s.len()) {
+        (0, 4) => Ok(Value::Integer(field::i32_at(s, 0))),
+        (1, 4) => Ok(Value::Float(field::u32_at(s, 0))),
+        (2, 0..=STRING) => Ok(Value::String(s.len() as u16)),
+        _ => Err(Unanswered::Form),
+    }
+}
+
+fn getters(alloc: Global, words: &mut Words) -> Result<Order, Unanswered> {
+    let kind = words.up_to(2)?;
+    let bytes = words.bytes(alloc)?;
+    let value = value_of(kind, &bytes)?;
+    Ok(Order::Getters { value, bytes })
+}
+
+pub fn parse(alloc: Global, name: &str, words: &mut Words) -> Result<Option<Order>, Unanswered> {
+    let order = match name {
+        "utf8" => Order::Utf8(words.bytes(alloc)?),
+        "utf8s" => Order::Utf8s(words.bytes(alloc)?),
+        "streams" => Order::Streams(words.bytes(alloc)?),
+        "places" => Order::Places(words.bytes(alloc)?),
+        "getters" => getters(alloc, words)?,
+        "getstring" => Order::Getters {
+            value: Value::String(words.number()?),
+            bytes: words.bytes(alloc)?,
+        },
+        _ => return Ok(None),
+    };
+    Ok(Some(order))
+}
 
 // Whether the bytes are UTF-8, and their good.
-fn characters(log: &mut Log, at: usize, s: &[u8]) -> usize {
-    let good_at = show::hex(log, at, show::flag(utf8::is_utf8(s)), 1);
-    show::hex(log, good_at, utf8::good_len(s), 4)
+fn characters(text: &mut String, s: &[u8]) -> Answered {
+    let is_utf8 = utf8::is_utf8(s) as u8;
+    let good = utf8::good_len(s);
+    write!(text, "{is_utf8}{good:04x}")?;
+    Ok(())
 }
 
-// The bytes at the front of an array, and a byte past them.
-fn filled(front: &[u8], other: u8) -> [u8; 256] {
-    let mut bytes = [0u8; 256];
-    let mut i = 0;
-    while i < 256 {
-        bytes[i] = read::byte_or(front, i, other);
-        i += 1;
-    }
-    bytes
-}
-
-// The front with one byte more, as a stream or as characters.
-fn with_last(log: &mut Log, at: usize, front: &[u8], last: u8, as_stream: bool) -> usize {
-    let bytes = filled(front, last);
-    let n = read::onward(front.len(), 1, 256);
-    if as_stream {
-        return streams::stream(log, at, read::part(&bytes, 0, n), n);
-    }
-    characters(log, at, read::part(&bytes, 0, n))
-}
-
-// The 256 byte strings that are one byte longer than a front.
-fn one_more(log: &mut Log, front: &[u8], longest: usize, as_stream: bool) -> usize {
+// The 256 byte strings that are one byte longer than a front, as characters or as a stream.
+fn one_more<F: Fn(&mut String, &[u8]) -> Answered>(
+    text: &mut String,
+    mut front: Vec<u8>,
+    longest: usize,
+    tell: F,
+) -> Answered
+    requires { F.IsAlwaysCallable tell }
+{
     if longest < front.len() {
-        return 0;
+        return Err(Unanswered::Form);
     }
-    let mut text = 0;
-    let mut last: u16 = 0;
-    while last < 256 {
-        text = with_last(log, text, front, (last % 256) as u8, as_stream);
-        last += 1;
+    for last in u8::MIN..=u8::MAX {
+        front.push(last)?;
+        tell(text, &front)?;
+        front.pop();
     }
-    text
+    Ok(())
 }
 
-fn string_of(a: value::StringAnswer, int: usize) -> show::Said {
-    match a {
-        value::StringAnswer::None => show::one(b'v', int),
-        value::StringAnswer::String(n) => show::three(b'y', int, n as usize, n as usize),
-    }
-}
-
-// A value whose bytes are so many; those past them are none that a getter may give.
-fn sized(log: &mut Log, v: Value, s: &[u8], least: usize, most: usize) -> usize {
-    if s.len() < least || most < s.len() {
-        return 0;
-    }
-    let r = value::get_string(v, filled(s, 0xee));
-    let a = r.answer;
-    show::say(
-        log,
-        0,
-        string_of(a, show::bits(value::get_int(v))),
-        &r.bytes,
-    )
-}
-
-fn string(log: &mut Log, length: usize, s: &[u8]) -> usize {
-    sized(log, Value::String((length % 0x1_0000) as u16), s, 0, 256)
-}
-
-fn getters(log: &mut Log, kind: usize, s: &[u8]) -> usize {
-    match kind {
-        0 => sized(log, Value::Integer(field::i32_at(s, 0)), s, 4, 4),
-        1 => sized(log, Value::Float(field::u32_at(s, 0)), s, 4, 4),
-        _ => string(log, s.len(), s),
+// The integer that a value gives, and its string.
+fn got(text: &mut String, v: Value, s: &[u8]) -> Answered {
+    let mut array = [0xee; STRING];
+    let place = array.get_mut(..s.len()).ok_or(Unanswered::Form)?;
+    place.copy_from_slice(s);
+    let int = value::get_int(v);
+    write!(text, "{int:08x}")?;
+    match value::get_string(v, array) {
+        None => Ok(text.push('-')?),
+        Some(r) => string(text, &r.bytes, r.len as usize),
     }
 }
 
-pub fn order(log: &mut Log, letter: u8, number: usize, bytes: &[u8]) -> usize {
-    match letter {
-        b'u' => characters(log, 0, bytes),
-        b'f' => one_more(log, bytes, 255, false),
-        b'p' => places::order(log, bytes),
-        b's' => one_more(log, bytes, 63, true),
-        b'g' => getters(log, number, bytes),
-        _ => string(log, number, bytes),
+// The bytes past the string must be 0.
+fn string(text: &mut String, bytes: &[u8], n: usize) -> Answered {
+    let pairs = Pairs(bytes.get(..n));
+    write!(text, "s{pairs}")?;
+    expect(text, zeros_from(bytes, n))
+}
+
+pub fn obey(order: Order, text: &mut String) -> Answered {
+    match order {
+        Order::Utf8(bytes) => characters(text, &bytes),
+        Order::Utf8s(bytes) => one_more(text, bytes, 255, characters),
+        Order::Streams(bytes) => one_more(text, bytes, 63, streams::stream),
+        Order::Places(bytes) => places::all(text, &bytes),
+        Order::Getters { value, bytes } => got(text, value, &bytes),
     }
 }

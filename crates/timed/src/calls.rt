@@ -1,27 +1,10 @@
 // The libraries' calls as bench/ times them: slices and numbers alone, since no enum crosses the border to Rust.
 use wing_node::field::{of_i32, to_i32};
+use wing_node::refusal::Refusal;
 use wing_node::writer::Fields;
-use wing_node::{definition, refusal, utf8, writer};
+use wing_node::{definition, utf8, writer};
 use wing_wire::unit::Answer;
 use wing_wire::{meter, reader, set, state, stream};
-use wing_node::refusal::Refusal;
-
-// The bytes from a place on; none past the end.
-fn rest(s: &[u8], at: usize) -> &[u8] {
-    if at <= s.len() {
-        return &s[at..];
-    }
-    &s[..0]
-}
-
-fn onward(at: usize, taken: usize, len: usize) -> usize {
-    if at <= len {
-        if taken <= len - at {
-            return at + taken;
-        }
-    }
-    len
-}
 
 // A number of an answer, so that none of it can be left out as unused.
 fn value(a: Answer) -> u32 {
@@ -32,7 +15,7 @@ fn value(a: Answer) -> u32 {
         Answer::String(n) => n as u32,
         Answer::Body(n) => n as u32,
         Answer::End => 1,
-        Answer::Refused(why) => refusal::why.number() as u32,
+        Answer::Refused(why) => why.number() as u32,
     }
 }
 
@@ -40,27 +23,17 @@ fn plus(total: u64, n: u32) -> u64 {
     total % 0x1_0000_0000_0000 + n as u64
 }
 
-// The bytes taken, the sum of the answers, and whether the last one was more.
-#[derive(Drop)]
-struct Sum {
-    at: usize,
+// The bytes that are not taken yet, and the sum of the answers so far.
+#[derive(Clone, Copy)]
+struct Sum<'a> {
+    rest: &'a [u8],
     total: u64,
-    more: bool,
 }
 
-fn nothing_yet() -> Sum {
-    Sum {
-        at: 0,
-        total: 0,
-        more: false,
-    }
-}
-
-fn with_answer(s: Sum, a: Answer, taken: usize, len: usize) -> Sum {
-    Sum {
-        at: onward(s.at, taken, len),
-        total: plus(s.total, value(a)),
-        more: stream::is_more(a),
+impl Sum<'_> {
+    fn add(&mut self, a: Answer, taken: usize) {
+        self.rest = self.rest.get(taken..).unwrap_or(b"");
+        self.total = plus(self.total, value(a));
     }
 }
 
@@ -68,33 +41,41 @@ fn with_answer(s: Sum, a: Answer, taken: usize, len: usize) -> Sum {
 #[unsafe(no_mangle)]
 pub extern "C" fn port_decode(bytes: &[u8], store: &mut [u8]) -> u64 {
     let mut control = state::Control::fresh();
-    let mut s = nothing_yet();
-    let mut turns = u64::MAX;
-    while turns > 0 && !s.more {
-        let r = stream::advance(control, store, rest(bytes, s.at));
+    let mut sum = Sum {
+        rest: bytes,
+        total: 0,
+    };
+    for _ in 0..u64::MAX {
+        let r = stream::advance(control, store, sum.rest);
         let a = r.answer;
         control = r.control;
         stream::release(store, a);
-        s = with_answer(s, a, r.taken, bytes.len());
-        turns -= 1;
+        sum.add(a, r.taken);
+        if stream::is_more(a) {
+            break;
+        }
     }
-    s.total
+    sum.total
 }
 
 // The same by the next call, whose state, string and body go by value. At most 65,536 bytes.
 #[unsafe(no_mangle)]
 pub extern "C" fn port_next(bytes: &[u8]) -> u64 {
     let mut state = state::State::fresh();
-    let mut s = nothing_yet();
-    let mut turns: u32 = 65538;
-    while turns > 0 && !s.more {
-        let r = reader::next(state, rest(bytes, s.at));
+    let mut sum = Sum {
+        rest: bytes,
+        total: 0,
+    };
+    for _ in 0..65538 {
+        let r = reader::next(state, sum.rest);
         let a = r.answer;
         state = r.state;
-        s = with_answer(s, a, r.taken, bytes.len());
-        turns -= 1;
+        sum.add(a, r.taken);
+        if stream::is_more(a) {
+            break;
+        }
     }
-    s.total
+    sum.total
 }
 
 // The id of a definition, all of whose fields and items are read; 0 for one that is refused.
@@ -102,14 +83,7 @@ pub extern "C" fn port_next(bytes: &[u8]) -> u64 {
 pub extern "C" fn port_from_bytes(body: &[u8]) -> u32 {
     let parsed = definition::from_bytes(body);
     match parsed {
-        definition::Ok(d) => of_i32(d.id),
-        definition::Err(_) => 0,
-    }
-}
-
-fn body_length(w: Result<usize, Refusal>) -> usize {
-    match w {
-        Ok(n) => n,
+        Ok(d) => of_i32(d.id),
         Err(_) => 0,
     }
 }
@@ -134,28 +108,26 @@ pub extern "C" fn port_to_bytes(
     out: &mut [u8],
 ) -> usize {
     let d = Fields {
-        parent_id: parent_id,
-        id: id,
-        index: index,
-        node_type: node_type,
-        unit: unit,
-        read_only: read_only,
+        parent_id,
+        id,
+        index,
+        node_type,
+        unit,
+        read_only,
         min_float: min,
         max_float: max,
         min_int: to_i32(min),
         max_int: to_i32(max),
-        steps: steps,
-        count: count,
-        max_len: max_len,
+        steps,
+        count,
+        max_len,
     };
-    body_length(writer::to_bytes(d, name, long_name, items, out))
+    length(writer::to_bytes(d, name, long_name, items, out))
 }
 
+// The bytes written, 0 for a call that is refused.
 fn length(w: Result<usize, Refusal>) -> usize {
-    match w {
-        Ok(n) => n,
-        Err(_) => 0,
-    }
+    w.unwrap_or(0)
 }
 
 #[unsafe(no_mangle)]
@@ -177,8 +149,8 @@ pub extern "C" fn port_set_string(out: &mut [u8], id: i32, s: &[u8]) -> usize {
 pub extern "C" fn port_read_meters(packet: &[u8], out: &mut [i16]) -> usize {
     let r = meter::read_meters(packet, out);
     match r {
-        meter::MetersRead::Readings { id: _, count } => count,
-        meter::Err(_) => 0,
+        Ok(r) => r.count,
+        Err(_) => 0,
     }
 }
 
@@ -210,7 +182,7 @@ pub extern "C" fn port_recall(table: &[u8], count: usize, out: &mut [u8]) -> usi
 
 #[unsafe(no_mangle)]
 pub extern "C" fn port_is_utf8(s: &[u8]) -> u32 {
-    if utf8::is_utf8(s) { 1 } else { 0 }
+    u32::from(utf8::is_utf8(s))
 }
 
 #[unsafe(no_mangle)]

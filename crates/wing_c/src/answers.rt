@@ -1,7 +1,7 @@
 // What crosses the border: an enum cannot, so each answer of the libraries is a struct of numbers here. A refusal is its number with a minus
 // sign; where a call can answer 1 or 5, the good of the string stands beside it (02), 0 for all else.
 ghost use Rattle.std.specs.Prelude.{◌≡◌};
-ghost use Rattle.wing_node.specs.Refusal.{refusal_number, good_beside};
+ghost use Rattle.wing_node.specs.Refusal.{refusal_number};
 ghost use Rattle.wing_c.specs.Numbers.{minus as minus_of, sent_back, no_refusal, written_as, written_numbers, set_as, set_numbers, fed_as, fed_numbers, lookup_numbers, same_number};
 ghost use Rattle.wing_c.specs.Numbers.{held_numbers, record_numbers, event_as, no_event, event_numbers, requested_numbers, meters_numbers, loaded_as, loaded_numbers};
 
@@ -125,22 +125,13 @@ pub(crate) fn minus(why: Refusal) -> i32
     -i32::from(why.number())
 }
 
-// 02: the good beside 1 and 5; the others have none.
-fn good_beside(why: Refusal) -> u16
-    ensures { result ≡ good_beside why }
-{
-    match why {
-        Refusal::StringNotUtf8 { good } | Refusal::DefinitionNotUtf8 { good } => good,
-        _ => 0,
-    }
-}
-
+// 02: the good beside 1 and 5; the others have none, 0.
 pub(crate) fn sent_back(why: Refusal) -> Outcome
     ensures { result ≡ sent_back why }
 {
     Outcome {
         status: minus(why),
-        good: good_beside(why),
+        good: why.good().unwrap_or(0),
     }
 }
 

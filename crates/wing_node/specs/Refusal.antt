@@ -1,5 +1,6 @@
 -- Why a call is sent back. 01: with a number; 02: beside 1 and 5 stands the good of the string that is not UTF-8.
-use Rattle.std.specs.Prelude.{ℕ, Bool, List, is_err, Ok, Err}
+use Rattle.std.specs.Prelude.{ℕ, Bool, List, is_err, Ok, Err, Option, Some, None}
+use Rattle.std.specs.Option.{unwrap_or}
 use Rattle.std.specs.Result.{result_and}
 use Rattle.wing_node.specs.Bool.{if}
 use Rattle.wing_node.specs.Utf8.{good, utf8}
@@ -29,49 +30,21 @@ refusal_number LineWrong = 17
 refusal_number IdNotAbove = 18
 refusal_number WidthWrong = 19
 
--- 02: the good that stands beside 1 and 5; the others have none, 0
+-- 02: the good that stands beside 1 and 5; the others have none
+abbrev pub good_of : Refusal → Option ℕ
+good_of (StringNotUtf8 g) = Some g
+good_of (DefinitionNotUtf8 g) = Some g
+good_of _ = None
+
+-- and 0 where there is none
 abbrev pub good_beside : Refusal → ℕ
-good_beside (StringNotUtf8 g) = g
-good_beside BodyLong = 0
-good_beside BodyEmpty = 0
-good_beside DefinitionShort = 0
-good_beside (DefinitionNotUtf8 g) = g
-good_beside NoPlace = 0
-good_beside TableUnsound = 0
-good_beside StateUnsound = 0
-good_beside OutputShort = 0
-good_beside StringLong = 0
-good_beside MetersOver = 0
-good_beside MeterIdLast = 0
-good_beside PacketSize = 0
-good_beside NumberOver = 0
-good_beside NameLong = 0
-good_beside FieldsUnfit = 0
-good_beside LineWrong = 0
-good_beside IdNotAbove = 0
-good_beside WidthWrong = 0
+good_beside why = unwrap_or (good_of why) 0
 
 -- the refusal by its number alone: the good set aside, 0
 abbrev pub good_aside : Refusal → Refusal
 good_aside (StringNotUtf8 g) = StringNotUtf8 0
-good_aside BodyLong = BodyLong
-good_aside BodyEmpty = BodyEmpty
-good_aside DefinitionShort = DefinitionShort
 good_aside (DefinitionNotUtf8 g) = DefinitionNotUtf8 0
-good_aside NoPlace = NoPlace
-good_aside TableUnsound = TableUnsound
-good_aside StateUnsound = StateUnsound
-good_aside OutputShort = OutputShort
-good_aside StringLong = StringLong
-good_aside MetersOver = MetersOver
-good_aside MeterIdLast = MeterIdLast
-good_aside PacketSize = PacketSize
-good_aside NumberOver = NumberOver
-good_aside NameLong = NameLong
-good_aside FieldsUnfit = FieldsUnfit
-good_aside LineWrong = LineWrong
-good_aside IdNotAbove = IdNotAbove
-good_aside WidthWrong = WidthWrong
+good_aside why = why
 
 -- 1, of a string of the wire or to be set, with its good
 abbrev pub string_not_utf8 : List ℕ → Refusal

@@ -1,7 +1,7 @@
 // Why a call is sent back. Each reason has its number in the rules; beside a string that isn't UTF-8 (1, or 5 for a definition's) stands its good:
 // how many of its leading bytes form whole characters.
 ghost use Rattle.std.specs.Prelude.{◌≡◌, take};
-ghost use Rattle.wing_node.specs.Refusal.{refusal_number, string_fault};
+ghost use Rattle.wing_node.specs.Refusal.{refusal_number, good_of, string_fault};
 
 use crate::utf8::good_len;
 
@@ -53,6 +53,16 @@ impl Refusal {
             Refusal::LineWrong => 17,
             Refusal::IdNotAbove => 18,
             Refusal::WidthWrong => 19,
+        }
+    }
+
+    // How many leading bytes of the string form whole characters, where it is for its string.
+    pub fn good(self) -> Option<u16>
+        ensures { result ≡ good_of self }
+    {
+        match self {
+            Refusal::StringNotUtf8 { good } | Refusal::DefinitionNotUtf8 { good } => Some(good),
+            _ => None,
         }
     }
 }
