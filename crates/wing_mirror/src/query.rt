@@ -12,17 +12,17 @@ use crate::answer::{Lookup, RecordAnswer, RecordRead, Same};
 use crate::bytes::lay;
 use crate::order::{row, search};
 use crate::origin::Origin;
-use crate::record::{id_in, origin_in, payload, rank, value_in};
+use crate::record::{Record, id_in, origin_in, payload, rank, value_in};
 use crate::table::is_usable;
 use wing_node::field::least;
 use wing_node::value::Value;
 use wing_wire::state::State;
 
-fn number_of(table: &[u8], width: usize, count: usize, key: u32) -> Lookup
+fn number_of(table: &[u8], count: usize, key: u32) -> Lookup
     requires { InOrder width (table_of table.now count) }
     ensures { result ≡ answer_of (number_of key_of key (records width count table.now)) }
 {
-    match search(table, width, count, key) {
+    match search(table, count, key) {
         Ok(number) => Lookup::At(number),
         Err(_) => Lookup::None,
     }
@@ -33,7 +33,7 @@ pub fn lookup(table: &[u8], count: usize, id: i32) -> Lookup
     ensures { result ≡ lookup_answer full (table_of table.now count) id }
 {
     if is_usable(table, count) {
-        return number_of(table, State::PLACE_WIDTH, count, rank(id));
+        return number_of(table, count, rank(id));
     }
     Lookup::Refused(7)
 }
@@ -81,8 +81,7 @@ fn number_read(id: i32, value: Value, origin: Origin) -> RecordRead
 }
 
 // What a record says.
-fn read_record(rec: &[u8]) -> RecordRead
-    requires { length rec.now ≡ width }
+fn read_record(rec: &Record) -> RecordRead
     ensures { result ≡ read_of (entry_in rec.now) }
 {
     let id = id_in(rec);
@@ -101,7 +100,7 @@ pub fn record(table: &[u8], count: usize, number: usize) -> RecordRead
 {
     if is_usable(table, count) {
         if number < count {
-            return read_record(row(table, State::PLACE_WIDTH, number));
+            return read_record(row(table, number));
         }
         return refused(14);
     }

@@ -12,7 +12,7 @@ use Rattle.wing_mirror.proofs.set.keep_written.Goals as goal
 
 pub put-requires : goal.put-requires
 put-requires c =
-    (in_order_lem (table c.args.table.now c.args.count) c.requires.0, c.requires.1)
+    in_order_lem (table c.args.table.now c.args.count) c.requires
 
 pub returns-in-Bytes : goal.returns-in-Bytes
 unfolding kept_of
