@@ -6,7 +6,8 @@ ghost use Rattle.wing_mirror.specs.Table.{table as table_of};
 ghost use Rattle.wing_mirror.specs.Order.{position_of, InOrder};
 ghost use Rattle.wing_mirror.specs.HighEnd.{counted_of};
 
-use crate::record::{self, Record};
+use crate::record;
+use crate::table::row;
 use wing_wire::state::State;
 
 // Where a key is, or where it belongs: how many records have a lower one. And how many keys were read to find it.
@@ -21,14 +22,6 @@ pub(crate) fn places_of(table: &[u8]) -> usize
     ensures { result ≡ length table.now / width }
 {
     table.len() / State::PLACE_WIDTH
-}
-
-// The record of a number.
-pub(crate) fn row(table: &[u8], number: usize) -> &Record
-    requires { width * number + width ≤ length table.now }
-    ensures { result.now ≡ row_of width number table.now }
-{
-    &table.as_chunks().0[number]
 }
 
 // Where the record of a number stands in the order.

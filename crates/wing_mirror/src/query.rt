@@ -10,10 +10,10 @@ ghost use Rattle.wing_mirror.specs.Query.{lookup_answer, answer_of, read_of, bes
 
 use crate::answer::{Lookup, RecordAnswer, RecordRead, Same};
 use crate::bytes::lay;
-use crate::order::{row, search};
+use crate::order::search;
 use crate::origin::Origin;
 use crate::record::{Record, id_in, origin_in, payload, rank, value_in};
-use crate::table::is_usable;
+use crate::table::{is_usable, row};
 use wing_node::field::least;
 use wing_node::value::Value;
 use wing_wire::state::State;

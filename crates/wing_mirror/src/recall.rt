@@ -6,9 +6,8 @@ ghost use Rattle.wing_mirror.specs.Table.{table as table_of, rows, row_at, usabl
 ghost use Rattle.wing_mirror.specs.Recall.{recall_bytes, recall_of};
 ghost use Rattle.wing_mirror.specs.Sending.{order_in, orders_of, size_in};
 
-use crate::order::row;
 use crate::record::{self, Record};
-use crate::table::is_usable;
+use crate::table::{is_usable, row};
 use wing_node::field;
 use wing_node::refusal::Refusal;
 use wing_node::value::Value;

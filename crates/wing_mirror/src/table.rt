@@ -1,17 +1,34 @@
 // The table of records at the front of a lent buffer, and whether it is usable.
-ghost use Rattle.std.specs.Prelude.{◌≡◌, ◌*◌, ◌/◌, ◌≤◌, ◌<◌, length};
-ghost use Rattle.wing_mirror.specs.Rows.{records};
+ghost use Rattle.std.specs.Prelude.{◌≡◌, ◌+◌, ◌*◌, ◌/◌, ◌≤◌, ◌<◌, length};
+ghost use Rattle.wing_mirror.specs.Rows.{row as row_of, records};
 ghost use Rattle.wing_mirror.specs.Record.{width, key_of, well_formed, full};
-ghost use Rattle.wing_mirror.specs.Table.{table as table_of, passes_at, checked_of, sound_table, usable};
+ghost use Rattle.wing_mirror.specs.Table.{table as table_of, places_allowed, passes_at, checked_of, sound_table, usable};
 
-use crate::order::{is_below_next, places_of, row};
+use crate::order::{is_below_next, places_of};
 use crate::record;
+use wing_wire::state::State;
 
 // 01: places = buffer length div 264.
 pub fn places(table: &[u8]) -> usize
     ensures { result ≡ length table.now / width }
 {
     places_of(table)
+}
+
+// The record of a number.
+pub fn row(table: &[u8], number: usize) -> &[u8; State::PLACE_WIDTH]
+    requires { width * number + width ≤ length table.now }
+    ensures { result.now ≡ row_of width number table.now }
+{
+    &table.as_chunks().0[number]
+}
+
+// 01: a table has 1 to 1,024 places.
+#[tactic(auto, unfolding(crate::specs::Table::places_allowed))]
+pub fn are_allowed(places: usize) -> bool
+    ensures { result ≡ places_allowed places }
+{
+    1 <= places && places <= 1024
 }
 
 // The record of a number has 01's form, and the next one is above it.
@@ -45,10 +62,9 @@ pub fn is_sound(table: &[u8], count: usize) -> bool
 }
 
 // The tables that the calls take; any other is refused (refusal 7).
-#[tactic(auto, unfolding(crate::specs::Table::usable_of, crate::specs::Table::places_allowed))]
+#[tactic(auto, unfolding(crate::specs::Table::usable_of))]
 pub fn is_usable(table: &[u8], count: usize) -> bool
     ensures { result ≡ usable full (table_of table.now count) }
 {
-    let n = places(table);
-    1 <= n && n <= 1024 && is_sound(table, count)
+    are_allowed(places(table)) && is_sound(table, count)
 }

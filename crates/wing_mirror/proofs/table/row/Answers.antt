@@ -6,7 +6,7 @@ use borrow.Author.Rules.{rules}
 use lib.ListN.{length, get_or}
 use Rattle.wing_mirror.proofs.Tables.Chunks.{chunks-records}
 use Rattle.wing_mirror.proofs.Records.Said.{row_of}
-use Rattle.wing_mirror.proofs.order.row.Goals as goal
+use Rattle.wing_mirror.proofs.table.row.Goals as goal
 
 pub returns : goal.returns
 returns c =
