@@ -5,7 +5,7 @@ ghost use Rattle.wing_meters.specs.Calls.{made_of, figures_answer};
 
 use crate::figures::Told;
 use crate::kept::tell;
-use crate::sound::is_sound_lent;
+use crate::sound::{is_sound_lent, kept_up};
 
 // The width, how many readings are held, the place of the next one, the largest level and the sum of the levels.
 #[derive(Clone, Copy)]
@@ -80,17 +80,15 @@ pub fn make(width: u32) -> Made
 pub fn is_sound(w: Window) -> bool
     ensures { result ≡ sound_window w }
 {
-    let c = w.control;
-    is_sound_lent(c, &w.levels)
+    is_sound_lent(w.control, &w.levels)
 }
 
 // The figures of the readings that the window holds, none if it is empty. 8.
 pub fn figures(w: Window) -> Told
     ensures { result ≡ figures_answer w }
 {
-    let c = w.control;
-    if is_sound_lent(c, &w.levels) {
-        return tell(c);
+    match kept_up(w.control, &w.levels) {
+        Some(kept) => tell(kept),
+        None => Told::Refused(8),
     }
-    Told::Refused(8)
 }
