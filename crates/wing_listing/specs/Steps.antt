@@ -1,7 +1,6 @@
 -- What the steps of the code answer, by the definitions of a text.
-use Rattle.std.specs.Prelude.{ℕ, ◌+◌, min, Bool, true, false, not, ◌≡◌, List, map, ltb, leb, eqb, ℤ, pos, neg_ℤ, length, Ok, Err}
+use Rattle.std.specs.Prelude.{ℕ, ◌+◌, min, Bool, true, not, ◌≡◌, List, map, ltb, leb, eqb, ℤ, pos, neg_ℤ, length, Ok, Err, Option, Some, None}
 use Rattle.wing_node.specs.declared.refusal.Refusal.{Refusal}
-use Rattle.wing_node.specs.Refusal.{no_fault, because, Fault}
 use Rattle.wing_node.specs.Bool.{if, and}
 use Rattle.wing_node.specs.Bytes.{joined}
 use Rattle.wing_node.specs.Decimal.{number_spelled, integer_of}
@@ -12,8 +11,7 @@ use Rattle.wing_mirror.specs.Table.{every, places_allowed}
 use Rattle.wing_listing.specs.Parts.{comma, part, ended}
 use Rattle.wing_listing.specs.Integers.{is_digit, first, is_natural, is_integer}
 use Rattle.wing_listing.specs.Listing.{letter_i, letter_f, letter_s, line_of}
-use Rattle.wing_listing.specs.Reading.{is_line, line_fault, Reading, good, bad, reading_of}
-use Rattle.wing_listing.specs.declared.integer.IntegerRead.{IntegerRead}
+use Rattle.wing_listing.specs.Reading.{is_line, id_said, line_fault, Reading, good, bad, reading_of}
 use Rattle.wing_listing.specs.declared.line.Line.{Line}
 use Rattle.wing_listing.specs.declared.line.Judged.{Judged}
 use Rattle.wing_node.specs.declared.refusal.Refusal.TheVariants.{NoPlace, NumberOver, TableUnsound}
@@ -25,24 +23,20 @@ use Rattle.wing_listing.specs.Answers.{Loaded}
 unfoldable pub number_up_to : List ℕ → ℕ
 number_up_to s = if (every is_digit s) (min (number_spelled s) 0x100000000) 0x100000000
 
--- an integer in form, and 0 beside one out of form
-abbrev pub read_as : Bool → ℤ → IntegerRead
-read_as formed x = if formed (record { formed = true; value = x }) (record { formed = false; value = pos 0 })
-
--- out of form
-abbrev pub not_read : IntegerRead
-not_read = record { formed = false; value = pos 0 }
+-- an integer if it is in form
+abbrev pub read_as : Bool → ℤ → Option ℤ
+read_as formed x = if formed (Some x) None
 
 -- digits without a sign
-unfoldable pub natural_read : List ℕ → IntegerRead
+unfoldable pub natural_read : List ℕ → Option ℤ
 natural_read s = read_as (and (is_natural s) (ltb (number_spelled s) 0x80000000)) (pos (number_spelled s))
 
 -- digits after a minus sign
-unfoldable pub negative_read : List ℕ → IntegerRead
+unfoldable pub negative_read : List ℕ → Option ℤ
 negative_read s = read_as (and (and (not (eqb (first s) 0x30)) (is_natural s)) (leb (number_spelled s) 0x80000000)) (neg_ℤ (pos (number_spelled s)))
 
 -- any text
-unfoldable pub integer_read : List ℕ → IntegerRead
+unfoldable pub integer_read : List ℕ → Option ℤ
 integer_read s = read_as (is_integer s) (integer_of s)
 
 -- ---- a line
@@ -51,20 +45,21 @@ integer_read s = read_as (is_integer s) (integer_of s)
 abbrev pub value_at : List ℕ → ℕ
 value_at line = length (part comma 0 line) + 3
 
--- whether a line is in form, its id, kind letter and the place of its value
+-- a line in form: its id, kind letter and the place of its value
 pub record LineSays (r : Line) (line : List ℕ) : Type 0 where
-  pub formed : r.formed ≡ is_line line
-  pub id : r.id ≡ (integer_read (part comma 0 line)).value
-  pub kind : is_line line ≡ true → r.kind ≡ first (part comma 1 line)
-  pub from : is_line line ≡ true → r.from ≡ value_at line
+  pub formed : is_line line ≡ true
+  pub id : r.id ≡ id_said line
+  pub kind : r.kind ≡ first (part comma 1 line)
+  pub from : r.from ≡ value_at line
 
 -- the id of the line before, if there is one
-unfoldable pub id_before : Bool → ℤ → Found ℤ
-id_before any id = if any (found id) nothing
+unfoldable pub id_before : Option ℤ → Found ℤ
+id_before (Some id) = found id
+id_before None = nothing
 
--- what is wrong with a line, and its id
+-- what is wrong with a line, and its id, 0 if it is out of form
 unfoldable pub judged_as : Found ℤ → List ℕ → Judged
-judged_as before line = record { fault = line_fault before line; id = (integer_read (part comma 0 line)).value }
+judged_as before line = record { fault = line_fault before line; id = if (is_line line) (id_said line) (pos 0) }
 
 -- ---- a text
 

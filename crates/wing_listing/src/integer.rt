@@ -1,16 +1,9 @@
 // 02: integers fit 32 bits and have no leading zero, no plus sign and no minus zero.
 ghost use Rattle.std.specs.Prelude.{◌≡◌};
 ghost use Rattle.wing_listing.specs.Integers.{no_leading_zero};
-ghost use Rattle.wing_listing.specs.Steps.{number_up_to, not_read, natural_read, negative_read, integer_read};
+ghost use Rattle.wing_listing.specs.Steps.{number_up_to, natural_read, negative_read, integer_read};
 
 use wing_node::field::to_i32;
-
-// Whether a text is an integer in form, and which: 0 if it is not.
-#[derive(Clone, Copy)]
-pub struct IntegerRead {
-    pub formed: bool,
-    pub value: i32,
-}
 
 // More than any number that fits.
 const TOO_MUCH: u64 = 0x1_0000_0000;
@@ -29,15 +22,6 @@ fn number_in(s: &[u8]) -> u64
     n
 }
 
-fn not_read() -> IntegerRead
-    ensures { result ≡ not_read }
-{
-    IntegerRead {
-        formed: false,
-        value: 0,
-    }
-}
-
 // 02: 0 comes first only alone.
 #[tactic(auto, unfolding(crate::specs::Integers::no_leading_zero))]
 fn is_led(s: &[u8]) -> bool
@@ -46,38 +30,33 @@ fn is_led(s: &[u8]) -> bool
     s.len() == 1 || 1 < s.len() && s[0] != b'0'
 }
 
-fn natural_in(s: &[u8]) -> IntegerRead
+fn natural_in(s: &[u8]) -> Option<i32>
     ensures { result ≡ natural_read s.now }
 {
     if is_led(s) {
         let n = number_in(s);
         if n < 0x8000_0000 {
-            return IntegerRead {
-                formed: true,
-                value: to_i32(n as u32),
-            };
+            return Some(to_i32(n as u32));
         }
     }
-    not_read()
+    None
 }
 
 // What stands after a minus sign.
-fn negative_in(s: &[u8]) -> IntegerRead
+fn negative_in(s: &[u8]) -> Option<i32>
     ensures { result ≡ negative_read s.now }
 {
     if s.len() > 0 && s[0] != b'0' {
         let n = number_in(s);
         if n <= 0x8000_0000 {
-            return IntegerRead {
-                formed: true,
-                value: to_i32((TOO_MUCH - n) as u32),
-            };
+            return Some(to_i32((TOO_MUCH - n) as u32));
         }
     }
-    not_read()
+    None
 }
 
-pub(crate) fn integer_in(s: &[u8]) -> IntegerRead
+// The integer that a text is in form, if it is.
+pub(crate) fn integer_in(s: &[u8]) -> Option<i32>
     ensures { result ≡ integer_read s.now }
 {
     if s.len() > 0 && s[0] == b'-' {

@@ -1,9 +1,7 @@
 // One line of a listing: three fields parted by commas. 02: within a line 17, 18, 10, 1.
-ghost use Rattle.std.specs.Prelude.{◌≡◌, true, length};
-ghost use Rattle.wing_node.specs.Bool.{if};
-ghost use Rattle.wing_node.specs.Refusal.{no_fault, because};
+ghost use Rattle.std.specs.Prelude.{◌≡◌, true, false, length, MatchOption};
 ghost use Rattle.wing_listing.specs.Parts.{part};
-ghost use Rattle.wing_listing.specs.Reading.{is_value, value_said, value_fault, above};
+ghost use Rattle.wing_listing.specs.Reading.{is_value, is_line, value_said, value_fault, above};
 ghost use Rattle.wing_listing.specs.Steps.{LineSays, id_before, judged_as};
 ghost use Rattle.wing_node.specs.declared.refusal.Refusal.TheVariants.{IdNotAbove, LineWrong};
 
@@ -11,16 +9,15 @@ use crate::hex::{are_pairs, lay_bytes};
 use crate::integer::integer_in;
 use wing_node::refusal::{Refusal, string_fault};
 
-// Whether a line is in form; its id, 0 if that field is out of form; its kind letter, and where its value begins.
+// A line in form: its id, its kind letter, and where its value begins.
 #[derive(Clone, Copy)]
 pub struct Line {
-    pub formed: bool,
     pub id: i32,
     pub kind: u8,
     pub from: usize,
 }
 
-// What is wrong with a line, if anything is, and its id.
+// What is wrong with a line, if anything is, and its id, 0 if it is out of form.
 #[derive(Clone, Copy)]
 pub struct Judged {
     pub fault: Result<(), Refusal>,
@@ -38,8 +35,7 @@ fn is_value(kind: u8, s: &[u8]) -> bool
     ensures { result ≡ is_value kind s.now }
 {
     if kind == 0x69 {
-        let x = integer_in(s);
-        return x.formed;
+        return integer_in(s).is_some();
     }
     if kind == 0x66 {
         if s.len() == 8 {
@@ -53,32 +49,21 @@ fn is_value(kind: u8, s: &[u8]) -> bool
     false
 }
 
-// The fields of a line. A value in form has no comma in it, so that there is no need to look for one.
-pub(crate) fn line_in(s: &[u8]) -> Line
-    ensures { LineSays result s.now }
+// The fields of a line in form. A value in form has no comma in it, so that there is no need to look for one.
+pub(crate) fn line_in(s: &[u8]) -> Option<Line>
+    ensures { MatchOption result (is_line s.now ≡ false) (λ l. LineSays l s.now) }
 {
-    let a = find(s, 0x2c);
-    let x = integer_in(&s[..a]);
-    let id = x.value;
-    if x.formed {
-        if a + 2 < s.len() {
-            if s[a + 2] == 0x2c {
-                let kind = s[a + 1];
-                return Line {
-                    formed: is_value(kind, &s[a + 3..]),
-                    id: id,
-                    kind: kind,
-                    from: a + 3,
-                };
-            }
-        }
+    let a = find(s, b',');
+    let id = integer_in(&s[..a])?;
+    if s.len() <= a + 2 || s[a + 2] != b',' {
+        return None;
     }
-    Line {
-        formed: false,
-        id: id,
-        kind: 0,
-        from: 0,
+    let kind = s[a + 1];
+    if !is_value(kind, &s[a + 3..]) {
+        return None;
     }
+    let from = a + 3;
+    Some(Line { id, kind, from })
 }
 
 // 02: a string over 256 bytes gets 10 and one that isn't UTF-8 gets 1, with its good.
@@ -99,44 +84,35 @@ fn value_fault(kind: u8, s: &[u8]) -> Result<(), Refusal>
 
 // 02: above the id before, if there is one.
 #[tactic(auto, unfolding(crate::specs::Reading::above, crate::specs::Steps::id_before))]
-fn rises(any: bool, before: i32, id: i32) -> bool
-    ensures { result ≡ above (id_before any before) id }
+fn rises(before: Option<i32>, id: i32) -> bool
+    ensures { result ≡ above (id_before before) id }
 {
-    if any {
-        return before < id;
+    match before {
+        Some(last) => last < id,
+        None => true,
     }
-    true
 }
 
-// 02: a line out of form is 17, and after that an id not above the one before 18.
-fn form_fault(formed: bool, rises: bool) -> Result<(), Refusal>
-    ensures { result ≡ if formed (if rises no_fault (because IdNotAbove)) (because LineWrong) }
+// A line after one with the id before, if there is any. 02: out of form is 17, and after that an id not above the one before 18.
+pub(crate) fn judge(s: &[u8], before: Option<i32>) -> Judged
+    ensures { result ≡ judged_as (id_before before) s.now }
 {
-    if formed {
-        if rises {
-            return Ok(());
+    match line_in(s) {
+        None => Judged {
+            fault: Err(Refusal::LineWrong),
+            id: 0,
+        },
+        Some(l) => {
+            if !rises(before, l.id) {
+                return Judged {
+                    fault: Err(Refusal::IdNotAbove),
+                    id: l.id,
+                };
+            }
+            Judged {
+                fault: value_fault(l.kind, &s[l.from..]),
+                id: l.id,
+            }
         }
-        return Err(Refusal::IdNotAbove);
-    }
-    Err(Refusal::LineWrong)
-}
-
-// A line after one with the id before, if there is any.
-pub(crate) fn judge(s: &[u8], any: bool, before: i32) -> Judged
-    ensures { result ≡ judged_as (id_before any before) s.now }
-{
-    let l = line_in(s);
-    let id = l.id;
-    let fault = form_fault(l.formed, rises(any, before, id));
-    if fault.is_err() {
-        return Judged {
-            fault: fault,
-            id: id,
-        };
-    }
-    let from = l.from;
-    Judged {
-        fault: value_fault(l.kind, &s[from..]),
-        id: id,
     }
 }

@@ -2,7 +2,6 @@
 ghost use Rattle.std.specs.Prelude.{◌≡◌, map, ◌*◌, ◌≤◌, length, take};
 ghost use Rattle.wing_mirror.specs.Rows.{laid};
 ghost use Rattle.wing_mirror.specs.Record.{width, record_of};
-ghost use Rattle.wing_mirror.specs.Table.{places_allowed};
 ghost use Rattle.wing_listing.specs.Reading.{reading_of, entries_in};
 ghost use Rattle.wing_listing.specs.Steps.{checked_as};
 ghost use Rattle.wing_listing.specs.Calls.{load_effect, load_of};
@@ -11,26 +10,19 @@ use crate::answer::{LoadReply, Loaded};
 use crate::line::find;
 use crate::place::record_in;
 use crate::scan::{bad, scan};
-use wing_mirror::table::places;
+use wing_mirror::table::{are_allowed, places};
 use wing_node::refusal::Refusal;
 use wing_wire::state::State;
 
 // The header's line.
 const HEADER: usize = 14;
 
-#[tactic(auto, unfolding(wing_mirror::specs::Table::places_allowed))]
-fn is_allowed(places: usize) -> bool
-    ensures { result ≡ places_allowed places }
-{
-    1 <= places && places <= 1024
-}
-
 // How many entries a text has that may be loaded. 02: 7, 14, the first bad line, 6.
 #[tactic(auto, unfolding(crate::specs::Steps::checked_as, crate::specs::Steps::fitting))]
 fn check(text: &[u8], places: usize) -> Loaded
     ensures { result ≡ checked_as text.now places }
 {
-    if !is_allowed(places) {
+    if !are_allowed(places) {
         return bad(Refusal::TableUnsound, 0);
     }
     if text.len() > 65536 {

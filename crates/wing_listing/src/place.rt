@@ -25,10 +25,10 @@ fn lay_said(out: &mut [u8; State::PLACE_WIDTH], kind: u8, s: &[u8])
     ensures { out.new ≡ laid_from out.old (kind_of (value_said kind s.now)) (payload_of (value_said kind s.now)) }
 {
     if kind == 0x69 {
-        let x = integer_in(s);
+        let x = integer_in(s).unwrap();
         out[4] = 0;
         put_u16(out, 6, 4);
-        put_i32(out, 8, x.value);
+        put_i32(out, 8, x);
     } else {
         out[4] = kind_of(kind);
         put_u16(out, 6, (s.len() / 2) as u16);
@@ -41,7 +41,7 @@ pub(crate) fn record_in(s: &[u8]) -> [u8; State::PLACE_WIDTH]
     requires { (is_line s.now ≡ true) × (value_fault (entry_said s.now).value ≡ no_fault) }
     ensures { result ≡ record_of (entry_said s.now) }
 {
-    let l = line_in(s);
+    let l = line_in(s).unwrap();
     let mut out = [0u8; State::PLACE_WIDTH];
     put_i32(&mut out, 0, l.id);
     lay_said(&mut out, l.kind, &s[l.from..]);

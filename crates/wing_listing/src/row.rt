@@ -8,18 +8,10 @@ ghost use Rattle.wing_listing.specs.Listing.{value_text, line_of};
 ghost use Rattle.wing_listing.specs.Steps.{letter_in};
 
 use crate::hex::lay_pairs;
+use wing_mirror::table::row;
 use wing_node::field::{i32_at, u16_at};
 use wing_node::value::put_decimal;
 use wing_wire::state::State;
-
-// The record of a number.
-fn row(table: &[u8], number: usize) -> &[u8]
-    requires { width * number + width ≤ length table.now }
-    ensures { result.now ≡ row_at number table.now }
-{
-    let at = State::PLACE_WIDTH * number;
-    &table[at..at + State::PLACE_WIDTH]
-}
 
 // 01: the kind letters i, f, s.
 #[tactic(auto, unfolding(crate::specs::Steps::letter_in))]
@@ -36,8 +28,8 @@ fn letter(kind: u8) -> u8
 }
 
 // The text of a record's value. A float's bytes and a string's stand alike, as many as the record's length.
-fn lay_value(out: &mut [u8], at: usize, rec: &[u8]) -> usize
-    requires { (length rec.now ≡ width) × (well_formed rec.now ≡ true) × (at + length (value_text (value_in rec.now)) ≤ length out.old) }
+fn lay_value(out: &mut [u8], at: usize, rec: &[u8; State::PLACE_WIDTH]) -> usize
+    requires { (well_formed rec.now ≡ true) × (at + length (value_text (value_in rec.now)) ≤ length out.old) }
     ensures { Laid (value_text (value_in rec.now)) at out.old out.new result }
 {
     if rec[4] == 0 {
@@ -49,8 +41,8 @@ fn lay_value(out: &mut [u8], at: usize, rec: &[u8]) -> usize
 }
 
 // 01: id in decimal, kind letter and value, with commas between, and the line's end.
-fn lay_entry(out: &mut [u8], at: usize, rec: &[u8]) -> usize
-    requires { (length rec.now ≡ width) × (well_formed rec.now ≡ true) × (at + length (ended (line_of (entry_in rec.now))) ≤ length out.old) }
+fn lay_entry(out: &mut [u8], at: usize, rec: &[u8; State::PLACE_WIDTH]) -> usize
+    requires { (well_formed rec.now ≡ true) × (at + length (ended (line_of (entry_in rec.now))) ≤ length out.old) }
     ensures { Laid (ended (line_of (entry_in rec.now))) at out.old out.new result }
 {
     let to = at + put_decimal(out, at, i32_at(rec, 0));

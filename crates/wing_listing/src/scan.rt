@@ -21,18 +21,18 @@ fn scan_lines(text: &[u8]) -> Loaded
 {
     let mut at = 0;
     let mut number = 2;
-    let mut before = 0;
+    let mut before = None;
     while at < text.len() {
         let end = at + find(&text[at..], 0x0a);
         if end == text.len() {
             return bad(Refusal::LineWrong, number);
         }
-        let j = judge(&text[at..end], number > 2, before);
+        let j = judge(&text[at..end], before);
         match j.fault {
             Ok(()) => {}
             Err(why) => return bad(why, number),
         }
-        before = j.id;
+        before = Some(j.id);
         at = end + 1;
         number += 1;
     }

@@ -7,6 +7,13 @@ use crate::figures::Figures;
 use crate::level::{reading_at, sum_of};
 use crate::window::Control;
 
+// What is kept up of the levels of a sound window: its numbers are in range.
+#[derive(Clone, Copy)]
+pub(crate) struct Kept {
+    pub control: Control,
+    ghost in_range: { InRange control },
+}
+
 // The quotient of the levels' sum is that of the readings, rounded down, raised as they are.
 fn quotient(sum: u32, n: u32) -> u32
     requires { (1 ≤ n) × (n ≤ 256) × (sum ≤ 65535 * n) }
@@ -16,10 +23,11 @@ fn quotient(sum: u32, n: u32) -> u32
 }
 
 // The figures of a window that holds any, by what it keeps up.
-pub(crate) fn figures_in(c: Control) -> Figures
-    requires { (1 ≤ c.held) × InRange c }
-    ensures { result ≡ figures_kept c }
+pub(crate) fn figures_in(kept: Kept) -> Figures
+    requires { 1 ≤ kept.control.held }
+    ensures { result ≡ figures_kept kept.control }
 {
+    let c = kept.control;
     let n = c.held as u32;
     Figures {
         held: c.held,
@@ -32,14 +40,13 @@ pub(crate) fn figures_in(c: Control) -> Figures
 
 // None where it holds none.
 #[tactic(auto, unfolding(crate::specs::Kept::told_kept))]
-pub(crate) fn tell(c: Control) -> Option<Figures>
-    requires { InRange c }
-    ensures { Ok result ≡ told_kept c }
+pub(crate) fn tell(kept: Kept) -> Option<Figures>
+    ensures { Ok result ≡ told_kept kept.control }
 {
-    if c.held == 0 {
+    if kept.control.held == 0 {
         return None;
     }
-    Some(figures_in(c))
+    Some(figures_in(kept))
 }
 
 // The five figures, in their order.

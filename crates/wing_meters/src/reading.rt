@@ -1,14 +1,14 @@
 // Readings that go into a window, one by one: each takes the next place, where the oldest stands once the window is full.
-ghost use Rattle.std.specs.Prelude.{◌≡◌, true, ◌+◌, ◌-◌, ◌*◌, ◌≤◌, ◌<◌, ◌++◌, length, drop, Err};
-ghost use Rattle.wing_meters.specs.Kept.{InRange, TopBefore};
+ghost use Rattle.std.specs.Prelude.{◌≡◌, true, ◌+◌, ◌-◌, ◌*◌, ◌≤◌, ◌<◌, ◌++◌, length, drop};
+ghost use Rattle.wing_meters.specs.Kept.{TopBefore};
 ghost use Rattle.wing_meters.specs.Level.{greatest as greatest_of};
 ghost use Rattle.wing_meters.specs.Window.{window as window_of, taking, grown as grown_of, onward as onward_of, sound_window};
 ghost use Rattle.wing_meters.specs.Calls.{reading_of, after_all, answers, rows, followed as followed_of, rows_effect, readings_of};
 
 use crate::figures::Figures;
-use crate::kept::{figures_in, row_of, tell};
+use crate::kept::{Kept, figures_in, row_of, tell};
 use crate::level::level_of;
-use crate::sound::{greatest, is_sound_lent};
+use crate::sound::{greatest, kept_up};
 use crate::window::{Control, Window};
 use wing_node::refusal::Refusal;
 
@@ -63,52 +63,52 @@ fn sum_after(sum: u32, left: u16, came: u16) -> u32
 }
 
 // One reading takes the next place; the sum and the largest are kept up.
-fn step(c: Control, levels: &mut [u16; 256], x: i16) -> Control
-    requires { sound_window (window_of c levels.old) ≡ true }
-    ensures { (window_of result levels.new ≡ taking (window_of c levels.old) x) × InRange result }
+fn step(kept: Kept, levels: &mut [u16; 256], x: i16) -> Kept
+    requires { sound_window (window_of kept.control levels.old) ≡ true }
+    ensures { window_of result.control levels.new ≡ taking (window_of kept.control levels.old) x }
 {
+    let c = kept.control;
     let at = c.next as usize;
     let came = level_of(x);
     let left = levels[at];
     levels[at] = came;
-    Control {
+    let control = Control {
         width: c.width,
         held: grown(c.held, c.width),
         next: onward(c.next, c.width),
         top: top_after(c.top, left, came, levels),
         sum: sum_after(c.sum, left, came),
-    }
+    };
+    Kept { control }
 }
 
 // 02: at each reading the figures of the last ones. 8.
 pub fn reading(w: Window, x: i16) -> Taken
     ensures { result ≡ reading_of w x }
 {
-    let c = w.control;
     let mut levels = w.levels;
-    if is_sound_lent(c, &levels) {
-        let after = step(c, &mut levels, x);
-        let told = tell(after);
-        return Taken {
-            answer: Ok(told),
-            window: Window {
-                control: after,
-                levels: levels,
-            },
-        };
-    }
-    Taken {
-        answer: Err(Refusal::StateUnsound),
-        window: w,
+    match kept_up(w.control, &levels) {
+        Some(kept) => {
+            let after = step(kept, &mut levels, x);
+            let control = after.control;
+            Taken {
+                answer: Ok(tell(after)),
+                window: Window { control, levels },
+            }
+        }
+        None => Taken {
+            answer: Err(Refusal::StateUnsound),
+            window: w,
+        },
     }
 }
 
-fn follow(c: Control, levels: &mut [u16; 256], xs: &[i16], out: &mut [i32]) -> Control
-    requires { (sound_window (window_of c levels.old) ≡ true) × (5 * length xs.now ≤ length out.old) }
-    ensures levels_after { window_of result levels.new ≡ after_all (window_of c levels.old) xs.now }
-    ensures out_after { out.new ≡ rows (answers (window_of c levels.old) xs.now) ++ drop (5 * length xs.now) out.old }
+fn follow(kept: Kept, levels: &mut [u16; 256], xs: &[i16], out: &mut [i32]) -> Kept
+    requires { (sound_window (window_of kept.control levels.old) ≡ true) × (5 * length xs.now ≤ length out.old) }
+    ensures levels_after { window_of result.control levels.new ≡ after_all (window_of kept.control levels.old) xs.now }
+    ensures out_after { out.new ≡ rows (answers (window_of kept.control levels.old) xs.now) ++ drop (5 * length xs.now) out.old }
 {
-    let mut after = c;
+    let mut after = kept;
     for (i, x) in xs.iter().enumerate() {
         after = step(after, levels, *x);
         out[5 * i..5 * i + 5].copy_from_slice(&row_of(figures_in(after)));
@@ -129,20 +129,18 @@ fn refuse(why: Refusal, w: Window) -> Followed
 pub fn readings(w: Window, xs: &[i16], out: &mut [i32]) -> Followed
     ensures { rows_effect result out.new ≡ readings_of w xs.now out.old }
 {
-    let c = w.control;
     let mut levels = w.levels;
-    if is_sound_lent(c, &levels) {
-        if out.len() / 5 < xs.len() {
-            return refuse(Refusal::OutputShort, w);
+    match kept_up(w.control, &levels) {
+        Some(kept) => {
+            if out.len() / 5 < xs.len() {
+                return refuse(Refusal::OutputShort, w);
+            }
+            let control = follow(kept, &mut levels, xs, out).control;
+            Followed {
+                answer: Ok(xs.len()),
+                window: Window { control, levels },
+            }
         }
-        let after = follow(c, &mut levels, xs, out);
-        return Followed {
-            answer: Ok(xs.len()),
-            window: Window {
-                control: after,
-                levels: levels,
-            },
-        };
+        None => refuse(Refusal::StateUnsound, w),
     }
-    refuse(Refusal::StateUnsound, w)
 }

@@ -5,7 +5,7 @@ ghost use Rattle.wing_meters.specs.Calls.{made_of, figures_answer};
 
 use crate::figures::Figures;
 use crate::kept::tell;
-use crate::sound::is_sound_lent;
+use crate::sound::{is_sound_lent, kept_up};
 use wing_node::refusal::Refusal;
 
 // The width, how many readings are held, the place of the next one, the largest level and the sum of the levels.
@@ -55,17 +55,15 @@ pub fn make(width: u32) -> Result<Window, Refusal>
 pub fn is_sound(w: Window) -> bool
     ensures { result ≡ sound_window w }
 {
-    let c = w.control;
-    is_sound_lent(c, &w.levels)
+    is_sound_lent(w.control, &w.levels)
 }
 
 // The figures of the readings that the window holds, none if it is empty. 8.
 pub fn figures(w: Window) -> Result<Option<Figures>, Refusal>
     ensures { result ≡ figures_answer w }
 {
-    let c = w.control;
-    if is_sound_lent(c, &w.levels) {
-        return Ok(tell(c));
+    match kept_up(w.control, &w.levels) {
+        Some(kept) => Ok(tell(kept)),
+        None => Err(Refusal::StateUnsound),
     }
-    Err(Refusal::StateUnsound)
 }

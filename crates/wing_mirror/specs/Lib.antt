@@ -3,7 +3,6 @@ pub mod Origin
 pub mod Entry
 pub mod Layout
 pub mod Record
-pub mod Form
 pub mod Table
 pub mod Lists
 pub mod Query

@@ -5,7 +5,6 @@ pub mod answer;
 mod bytes;
 mod counts;
 pub mod feed;
-mod form;
 mod keep;
 mod order;
 pub mod origin;

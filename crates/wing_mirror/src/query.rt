@@ -10,20 +10,20 @@ ghost use Rattle.wing_mirror.specs.Query.{lookup_answer, answer_of, read_of, bes
 
 use crate::answer::RecordRead;
 use crate::bytes::lay;
-use crate::order::{row, search};
+use crate::order::search;
 use crate::origin::Origin;
-use crate::record::{id_in, origin_in, payload, rank, value_in};
-use crate::table::is_usable;
+use crate::record::{Record, id_in, origin_in, payload, rank, value_in};
+use crate::table::{is_usable, row};
 use wing_node::field::least;
+use wing_node::refusal::Refusal;
 use wing_node::value::Value;
 use wing_wire::state::State;
-use wing_node::refusal::Refusal;
 
-fn number_of(table: &[u8], width: usize, count: usize, key: u32) -> Result<Option<usize>, Refusal>
+fn number_of(table: &[u8], count: usize, key: u32) -> Result<Option<usize>, Refusal>
     requires { InOrder width (table_of table.now count) }
     ensures { result ≡ answer_of (number_of key_of key (records width count table.now)) }
 {
-    match search(table, width, count, key) {
+    match search(table, count, key) {
         Ok(number) => Ok(Some(number)),
         Err(_) => Ok(None),
     }
@@ -34,7 +34,7 @@ pub fn lookup(table: &[u8], count: usize, id: i32) -> Result<Option<usize>, Refu
     ensures { result ≡ lookup_answer full (table_of table.now count) id }
 {
     if is_usable(table, count) {
-        return number_of(table, State::PLACE_WIDTH, count, rank(id));
+        return number_of(table, count, rank(id));
     }
     Err(Refusal::TableUnsound)
 }
@@ -69,8 +69,7 @@ fn number_read(id: i32, value: Value, origin: Origin) -> RecordRead
 }
 
 // What a record says.
-fn read_record(rec: &[u8]) -> RecordRead
-    requires { length rec.now ≡ width }
+fn read_record(rec: &Record) -> RecordRead
     ensures { result ≡ read_of (entry_in rec.now) }
 {
     let id = id_in(rec);
@@ -89,7 +88,7 @@ pub fn record(table: &[u8], count: usize, number: usize) -> Result<RecordRead, R
 {
     if is_usable(table, count) {
         if number < count {
-            return Ok(read_record(row(table, State::PLACE_WIDTH, number)));
+            return Ok(read_record(row(table, number)));
         }
         return Err(Refusal::NumberOver);
     }

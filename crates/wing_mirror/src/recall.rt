@@ -6,18 +6,16 @@ ghost use Rattle.wing_mirror.specs.Table.{table as table_of, rows, row_at, usabl
 ghost use Rattle.wing_mirror.specs.Recall.{recall_bytes, recall_of};
 ghost use Rattle.wing_mirror.specs.Sending.{order_in, orders_of, size_in};
 
-use crate::order::row;
-use crate::record;
-use crate::table::is_usable;
+use crate::record::{self, Record};
+use crate::table::{is_usable, row};
 use wing_node::field;
 use wing_node::refusal::Refusal;
 use wing_node::value::Value;
 use wing_wire::set;
-use wing_wire::state::State;
 
 // The set order of what a record holds. Not by `send`, which would be a call for each record, with the value in memory.
-fn send_record(out: &mut [u8], rec: &[u8]) -> Result<usize, Refusal>
-    requires { (length rec.now ≡ width) × (well_formed rec.now ≡ true) }
+fn send_record(out: &mut [u8], rec: &Record) -> Result<usize, Refusal>
+    requires { well_formed rec.now ≡ true }
     ensures { write_effect result out.new ≡ write_of (order_in rec.now) out.old }
 {
     let id = record::id_in(rec);
@@ -47,7 +45,7 @@ fn lay_order(out: &mut [u8], table: &[u8], number: usize) -> usize
     requires { (width * number + width ≤ length table.now) × (well_formed (row_at number table.now) ≡ true) × (length (order_in (row_at number table.now)) ≤ length out.old) }
     ensures { Laid (order_in (row_at number table.now)) 0 out.old out.new result }
 {
-    let sent = send_record(out, row(table, State::PLACE_WIDTH, number));
+    let sent = send_record(out, row(table, number));
     size_in(sent)
 }
 

@@ -1,18 +1,21 @@
 // A record of the table, 264 bytes: where it stands in the order, whether it has 01's form, what it holds, and how one is laid.
-ghost use Rattle.std.specs.Prelude.{◌≡◌, false, ◌≤◌, length, take, replicate};
+ghost use Rattle.std.specs.Prelude.{◌≡◌, false, ◌≤◌, length, take};
 ghost use Rattle.wing_node.specs.Field.{bytes_of};
 ghost use Rattle.wing_node.specs.Value.{node_value};
 ghost use Rattle.wing_mirror.specs.Entry.{flipped, rank_of, entry};
 ghost use Rattle.wing_mirror.specs.Call.{too_long};
 ghost use Rattle.wing_mirror.specs.Origin.{origin_of};
-ghost use Rattle.wing_mirror.specs.Record.{width, key_of, string_kept, well_kept, well_formed, id_in, payload_in, value_in, origin_byte, record_of, head_from, laid_from};
+ghost use Rattle.wing_mirror.specs.Record.{key_of, string_kept, well_kept, well_formed, id_in, payload_in, value_in, origin_byte, record_of, head_from, laid_from};
 
 use crate::origin::Origin;
 use crate::{bytes, origin};
 use wing_node::field;
 use wing_node::utf8::is_utf8;
 use wing_node::value::Value;
-use wing_wire::state::zeros_from;
+use wing_wire::state::{State, zeros_from};
+
+// 01: a place is 264 bytes.
+pub(crate) type Record = [u8; State::PLACE_WIDTH];
 
 // Signed order as the order of numbers: the top bit the other way.
 fn flip(bits: u32) -> u32
@@ -29,16 +32,14 @@ pub(crate) fn rank(id: i32) -> u32
 }
 
 // Where a record stands in the order: its id is its first four bytes.
-pub(crate) fn key(rec: &[u8]) -> u32
-    requires { 4 ≤ length rec.now }
+pub(crate) fn key(rec: &Record) -> u32
     ensures { result ≡ key_of rec.now }
 {
     flip(field::u32_at(rec, 0))
 }
 
 // 01: the payload, 256 bytes.
-pub(crate) fn payload(rec: &[u8]) -> &[u8]
-    requires { length rec.now ≡ width }
+pub(crate) fn payload(rec: &Record) -> &[u8]
     ensures { result.now ≡ payload_in rec.now }
 {
     &rec[8..]
@@ -66,24 +67,21 @@ fn well_kept(kind: u8, n: u16, payload: &[u8]) -> bool
     }
 }
 
-pub(crate) fn well_formed(rec: &[u8]) -> bool
-    requires { length rec.now ≡ width }
+pub(crate) fn well_formed(rec: &Record) -> bool
     ensures { result ≡ well_formed rec.now }
 {
     let origin = rec[5];
     origin <= 1 && well_kept(rec[4], field::u16_at(rec, 6), payload(rec))
 }
 
-pub(crate) fn id_in(rec: &[u8]) -> i32
-    requires { length rec.now ≡ width }
+pub(crate) fn id_in(rec: &Record) -> i32
     ensures { result ≡ id_in rec.now }
 {
     field::i32_at(rec, 0)
 }
 
 // Its value, whatever its form. A string's bytes stand in the payload, as many as its length.
-pub(crate) fn value_in(rec: &[u8]) -> Value
-    requires { length rec.now ≡ width }
+pub(crate) fn value_in(rec: &Record) -> Value
     ensures { node_value result (payload_in rec.now) ≡ value_in rec.now }
 {
     match rec[4] {
@@ -94,8 +92,7 @@ pub(crate) fn value_in(rec: &[u8]) -> Value
 }
 
 // 02: who gave its value.
-pub(crate) fn origin_in(rec: &[u8]) -> Origin
-    requires { length rec.now ≡ width }
+pub(crate) fn origin_in(rec: &Record) -> Origin
     ensures { result ≡ origin_of (origin_byte rec.now) }
 {
     if rec[5] == 0 {
@@ -105,8 +102,7 @@ pub(crate) fn origin_in(rec: &[u8]) -> Origin
 }
 
 // Kind, length and payload of a number.
-fn lay_number(out: &mut [u8], kind: u8, bits: u32)
-    requires { length out.old ≡ width }
+fn lay_number(out: &mut Record, kind: u8, bits: u32)
     ensures { out.new ≡ laid_from out.old kind (bytes_of 4 bits) }
 {
     out[4] = kind;
@@ -115,8 +111,8 @@ fn lay_number(out: &mut [u8], kind: u8, bits: u32)
 }
 
 // Kind, length and payload of a string, the first n of the bytes lent.
-fn lay_string(out: &mut [u8], string: &[u8], n: u16)
-    requires { (length out.old ≡ width) × (length (take n string.now) ≤ 256) }
+fn lay_string(out: &mut Record, string: &[u8], n: u16)
+    requires { length (take n string.now) ≤ 256 }
     ensures { out.new ≡ laid_from out.old 2 (take n string.now) }
 {
     let len = field::least(n as usize, string.len());
@@ -126,23 +122,24 @@ fn lay_string(out: &mut [u8], string: &[u8], n: u16)
 }
 
 // The id and, by 02, the origin.
-fn lay_head(out: &mut [u8], id: i32, origin: Origin)
-    requires { length out.old ≡ width }
+fn lay_head(out: &mut Record, id: i32, origin: Origin)
     ensures { out.new ≡ head_from out.old id origin }
 {
     field::put_i32(out, 0, id);
     out[5] = origin::number(origin);
 }
 
-// The record of an id, a value and its origin, laid over zeros; a string's bytes stand beside its length.
-pub(crate) fn lay_record(out: &mut [u8], id: i32, value: Value, string: &[u8], origin: Origin)
-    requires { (out.old ≡ replicate width 0) × (too_long (node_value value string.now) ≡ false) }
-    ensures { out.new ≡ record_of (entry id (node_value value string.now) origin) }
+// The record of an id, a value and its origin; a string's bytes stand beside its length.
+pub(crate) fn record_of(id: i32, value: Value, string: &[u8], origin: Origin) -> Record
+    requires { too_long (node_value value string.now) ≡ false }
+    ensures { result ≡ record_of (entry id (node_value value string.now) origin) }
 {
-    lay_head(out, id, origin);
+    let mut out = [0u8; State::PLACE_WIDTH];
+    lay_head(&mut out, id, origin);
     match value {
-        Value::Integer(x) => lay_number(out, 0, field::of_i32(x)),
-        Value::Float(bits) => lay_number(out, 1, bits),
-        Value::String(n) => lay_string(out, string, n),
+        Value::Integer(x) => lay_number(&mut out, 0, field::of_i32(x)),
+        Value::Float(bits) => lay_number(&mut out, 1, bits),
+        Value::String(n) => lay_string(&mut out, string, n),
     }
+    out
 }

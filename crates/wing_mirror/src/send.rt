@@ -6,9 +6,9 @@ ghost use Rattle.wing_wire.specs.Command.{set_bytes};
 ghost use Rattle.wing_mirror.specs.Entry.{storable};
 
 use wing_node::field::least;
+use wing_node::refusal::Refusal;
 use wing_node::value::Value;
 use wing_wire::set;
-use wing_node::refusal::Refusal;
 
 // The command of a value; a string's bytes stand beside its length.
 pub(crate) fn send(out: &mut [u8], id: i32, value: Value, string: &[u8]) -> Result<usize, Refusal>

@@ -1,9 +1,9 @@
 // Set through the mirror: the command is written and the value stored. 01: 7, 10, 1, 6, 9; refused, all is as it was.
-ghost use Rattle.std.specs.Prelude.{◌≡◌, true, length};
+ghost use Rattle.std.specs.Prelude.{◌≡◌, true};
 ghost use Rattle.wing_node.specs.Bool.{if};
 ghost use Rattle.wing_node.specs.Value.{integer, float, string as string_of, node_value};
 ghost use Rattle.wing_mirror.specs.Entry.{storable};
-ghost use Rattle.wing_mirror.specs.Record.{width, full};
+ghost use Rattle.wing_mirror.specs.Record.{full};
 ghost use Rattle.wing_mirror.specs.Table.{table as table_of, usable};
 ghost use Rattle.wing_mirror.specs.Mirror.{mirror_set, set_effect};
 ghost use Rattle.wing_mirror.specs.Sets.{replied, kept_of, refused_set_reply};
@@ -11,13 +11,12 @@ ghost use Rattle.wing_node.specs.declared.refusal.Refusal.TheVariants.{TableUnso
 
 use crate::answer::SetReply;
 use crate::origin::Origin;
-use crate::record::lay_record;
+use crate::record::{Record, record_of};
 use crate::send::send;
 use crate::store::{has_room, put};
 use crate::table::is_usable;
 use wing_node::refusal::{Refusal, string_fault};
 use wing_node::value::Value;
-use wing_wire::state::State;
 
 fn refused(why: Refusal, count: usize) -> SetReply
     ensures { result ≡ refused_set_reply why count }
@@ -29,14 +28,19 @@ fn refused(why: Refusal, count: usize) -> SetReply
 }
 
 // Stored if its command was written.
-fn keep_written(table: &mut [u8], count: usize, rec: &[u8], written: Result<usize, Refusal>) -> SetReply
-    requires { (usable full (table_of table.old count) ≡ true) × (length rec.now ≡ width) }
+fn keep_written(
+    table: &mut [u8],
+    count: usize,
+    rec: &Record,
+    written: Result<usize, Refusal>,
+) -> SetReply
+    requires { usable full (table_of table.old count) ≡ true }
     ensures { replied result table.new ≡ kept_of full written rec.now (table_of table.old count) }
 {
     match written {
         Ok(n) => SetReply {
             answer: Ok(n),
-            count: put(table, State::PLACE_WIDTH, count, rec).unwrap_or(count),
+            count: put(table, count, rec).unwrap_or(count),
         },
         Err(why) => refused(why, count),
     }
@@ -55,12 +59,10 @@ fn set_value(
     ensures { set_effect result out.new table.new ≡ mirror_set full id (node_value value string.now) (table_of table.old count) out.old }
 {
     if is_usable(table, count) {
-        let mut rec = [0u8; State::PLACE_WIDTH];
-        lay_record(&mut rec, id, value, string, Origin::SetOrder);
-        let laid: &[u8] = &rec;
-        if has_room(table, State::PLACE_WIDTH, count, laid) {
+        let rec = record_of(id, value, string, Origin::SetOrder);
+        if has_room(table, count, &rec) {
             let written = send(out, id, value, string);
-            return keep_written(table, count, laid, written);
+            return keep_written(table, count, &rec, written);
         }
         return refused(Refusal::NoPlace, count);
     }

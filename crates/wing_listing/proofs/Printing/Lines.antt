@@ -4,9 +4,8 @@ use mathlib.Core.Bool.{true, false}
 use mathlib.Core.Path.{◌≡◌, ◌∙◌, ap}
 use mathlib.Core.List.{List, [], ◌++◌}
 use native.Mathlib.Omega.{arith}
-use native.Mathlib.Numerals.{add-one}
-use lib.ListN.{length, drop, get_or, set, length-append}
-use lib.Seq.{sets, drop-cons}
+use lib.ListN.{length, length-append}
+use lib.Seq.{sets}
 use Rattle.wing_node.specs.Bytes.{joined}
 use Rattle.wing_wire.specs.Write.{write_effect, write_of}
 use Rattle.wing_mirror.specs.Rows.{Table, records}
@@ -23,10 +22,6 @@ use Rattle.wing_listing.specs.Calls.{print_of}
 use Rattle.wing_listing.proofs.Printing.Values.{line-le}
 use Rattle.wing_node.specs.declared.refusal.Refusal.TheVariants.{TableUnsound}
 use Rattle.std.specs.Prelude.{Err}
-
--- a turn of a loop that lays bytes from the front on
-pub lay-next : (out s : List ℕ) (i : ℕ) → i < length s → sets (set out i (get_or s i 0)) (i + 1) (drop (i + 1) s) ≡ sets out i (drop i s)
-lay-next out s i h = rw (add-one i, drop-cons s i 0 h)
 
 -- ---- the records one by one
 

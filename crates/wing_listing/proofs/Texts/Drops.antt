@@ -4,14 +4,12 @@ use mathlib.Core.Path.{◌≡◌, refl, ◌∙◌, ap}
 use mathlib.Core.Bool.{Bool, true, false, ◌&&◌}
 use mathlib.Core.List.{List, [], ◌∷◌}
 use native.Mathlib.Omega.{arith}
-use lib.Dec.{eqb}
 use lib.ListN.{length, get_or, take, drop, length-drop}
 use lib.Seq.{drop-cons, take_all}
 use Rattle.std.specs.List.{list_all}
 use Rattle.wing_node.specs.Bool.{if}
 use Rattle.wing_node.proofs.Branches.{if-both}
 use Rattle.wing_mirror.specs.Table.{every}
-use Rattle.wing_mirror.specs.Query.{same_bytes}
 
 pub drop-next : (s : List ℕ) (i : ℕ) → i < length s → drop i s ≡ get_or s i 0 ∷ drop (i + 1) s
 drop-next s i h = drop-cons s i 0 h ∙ ap (λ j. get_or s i 0 ∷ drop j s) (sym-one i)
@@ -50,15 +48,3 @@ every-also p q (a ∷ s) f e = let d = if-both (p a) (every p s) e in rw (f a d.
 -- a slice from a place to the end
 pub rest-whole : (s : List ℕ) (k : ℕ) → take (length s - k) (drop k s) ≡ drop k s
 rest-whole s k = take_all (length s - k) (drop k s) (omega (arith, length-drop k s))
-
--- texts of other lengths are not the same
-pub bytes-other : (a b : List ℕ) → (length a ≡ length b → ⊥) → same_bytes a b ≡ false
-unfolding same_bytes
-bytes-other [] [] h = absurd (h refl)
-bytes-other [] (y ∷ b) h = refl
-bytes-other (x ∷ a) [] h = refl
-bytes-other (x ∷ a) (y ∷ b) h = go (eqb x y) (bytes-other a b (λ e. h (ap suc e)))
-  where
-    go : (t : Bool) → same_bytes a b ≡ false → if t (same_bytes a b) false ≡ false
-    go true e = e
-    go false e = refl

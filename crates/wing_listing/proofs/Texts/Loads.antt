@@ -1,27 +1,23 @@
 -- A load by its steps: what is wrong with the text, the records laid, the answer.
 use Prim.Native.Nat.{ℕ, ◌*◌, ◌/◌, ◌≤◌}
-use mathlib.Core.Path.{◌≡◌, ap, ap₂, ◌∙◌, sym, refl}
-use mathlib.Core.List.{List, [], map}
+use mathlib.Core.Path.{◌≡◌, ap, ◌∙◌, sym, refl}
+use mathlib.Core.List.{List, map}
 use native.Mathlib.Omega.{arith}
 use native.Mathlib.Nat.{mul-div-le, mul-le-mul_left}
-use borrow.Author.Tests.{leb-true, le-leb}
+use borrow.Author.Tests.{leb-true}
 use lib.Dec.{leb}
 use lib.ListN.{length, take}
 use lib.Seq.{take-length}
-use Rattle.wing_node.specs.declared.refusal.Refusal.{Refusal}
 use Rattle.wing_wire.specs.State.{fresh_state}
 use Rattle.wing_wire.specs.declared.state.State.{State}
 use Rattle.wing_mirror.specs.Rows.{laid}
 use Rattle.wing_mirror.specs.Entry.{Entry}
 use Rattle.wing_mirror.specs.Record.{width, record_of}
 use Rattle.wing_mirror.specs.Table.{places_allowed}
-use Rattle.wing_mirror.proofs.Tables.Chunks.{laid_nil}
 use Rattle.wing_listing.specs.Reading.{Reading, good, bad, reading_of, entries_in}
-use Rattle.wing_listing.specs.Steps.{scanned_bad, scanned_as, fitting, checked_as}
-use Rattle.wing_listing.specs.Calls.{LoadEffect, load_effect, reply_of, sent_back, load_entries, load_read, load_of}
-use Rattle.wing_listing.specs.declared.answer.LoadReply.{LoadReply}
+use Rattle.wing_listing.specs.Steps.{scanned_as, fitting, checked_as}
+use Rattle.wing_listing.specs.Calls.{LoadEffect, load_effect, reply_of, load_entries, load_read, load_of}
 use Rattle.wing_listing.proofs.Texts.Numbers.{by-test}
-use Rattle.wing_node.specs.declared.refusal.Refusal.TheVariants.{NoPlace, NumberOver, TableUnsound}
 use Rattle.std.specs.Prelude.{Err, Ok, is_ok}
 use Rattle.wing_listing.specs.Answers.{Loaded}
 use mathlib.Core.Bool.{true≢false}

@@ -18,8 +18,8 @@ use Rattle.wing_node.proofs.Branches.{branch, if-both, and_left, and_right}
 use Rattle.wing_node.proofs.Numerals.Spelled.{digits-small, digits_more, length_some, length-small, no-leading-zero, read_back}
 use Rattle.wing_mirror.specs.Table.{every}
 use Rattle.wing_listing.specs.Integers.{is_digit, first, no_leading_zero, is_natural, is_signed, fits32, is_integer}
-use Rattle.wing_listing.specs.Steps.{number_up_to, read_as, not_read, natural_read, negative_read, integer_read}
-use Rattle.wing_listing.specs.declared.integer.IntegerRead.{IntegerRead}
+use Rattle.wing_listing.specs.Steps.{number_up_to, read_as, natural_read, negative_read, integer_read}
+use Rattle.std.proofs.Common.{Option, Some, None}
 
 -- ---- tests
 
@@ -156,17 +156,17 @@ unfolding number_up_to
 up-most s n h k e = let w : n < min (number_spelled s) 0x100000000 = rw e at k in omega arith
 
 module _ (s : List ℕ) where
-  pub natural-good : no_leading_zero s ≡ true → number_up_to s < 0x80000000 → ◌≡◌ {A = IntegerRead} (record { formed = true; value = signed 31 (number_up_to s) }) (natural_read s)
+  pub natural-good : no_leading_zero s ≡ true → number_up_to s < 0x80000000 → ◌≡◌ {A = Option ℤ} (Some (signed 31 (number_up_to s))) (natural_read s)
   unfolding natural_read is_natural
   natural-good l h =
       let u = up-some s (omega arith) in
       rw (l, u.0, u.1, lt-ltb (number_spelled s) 0x80000000 (omega (arith, u.1)))
 
-  pub natural-led : no_leading_zero s ≡ false → not_read ≡ natural_read s
+  pub natural-led : no_leading_zero s ≡ false → ◌≡◌ {A = Option ℤ} None (natural_read s)
   unfolding natural_read is_natural
   natural-led l = rw l
 
-  pub natural-large : 0x80000000 ≤ number_up_to s → not_read ≡ natural_read s
+  pub natural-large : 0x80000000 ≤ number_up_to s → ◌≡◌ {A = Option ℤ} None (natural_read s)
   unfolding natural_read
   natural-large h =
       ap (λ t. read_as t (pos (number_spelled s))) {x = false} {y = and (is_natural s) (ltb (number_spelled s) 0x80000000)}
@@ -187,7 +187,7 @@ module _ (s : List ℕ) where
       )
 
   pub negative-good : 0 < length s → (first s ≡ 0x30 → ⊥) → number_up_to s ≤ 0x80000000 →
-      (0 < number_up_to s) × ◌≡◌ {A = IntegerRead} (record { formed = true; value = signed 31 (0x100000000 - number_up_to s) }) (negative_read s)
+      (0 < number_up_to s) × ◌≡◌ {A = Option ℤ} (Some (signed 31 (0x100000000 - number_up_to s))) (negative_read s)
   unfolding negative_read is_natural
   negative-good p z h =
       let u = up-some s (omega arith) in
@@ -195,15 +195,15 @@ module _ (s : List ℕ) where
       let w : signed 31 (0x100000000 - number_up_to s) ≡ neg_ℤ (pos (number_spelled s)) = negated (number_up_to s) (number_spelled s) u.1 o.1 (omega (arith, u.1)) in
       (omega (arith, u.1, o.1), rw (ne_eqb (first s) 0x30 z, o.0, u.0, le-leb (number_spelled s) 0x80000000 (omega (arith, u.1)), w))
 
-  pub negative-none : length s ≡ 0 → not_read ≡ negative_read s
+  pub negative-none : length s ≡ 0 → ◌≡◌ {A = Option ℤ} None (negative_read s)
   unfolding negative_read is_natural no_leading_zero
   negative-none e = rw (lt-leb 1 (length s) (omega arith)) (ap (λ t. read_as (and t (leb (number_spelled s) 0x80000000)) (neg_ℤ (pos (number_spelled s)))) (sym (and-false (not (eqb (first s) 0x30)))))
 
-  pub negative-zero : first s ≡ 0x30 → not_read ≡ negative_read s
+  pub negative-zero : first s ≡ 0x30 → ◌≡◌ {A = Option ℤ} None (negative_read s)
   unfolding negative_read
   negative-zero e = rw (eq-eqb (first s) 0x30 e)
 
-  pub negative-large : 0x80000000 < number_up_to s → not_read ≡ negative_read s
+  pub negative-large : 0x80000000 < number_up_to s → ◌≡◌ {A = Option ℤ} None (negative_read s)
   unfolding negative_read
   negative-large h =
       ap (λ t. read_as t (neg_ℤ (pos (number_spelled s)))) {x = false} {y = and (and (not (eqb (first s) 0x30)) (is_natural s)) (leb (number_spelled s) 0x80000000)}

@@ -15,13 +15,13 @@ use Rattle.wing_mirror.specs.Rows.{Found, found, nothing}
 use Rattle.wing_mirror.specs.Entry.{Entry}
 use Rattle.wing_mirror.specs.Query.{same_bytes}
 use Rattle.wing_mirror.proofs.Records.Equals.{bytes-true}
-use Rattle.wing_listing.specs.Parts.{newline, comma, parted, part}
+use Rattle.wing_listing.specs.Parts.{newline, parted, part}
 use Rattle.wing_listing.specs.Listing.{header}
 use Rattle.wing_listing.specs.Reading.{is_line, id_said, entry_said, above, value_fault, line_fault, Reading, good, bad, after, unless_bad, lines_from, after_header, reading_of, entries_in}
-use Rattle.wing_listing.specs.Steps.{integer_read, scanned_bad, scanned_as}
+use Rattle.wing_listing.specs.Steps.{scanned_bad, scanned_as}
 use Rattle.wing_listing.proofs.Texts.Numbers.{by-test}
 use Rattle.wing_listing.proofs.Texts.Parts.{parted-some, parted-hit, parted-whole}
-use Rattle.wing_listing.proofs.Texts.Lines.{true-false, formed-id}
+use Rattle.wing_listing.proofs.Texts.Lines.{true-false}
 use Rattle.wing_node.specs.declared.refusal.Refusal.TheVariants.{LineWrong}
 use Rattle.std.specs.Prelude.{Ok, Err}
 use Rattle.wing_listing.specs.Answers.{Loaded}
@@ -44,10 +44,6 @@ module _ (before : Found ℤ) (line : List ℕ) (e : line_fault before line ≡ 
   pub faultless-value : value_fault (entry_said line).value ≡ no_fault
   unfolding line_fault
   faultless-value = rw (faultless-line, faultless-id) at e
-
-pub read-id : (line : List ℕ) → is_line line ≡ true → (integer_read (part comma 0 line)).value ≡ id_said line
-unfolding integer_read
-read-id line e = rw (formed-id line e)
 
 -- ---- the reading of lines
 

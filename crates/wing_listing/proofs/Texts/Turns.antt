@@ -4,9 +4,10 @@ use mathlib.Core.Bool.{Bool, true, false}
 use mathlib.Core.Path.{◌≡◌, sym, ap, ap₂, ◌∙◌}
 use mathlib.Core.List.{List}
 use native.Mathlib.Omega.{arith}
-use borrow.Author.Tests.{ltb-true, ltb-false, lt-ltb}
+use borrow.Author.Tests.{ltb-true, ltb-false}
 use mir.Syntax.{w32}
 use mir.Val.{to_z, of_z}
+use Rattle.std.proofs.Common.{Some}
 use lib.Dec.{ltb}
 use lib.IntN.{ℤ}
 use lib.ListN.{length, take, drop, length-drop}
@@ -17,15 +18,15 @@ use Rattle.wing_node.specs.Bool.{if}
 use Rattle.wing_mirror.specs.Rows.{Found, found, nothing}
 use Rattle.wing_mirror.specs.Query.{same_bytes}
 use Rattle.wing_listing.specs.Listing.{header}
-use Rattle.wing_listing.specs.Parts.{newline, comma, parted, part}
+use Rattle.wing_listing.specs.Parts.{newline, parted, part}
 use Rattle.wing_listing.specs.Reading.{id_said, entry_said, line_fault, bad, after, unless_bad, lines_from, reading_of}
-use Rattle.wing_listing.specs.Steps.{integer_read, id_before, judged_as}
+use Rattle.wing_listing.specs.Steps.{id_before, judged_as}
 use Rattle.wing_listing.specs.declared.line.Judged.{Judged}
 use Rattle.wing_listing.proofs.Texts.Drops.{rest-whole}
 use Rattle.wing_listing.proofs.Texts.Numbers.{by-test}
 use Rattle.wing_listing.proofs.Texts.Parts.{front-le, front-take}
-use Rattle.wing_listing.proofs.Texts.Reads.{read-passed}
-use Rattle.wing_listing.proofs.Texts.Scans.{read-id, faultless-line, lines-unended, lines_next, header-none, header-next, counted, counted_next}
+use Rattle.wing_listing.proofs.Texts.Reads.{said-passed}
+use Rattle.wing_listing.proofs.Texts.Scans.{faultless-line, lines-unended, lines_next, header-none, header-next, counted, counted_next}
 use Rattle.wing_node.specs.declared.refusal.Refusal.TheVariants.{LineWrong}
 use Rattle.wing_listing.specs.Answers.{Loaded}
 
@@ -71,14 +72,14 @@ module _ (text : List ℕ) (at k : ℕ) (f : k ≡ length (part newline 0 (take 
     -- a good one, counted
     pub turn-again : (n : ℕ) (before : Found ℤ) (x : ℤ) (whole : Loaded) → 2 ≤ n → line_fault before line ≡ no_fault → x ≡ id_said line →
         counted (n - 2) (lines_from n before (parted newline (drop at text))) ≡ whole →
-        counted (n + 1 - 2) (lines_from (n + 1) (id_before (ltb 2 (n + 1)) x) (parted newline (drop (at + k + 1) text))) ≡ whole
+        counted (n + 1 - 2) (lines_from (n + 1) (id_before (Some x)) (parted newline (drop (at + k + 1) text))) ≡ whole
     unfolding id_before
     turn-again n before x whole two e i w =
         let m : suc n ≡ n + 1 = omega arith in
         let c : n - 2 + 1 ≡ n + 1 - 2 = omega arith in
         let r : lines_from n before (parted newline (drop at text)) ≡ after (entry_said line) (lines_from (suc n) (found (id_said line)) (parted newline (drop (at + k + 1) text))) =
         turn-next n before ∙ ap (λ x. unless_bad x n (after (entry_said line) (lines_from (suc n) (found (id_said line)) (parted newline (drop (at + k + 1) text))))) e in
-        rw (lt-ltb 2 (n + 1) (omega arith), i)
+        rw i
         (sym (ap (counted (n - 2)) r ∙ counted_next (n - 2) (entry_said line) (lines_from (suc n) (found (id_said line)) (parted newline (drop (at + k + 1) text))) ∙
         ap₂ (λ a b. counted a (lines_from b (found (id_said line)) (parted newline (drop (at + k + 1) text)))) c m) ∙ w)
 
@@ -91,8 +92,9 @@ module _ (before : Found ℤ) (s line : List ℕ) (j : Judged) (e : j ≡ judged
   pub judged-id : j.fault ≡ no_fault → to_z w32 (of_z w32 j.id) ≡ id_said line
   unfolding judged_as
   judged-id z =
-      read-passed (part comma 0 line) j.id (ap (λ (x : Judged). x.id) e ∙ ap (λ (t : List ℕ). (integer_read (part comma 0 t)).value) same) ∙
-      read-id line (faultless-line before line (sym judged-why ∙ z))
+      let formed = faultless-line before line (sym judged-why ∙ z) in
+      let said : (judged_as before line).id ≡ id_said line = rw formed in
+      said-passed line j.id formed (ap (λ (x : Judged). x.id) e ∙ ap (λ (t : List ℕ). (judged_as before t).id) same ∙ said)
 
 -- the header, by the place of the first newline
 module _ (text : List ℕ) (n : ℕ) (f : n ≡ length (part newline 0 text)) where

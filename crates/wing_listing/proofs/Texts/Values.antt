@@ -23,27 +23,39 @@ use Rattle.wing_listing.specs.Integers.{is_signed, fits32, is_integer}
 use Rattle.wing_listing.specs.Hex.{are_pairs, from_pairs}
 use Rattle.wing_listing.specs.Reading.{is_value, value_said, value_fault}
 use Rattle.wing_listing.specs.Steps.{integer_read}
-use Rattle.wing_listing.specs.declared.integer.IntegerRead.{IntegerRead}
+use Rattle.std.proofs.Common.{Some}
+use Rattle.std.specs.Option.{is_some, IsSome}
+use lib.IntN.{ℤ}
 use Rattle.wing_listing.proofs.Texts.Numbers.{by-test}
 use Rattle.wing_listing.proofs.Texts.Hexes.{length_from, pairs-hex}
 use Rattle.wing_node.specs.declared.refusal.Refusal.TheVariants.{StringLong}
 
 -- ---- integers
 
-pub read-formed : (s : List ℕ) → (integer_read s).formed ≡ is_integer s
+pub read-formed : (s : List ℕ) → is_some (integer_read s) ≡ is_integer s
 unfolding integer_read
 read-formed s = by-test (is_integer s) (λ t. rw t) (λ t. rw t)
 
-pub read-value : (s : List ℕ) → is_integer s ≡ true → (integer_read s).value ≡ integer_of s
+pub read-value : (s : List ℕ) → is_integer s ≡ true → integer_read s ≡ Some (integer_of s)
 unfolding integer_read
 read-value s e = rw e
 
--- as an argument of a call it is the same
-pub read-passed : (x : IntegerRead) (s : List ℕ) → x ≡ integer_read s → is_integer s ≡ true → to_z w32 (of_z w32 x.value) ≡ integer_of s
+-- what was read is in form
+pub read_is : (s : List ℕ) (x : ℤ) → Some x ≡ integer_read s → (is_integer s ≡ true) × (x ≡ integer_of s)
+unfolding integer_read
+read_is s x = by-test (is_integer s) (λ t. rw t (λ e. (refl, cc))) (λ t. rw t (λ e. cc))
+
+-- an integer in form is within its type
+pub integer-passed : (s : List ℕ) → is_integer s ≡ true → to_z w32 (of_z w32 (integer_of s)) ≡ integer_of s
 unfolding is_integer fits32
-read-passed x s r e =
-    let v : x.value ≡ integer_of s = ap (λ y. y.value) r ∙ read-value s e in
-    rw v (to_z-of_z {w = w32} (record { sfits = ltb-true (mag (integer_of s)) (2 ^ 31) (and_right (is_signed s) (fits32 (integer_of s)) e) }))
+integer-passed s e = to_z-of_z {w = w32} (record { sfits = ltb-true (mag (integer_of s)) (2 ^ 31) (and_right (is_signed s) (fits32 (integer_of s)) e) })
+
+pub integer-some : (s : List ℕ) → is_integer s ≡ true → IsSome (integer_read s)
+integer-some s e = rw (read-value s e)
+
+-- as an argument of a call it is the same
+pub read-passed : (x : ℤ) (s : List ℕ) → Some x ≡ integer_read s → to_z w32 (of_z w32 x) ≡ integer_of s
+read-passed x s r = let v = read_is s x r in rw v.1 (integer-passed s v.0)
 
 -- ---- what is wrong
 

@@ -6,6 +6,7 @@ use native.Mathlib.Omega.{arith}
 use native.Mathlib.Nat.{mul-suc, mul-zero, mul-le-mul_left}
 use lib.ListN.{length, take, drop, length-append, length-drop, take-append-drop}
 use lib.Seq.{take_at, drop_at, drop-drop, length-take-le, drop-append-add, take-add}
+use Rattle.std.specs.Simd.{first_chunks}
 use Rattle.wing_node.specs.Bytes.{joined}
 use Rattle.wing_mirror.specs.Rows.{row, records, laid, All}
 
@@ -77,3 +78,9 @@ module _ (w : ℕ) where
   pub laid-own : (n : ℕ) (buf : List ℕ) → laid w (records w n buf) buf ≡ buf
   unfolding laid
   laid-own n buf = rw (joined-records n buf, length-records n buf) (take-append-drop (w * n) buf)
+
+-- as the library cuts them
+pub chunks-records : (w n : ℕ) (buf : List ℕ) → first_chunks w n buf ≡ records w n buf
+unfolding records
+chunks-records w zero buf = refl
+chunks-records w (suc n) buf = ap (λ (rs : List (List ℕ)). take w buf ∷ rs) (chunks-records w n (drop w buf))

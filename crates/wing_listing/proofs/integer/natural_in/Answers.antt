@@ -4,7 +4,6 @@ use native.Mathlib.Omega.{arith}
 use Rattle.wing_listing.proofs.Printing.Values.{signed-passed}
 use Rattle.wing_listing.proofs.Texts.Numbers.{natural-good, natural-led, natural-large}
 use Rattle.wing_listing.proofs.integer.natural_in.Goals as goal
-use Rattle.wing_listing.proofs.integer.natural_in.Goals.{then-is_led+else-n-lt2147483648, else-is_led}
 
 pub returns-then-n-lt2147483648 : goal.returns-then-n-lt2147483648
 returns-then-n-lt2147483648 c =
@@ -12,10 +11,8 @@ returns-then-n-lt2147483648 c =
     let l = sym c.is_led.ensures ∙ c.if-is_led.true in
     rw (signed-passed c.to_i32.result c.number_in-n.result c.to_i32.ensures, c.to_i32.ensures, c.number_in-n.ensures) (natural-good s l (omega (arith, c.number_in-n.ensures, c.if-n-lt2147483648.true)))
 
-pub returns : goal.returns
-returns c =
-    let s = c.args.s.now in
-    c.not_read.ensures ∙ elim c.if-is_led.branch [
-      | then-is_led+else-n-lt2147483648 w ↦ natural-large s (omega (arith, w.number_in-n.ensures))
-      | else-is_led w ↦ natural-led s (sym c.is_led.ensures ∙ w.if-is_led.false)
-    ]
+pub returns-else-n-lt2147483648 : goal.returns-else-n-lt2147483648
+returns-else-n-lt2147483648 c = natural-large c.args.s.now (omega (arith, c.number_in-n.ensures))
+
+pub returns-else-is_led : goal.returns-else-is_led
+returns-else-is_led c = natural-led c.args.s.now (sym c.is_led.ensures ∙ c.if-is_led.false)

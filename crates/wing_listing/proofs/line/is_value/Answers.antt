@@ -1,5 +1,7 @@
 -- Each return is a side of `is_value`.
-use mathlib.Core.Path.{ap, ◌∙◌}
+use mathlib.Core.Path.{◌≡◌, ap, ◌∙◌}
+use borrow.Author.Rules.{rules}
+use Rattle.std.specs.Option.{is_some}
 use borrow.Author.Tests.{eq-eqb, ne_eqb}
 use Rattle.wing_listing.specs.Reading.{is_value}
 use Rattle.wing_listing.proofs.Texts.Values.{read-formed}
@@ -7,7 +9,9 @@ use Rattle.wing_listing.proofs.line.is_value.Goals as goal
 
 pub returns-then-kind-eq105 : goal.returns-then-kind-eq105
 unfolding is_value
-returns-then-kind-eq105 c = simp (eq-eqb _ _ c.if-kind-eq105.true) (ap (λ r. r.formed) c.integer_in-x.ensures ∙ read-formed c.args.s.now)
+returns-then-kind-eq105 c =
+    let some : c.is_some.result ≡ is_some c.integer_in.result = search rules in
+    simp (eq-eqb _ _ c.if-kind-eq105.true) (some ∙ ap is_some c.integer_in.ensures ∙ read-formed c.args.s.now)
 
 pub returns-then-s-eq8 : goal.returns-then-s-eq8
 unfolding is_value

@@ -1,6 +1,5 @@
 -- `check` says what is wrong or how many records there are, `lay_lines` lays as many, and the steps together are `load_of` (Texts/Loads).
 use mathlib.Core.Path.{sym, ap, ◌∙◌}
-use native.Mathlib.Omega.{arith}
 use lib.ListN.{length}
 use Rattle.wing_mirror.specs.Record.{width}
 use Rattle.wing_listing.specs.Steps.{checked_as}
@@ -21,6 +20,6 @@ returns c =
     let memory = c.args.table.now in
     let e = c.check-answer.ensures ∙ ap (checked_as text) c.places.ensures in
     elim c.match-answer.branch [
-      in-Ok w ↦ load-done text memory _ _ _ (w.answer-is ∙ sym w.in-Ok.is ∙ e) c.fresh.ensures (laid-leaves memory _ _ _ _ w.answer-is (w.table-is ∙ w.lay_lines.ensures))
-    | in-Err w ↦ load-done text memory _ _ _ (w.answer-is ∙ e) c.fresh.ensures (back-leaves memory _ _ _ _ (w.answer-is ∙ w.in-Err.is) w.table-is)
+      | in-Ok w ↦ load-done text memory _ _ _ (w.answer-is ∙ sym w.in-Ok.is ∙ e) c.fresh.ensures (laid-leaves memory _ _ _ _ w.answer-is (w.table-is ∙ w.lay_lines.ensures))
+      | in-Err w ↦ load-done text memory _ _ _ (w.answer-is ∙ e) c.fresh.ensures (back-leaves memory _ _ _ _ (w.answer-is ∙ w.in-Err.is) w.table-is)
     ]

@@ -1,11 +1,12 @@
 -- The stores are those of `laid_from` in order: of an integer (`integer-said`), or of the bytes that pairs say (`pairs-said`).
 use Prim.Native.Nat.{◌/◌}
+use mathlib.Core.Path.{sym, ◌∙◌}
 use native.Mathlib.Omega.{arith}
 use borrow.Author.Rules.{rules}
 use lib.ListN.{length, set, length-set}
 use Rattle.wing_node.proofs.Numerals.Placed.{field-sets}
 use Rattle.wing_listing.proofs.Texts.Hexes.{length_from}
-use Rattle.wing_listing.proofs.Texts.Values.{value-integer, read-passed}
+use Rattle.wing_listing.proofs.Texts.Values.{value-integer, integer-some, read-passed}
 use Rattle.wing_listing.proofs.Texts.Places.{said, pairs-said, integer-said}
 use Rattle.wing_listing.proofs.place.lay_said.Goals as goal
 
@@ -15,6 +16,10 @@ overflow_cast-s c =
     let g = said c.args.kind s c.if-kind-eq105.false c.requires.0 c.requires.1 in
     let l = length_from s in
     search rules
+
+pub unwrap-x-requires : goal.unwrap-x-requires
+unwrap-x-requires c =
+    rw c.integer_in.ensures (integer-some c.args.s.now (value-integer c.args.kind c.args.s.now c.if-kind-eq105.true c.requires.0))
 
 pub lay_bytes-requires : goal.lay_bytes-requires
 lay_bytes-requires c =
@@ -31,7 +36,7 @@ returns-then-kind-eq105 c =
     let l = length-set o 4 0 in
     let mid = c.put_u16.new.out in
     let last = c.put_i32.new.out in
-    integer-said k s o mid last i _ (read-passed c.integer_in-x.result s c.integer_in-x.ensures (value-integer k s i c.requires.0))
+    integer-said k s o mid last i _ (read-passed c.unwrap-x.result s (sym c.unwrap-x.ensures ∙ c.integer_in.ensures))
     (field-sets 2 4 6 (set o 4 0) mid _ (omega arith) (omega (arith, c.told-out)) c.put_u16.ensures)
     (field-sets 4 _ 8 mid last _ (omega arith) (omega (arith, c.told-out, c.put_u16.auto.out)) c.put_i32.ensures)
 

@@ -9,34 +9,38 @@ use Rattle.wing_node.specs.Value.{NodeValue}
 use Rattle.wing_mirror.specs.Record.{kind_of, payload_of, laid_from}
 use Rattle.wing_mirror.specs.declared.origin.Origin.TheVariants.{Console}
 use Rattle.wing_mirror.proofs.Tables.Laying.{record-laid}
-use Rattle.wing_listing.specs.Parts.{comma, part}
 use Rattle.wing_listing.specs.Reading.{id_said, entry_said, value_fault}
-use Rattle.wing_listing.proofs.Texts.Reads.{read-passed}
-use Rattle.wing_listing.proofs.Texts.Scans.{read-id}
+use Rattle.wing_listing.specs.Steps.{LineSays}
+use Rattle.wing_listing.proofs.Texts.Reads.{said-passed}
 use Rattle.wing_listing.proofs.Texts.Places.{console-head}
-use Rattle.wing_listing.proofs.Texts.Judged.{value-from, value-formed, value_same}
+use Rattle.wing_listing.proofs.Texts.Judged.{value-from, value-formed, value_same, line-some}
 use Rattle.wing_listing.proofs.place.record_in.Goals as goal
+use Rattle.wing_listing.proofs.place.record_in.Goals.{After-unwrap-l}
+
+says : (c : After-unwrap-l) → LineSays c.unwrap-l.result c.args.s.now
+says c = rw c.unwrap-l.ensures at c.line_in.ensures
+
+pub unwrap-l-requires : goal.unwrap-l-requires
+unwrap-l-requires c = line-some c.line_in.result c.args.s.now c.line_in.ensures c.requires.0
 
 pub slice_bounds-lay_said-count : goal.slice_bounds-lay_said-count
-slice_bounds-lay_said-count c =
-    value-from c.args.s.now c.line_in-l.result c.line_in-l.ensures c.requires.0
+slice_bounds-lay_said-count c = value-from c.args.s.now c.unwrap-l.result (says (goal.at.slice_bounds-lay_said-count c).After-unwrap-l)
 
 pub slice_bounds-lay_said-start : goal.slice_bounds-lay_said-start
-slice_bounds-lay_said-start c =
-    value-from c.args.s.now c.line_in-l.result c.line_in-l.ensures c.requires.0
+slice_bounds-lay_said-start c = value-from c.args.s.now c.unwrap-l.result (says (goal.at.slice_bounds-lay_said-start c).After-unwrap-l)
 
 pub lay_said-requires : goal.lay_said-requires
 lay_said-requires c =
-    let x = c.args.s.now in (
-      value-formed x c.line_in-l.result c.line_in-l.ensures c.requires.0,
-      ap value_fault (value_same x c.line_in-l.result c.line_in-l.ensures c.requires.0) ∙ c.requires.1,
-    )
+    let x = c.args.s.now in
+    let l = says (goal.at.lay_said-requires c).After-unwrap-l in
+    (value-formed x c.unwrap-l.result l, ap value_fault (value_same x c.unwrap-l.result l) ∙ c.requires.1)
 
 pub returns : goal.returns
 unfolding entry_said
 returns c =
     let x = c.args.s.now in
-    let id : to_z w32 (of_z w32 c.line_in-l.result.id) ≡ id_said x = read-passed (part comma 0 x) c.line_in-l.result.id c.line_in-l.ensures.id ∙ read-id x c.requires.0 in
+    let l = says (goal.at.returns c).After-unwrap-l in
+    let id : to_z w32 (of_z w32 c.unwrap-l.result.id) ≡ id_said x = said-passed x c.unwrap-l.result.id c.requires.0 l.id in
     record-laid (id_said x) (entry_said x).value Console (replicate 264 0) c.put_i32.new.out c.lay_said.new.out refl
     (console-head (id_said x) (replicate 264 0) c.put_i32.new.out c.put_i32.result refl (c.put_i32.ensures ∙ ap (λ y. put_at (bytes_of 4 (unsigned 31 y)) 0 (replicate 264 0)) id))
-    (c.lay_said.ensures ∙ ap (λ (v : NodeValue). laid_from c.put_i32.new.out (kind_of v) (payload_of v)) (value_same x c.line_in-l.result c.line_in-l.ensures c.requires.0))
+    (c.lay_said.ensures ∙ ap (λ (v : NodeValue). laid_from c.put_i32.new.out (kind_of v) (payload_of v)) (value_same x c.unwrap-l.result l))

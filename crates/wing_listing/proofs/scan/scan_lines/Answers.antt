@@ -5,9 +5,7 @@ use native.Mathlib.Omega.{arith}
 use borrow.Author.Rules.{rules}
 use mir.Syntax.{w32}
 use mir.Val.{to_z, of_z}
-use lib.Dec.{ltb}
 use lib.ListN.{length}
-use Rattle.wing_node.specs.Refusal.{no_fault}
 use Rattle.wing_mirror.specs.Rows.{nothing}
 use Rattle.wing_listing.specs.Parts.{newline, parted}
 use Rattle.wing_listing.specs.Reading.{lines_from}
@@ -30,7 +28,7 @@ overflow_add-end c =
 pub returns-then-end-text : goal.returns-then-end-text
 returns-then-end-text c =
     let text = c.args.text.now in
-    c.bad.ensures ∙ ap (counted (c.loop-at.number - 2)) (sym (turn-unended text c.loop-at.at c.find.result c.find.ensures c.loop-at-test.true c.if-end-text.true c.loop-at.number (id_before (ltb 2 c.loop-at.number) (to_z w32 c.loop-at.before-bits)))) ∙ c.loop-at.invariant.3
+    c.bad.ensures ∙ ap (counted (c.loop-at.number - 2)) (sym (turn-unended text c.loop-at.at c.find.result c.find.ensures c.loop-at-test.true c.if-end-text.true c.loop-at.number (id_before c.loop-at.before))) ∙ c.loop-at.invariant.3
 
 pub slice_bounds-judge-end : goal.slice_bounds-judge-end
 slice_bounds-judge-end c =
@@ -42,7 +40,7 @@ returns-in-Err c =
     let text = c.args.text.now in
     let w = line-within text c.loop-at.at c.find.result c.find.ensures in
     let h = not_equal (c.loop-at.at + c.find.result) (length text) (omega (arith, c.loop-at.invariant.0)) c.if-end-text.false in
-    let B = id_before (ltb 2 c.loop-at.number) (to_z w32 c.loop-at.before-bits) in
+    let B = id_before c.loop-at.before in
     let x = line text c.loop-at.at c.find.result c.find.ensures in
     let why = judged-why B _ x c.judge-j.result c.judge-j.ensures (the-line text c.loop-at.at c.find.result c.find.ensures) in
     let bad-line = turn-bad text c.loop-at.at c.find.result c.find.ensures h c.loop-at.number B _ (sym why ∙ c.in-Err.is) in
@@ -58,7 +56,7 @@ loop-at-preserved c =
     let text = c.args.text.now in
     let w = line-within text c.loop-at.at c.find.result c.find.ensures in
     let h = not_equal (c.loop-at.at + c.find.result) (length text) (omega (arith, c.loop-at.invariant.0)) c.if-end-text.false in
-    let B = id_before (ltb 2 c.loop-at.number) (to_z w32 c.loop-at.before-bits) in
+    let B = id_before c.loop-at.before in
     let x = line text c.loop-at.at c.find.result c.find.ensures in
     let why = judged-why B _ x c.judge-j.result c.judge-j.ensures (the-line text c.loop-at.at c.find.result c.find.ensures) in
     let z = c.in-Ok.is in
@@ -70,4 +68,4 @@ returns c =
     let text = c.args.text.now in
     let n : c.loop-at.number - 2 ≡ c.loop-at.number - 2 + 0 = omega arith in
     ap Ok n ∙
-    ap (counted (c.loop-at.number - 2)) (sym (ap (λ t. lines_from c.loop-at.number (id_before (ltb 2 c.loop-at.number) (to_z w32 c.loop-at.before-bits)) (parted newline t)) (drop-none text c.loop-at.at c.loop-at-test.false) ∙ lines_end c.loop-at.number (id_before (ltb 2 c.loop-at.number) (to_z w32 c.loop-at.before-bits)))) ∙ c.loop-at.invariant.3
+    ap (counted (c.loop-at.number - 2)) (sym (ap (λ t. lines_from c.loop-at.number (id_before c.loop-at.before) (parted newline t)) (drop-none text c.loop-at.at c.loop-at-test.false) ∙ lines_end c.loop-at.number (id_before c.loop-at.before))) ∙ c.loop-at.invariant.3

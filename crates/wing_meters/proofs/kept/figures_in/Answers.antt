@@ -11,13 +11,13 @@ use Rattle.wing_meters.proofs.kept.figures_in.Goals as goal
 
 pub overflow_cast-quotient : goal.overflow_cast-quotient
 overflow_cast-quotient c =
-    let k = c.args.c in
-    let most : k.sum / k.held ≤ 65535 = div-le_of_le-mul k.held (omega (arith, mul_comm 65535 k.held)) in
+    let k = c.args.kept.control in
+    let most : k.sum / k.held ≤ 65535 = div-le_of_le-mul k.held (omega (arith, c.args.kept.in_range.sum, mul_comm 65535 k.held)) in
     omega (arith, c.quotient.ensures)
 
 pub overflow_cast-result : goal.overflow_cast-result
 overflow_cast-result c =
-    let k = c.args.c in
+    let k = c.args.kept.control in
     let less : k.sum % k.held < k.held = mod-lt k.sum (omega arith) in
     omega arith
 

@@ -19,23 +19,23 @@ use Rattle.std.specs.Prelude.{Option}
 use Rattle.wing_meters.specs.declared.figures.Figures.{Figures}
 
 pub step-after-requires : goal.step-after-requires
-step-after-requires c = sym c.is_sound_lent.ensures.0 ∙ c.if-is_sound_lent.true
+step-after-requires c = rw c.in-Some.ensures.1 c.in-Some.ensures.0
 
-pub returns-then-is_sound_lent : goal.returns-then-is_sound_lent
-returns-then-is_sound_lent c =
+pub returns-in-Some : goal.returns-in-Some
+returns-in-Some c =
     let a = c.args in
     let w = a.w in
     let size : length w.levels ≡ 256 = search rules in
-    let e : sound_window w ≡ true = sym c.is_sound_lent.ensures.0 ∙ c.if-is_sound_lent.true in
+    let e : sound_window w ≡ true = c.in-Some.ensures.0 in
     let k : to_z w16 (of_z w16 a.x) ≡ a.x = search rules in
-    let after : window c.step-after.result c.step-after.new.levels ≡ taking w a.x = c.step-after.ensures.0 ∙ ap (taking w) k in
+    let after : window c.step-after.result.control c.step-after.new.levels ≡ taking w a.x = (rw c.in-Some.ensures.1 at c.step-after.ensures) ∙ ap (taking w) k in
     let told : told_kept (taking w a.x).control ≡ figures_of (kept_in (taking w a.x)) =
     sym (kept-told (taking w a.x) (sound-taking w (sound w e) size a.x) (size-taking w a.x size)) in
-    ap (λ (t : Result (Option Figures)). taken t (window c.step-after.result c.step-after.new.levels)) c.tell-told.ensures ∙
+    ap (λ (t : Result (Option Figures)). taken t (window c.step-after.result.control c.step-after.new.levels)) c.tell.ensures ∙
     (ap (λ (v : Window). taken (told_kept v.control) v) after ∙
     (ap (λ (t : Result (Option Figures)). taken t (taking w a.x)) told ∙ sym (reading-sound w a.x e)))
 
-pub returns : goal.returns
-returns c =
+pub returns-in-None : goal.returns-in-None
+returns-in-None c =
     let a = c.args in
-    sym (reading-unsound a.w a.x (sym c.is_sound_lent.ensures.0 ∙ c.if-is_sound_lent.false))
+    sym (reading-unsound a.w a.x (c.in-None.ensures))

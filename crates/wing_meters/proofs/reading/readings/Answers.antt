@@ -14,23 +14,23 @@ use Rattle.std.specs.Prelude.{Ok}
 pub returns-then-out-xs : goal.returns-then-out-xs
 returns-then-out-xs c =
     let a = c.args in
-    let e = sym c.is_sound_lent.ensures.0 ∙ c.if-is_sound_lent.true in
+    let e = c.in-Some.ensures.0 in
     ap (λ (r : Followed). rows_effect r a.out.now) c.refuse.ensures ∙ sym (readings-short a.w a.xs.now a.out.now e (omega (arith, c.if-out-xs.true)))
 
-pub follow-after-requires : goal.follow-after-requires
-follow-after-requires c =
-    (sym c.is_sound_lent.ensures.0 ∙ c.if-is_sound_lent.true, omega (arith, c.if-out-xs.false))
+pub follow-requires : goal.follow-requires
+follow-requires c =
+    (rw c.in-Some.ensures.1 c.in-Some.ensures.0, omega (arith, c.if-out-xs.false))
 
-pub returns-then-is_sound_lent : goal.returns-then-is_sound_lent
-returns-then-is_sound_lent c =
+pub returns-else-out-xs : goal.returns-else-out-xs
+returns-else-out-xs c =
     let a = c.args in
-    let e = sym c.is_sound_lent.ensures.0 ∙ c.if-is_sound_lent.true in
-    ap (λ (w : Window). rows_effect (followed (Ok (length a.xs.now)) w) c.follow-after.new.out) c.follow-after.ensures.levels_after ∙
-    (ap (λ (o : List ℤ). rows_effect (followed (Ok (length a.xs.now)) (after_all a.w a.xs.now)) o) c.follow-after.ensures.out_after ∙
+    let e = c.in-Some.ensures.0 in
+    ap (λ (w : Window). rows_effect (followed (Ok (length a.xs.now)) w) c.follow.new.out) (rw c.in-Some.ensures.1 at c.follow.ensures.levels_after) ∙
+    (ap (λ (o : List ℤ). rows_effect (followed (Ok (length a.xs.now)) (after_all a.w a.xs.now)) o) (rw c.in-Some.ensures.1 at c.follow.ensures.out_after) ∙
     sym (readings-taken a.w a.xs.now a.out.now e (omega (arith, c.if-out-xs.false))))
 
-pub returns : goal.returns
-returns c =
+pub returns-in-None : goal.returns-in-None
+returns-in-None c =
     let a = c.args in
-    let e = sym c.is_sound_lent.ensures.0 ∙ c.if-is_sound_lent.false in
-    ap (λ (r : Followed). rows_effect r a.out.now) c.refuse-2.ensures ∙ sym (readings-unsound a.w a.xs.now a.out.now e)
+    let e = c.in-None.ensures in
+    ap (λ (r : Followed). rows_effect r a.out.now) c.refuse-in-None.ensures ∙ sym (readings-unsound a.w a.xs.now a.out.now e)

@@ -1,6 +1,6 @@
 -- The sum and the largest are kept up (`sum-taking`, `top-taking`), so that they are those of the levels after it.
 use Prim.Native.Nat.{◌<◌}
-use mathlib.Core.Path.{◌≡◌, refl, sym, ap, ◌∙◌}
+use mathlib.Core.Path.{◌≡◌, sym, ap, ◌∙◌}
 use native.Mathlib.Omega.{arith}
 use lib.ListN.{length, length-set}
 use mir.Syntax.{w16}
@@ -16,7 +16,7 @@ use Rattle.wing_meters.proofs.reading.step.Goals as goal
 pub bounds-levels-at : goal.bounds-levels-at
 bounds-levels-at c =
     let a = c.args in
-    let w = window a.c a.levels.now in
+    let w = window a.kept.control a.levels.now in
     let s = sound w c.requires in
     let size : length a.levels.now ≡ 256 = search rules in
     omega (arith, next-in w s size)
@@ -24,7 +24,7 @@ bounds-levels-at c =
 pub bounds-levels-at-2 : goal.bounds-levels-at-2
 bounds-levels-at-2 c =
     let a = c.args in
-    let w = window a.c a.levels.now in
+    let w = window a.kept.control a.levels.now in
     let s = sound w c.requires in
     let size : length a.levels.now ≡ 256 = search rules in
     omega (arith, next-in w s size)
@@ -32,15 +32,15 @@ bounds-levels-at-2 c =
 pub onward-requires : goal.onward-requires
 onward-requires c =
     let a = c.args in
-    let w = window a.c a.levels.now in
+    let w = window a.kept.control a.levels.now in
     let s = sound w c.requires in
     let size : length a.levels.now ≡ 256 = search rules in
-    next-below a.c s.placed
+    next-below a.kept.control s.placed
 
 pub top_after-requires : goal.top_after-requires
 top_after-requires c =
     let a = c.args in
-    let w = window a.c a.levels.now in
+    let w = window a.kept.control a.levels.now in
     let s = sound w c.requires in
     let size : length a.levels.now ≡ 256 = search rules in
     top-taking w s size c.level_of-came.result
@@ -48,24 +48,36 @@ top_after-requires c =
 pub sum_after-requires : goal.sum_after-requires
 sum_after-requires c =
     let a = c.args in
-    let w = window a.c a.levels.now in
+    let w = window a.kept.control a.levels.now in
     let s = sound w c.requires in
     let size : length a.levels.now ≡ 256 = search rules in
     let r = in-range w s size (λ k h. omega (arith, c.fits-levels k)) in
     (leaving-le w s size, omega arith)
 
-pub returns : goal.returns
+pub invariant_of-result : goal.invariant_of-result
 unfolding taking
-returns c =
+invariant_of-result c =
     let a = c.args in
-    let w = window a.c a.levels.now in
+    let w = window a.kept.control a.levels.now in
     let s = sound w c.requires in
     let size : length a.levels.now ≡ 256 = search rules in
     let k : to_z w16 (of_z w16 a.x) ≡ a.x = search rules in
     let v : c.level_of-came.result ≡ level_of a.x = c.level_of-came.ensures ∙ ap level_of k in
     let low : c.level_of-came.result < 65536 = search rules in
-    let most = set-le a.levels.now a.c.next (level_of a.x) 65535 (λ k h. omega (arith, c.fits-levels k)) (omega arith) in
-    let range = in-range (taking w a.x) (sound-taking w s size a.x) (length-set a.levels.now a.c.next (level_of a.x) ∙ size) most in
+    let most = set-le a.levels.now a.kept.control.next (level_of a.x) 65535 (λ k h. omega (arith, c.fits-levels k)) (omega arith) in
+    let range = in-range (taking w a.x) (sound-taking w s size a.x) (length-set a.levels.now a.kept.control.next (level_of a.x) ∙ size) most in
     rw
     (c.grown.ensures, c.onward.ensures, c.top_after.ensures, c.sum_after.ensures, v, sym (sum-taking w s size (level_of a.x)))
-    (refl, range)
+    (record { in_range = range })
+
+pub returns : goal.returns
+unfolding taking
+returns c =
+    let a = c.args in
+    let w = window a.kept.control a.levels.now in
+    let s = sound w c.requires in
+    let size : length a.levels.now ≡ 256 = search rules in
+    let k : to_z w16 (of_z w16 a.x) ≡ a.x = search rules in
+    let v : c.level_of-came.result ≡ level_of a.x = c.level_of-came.ensures ∙ ap level_of k in
+    rw
+    (c.grown.ensures, c.onward.ensures, c.top_after.ensures, c.sum_after.ensures, v, sym (sum-taking w s size (level_of a.x)))

@@ -10,8 +10,7 @@ use borrow.Author.Rules.{rules}
 use borrow.Author.Tests.{eqb-true}
 use Rattle.wing_meters.specs.Level.{added, greatest}
 use Rattle.wing_meters.specs.Window.{window, sound_control, sound_window}
-use Rattle.wing_meters.proofs.Soundness.{never, sound, placed, held-le, unused-tested}
-use Rattle.wing_meters.proofs.Windows.{in-range}
+use Rattle.wing_meters.proofs.Soundness.{placed, held-le, unused-tested}
 use Rattle.wing_meters.proofs.sound.is_sound_lent.Goals as goal
 use Rattle.wing_meters.proofs.sound.is_sound_lent.Goals.{Then-greatest-c, then-sound_control, else-sound_control, then-added-c, else-added-c}
 
@@ -46,7 +45,7 @@ returns-then-greatest-c c =
     let tested =
     ap (λ (n : ℕ). eqb n 0) (c.greatest-then-greatest-c.ensures ∙ ap greatest cut) ∙
     sym (unused-tested w p.0 (eqb-true _ _ p.1) (eqb-true _ _ p.2)) in
-    (tested, λ e. in-range w (sound w (sym tested ∙ e)) size (λ k h. omega (arith, c.fits-levels k)))
+    tested
 
 pub returns-else-greatest-c : goal.returns-else-greatest-c
 unfolding sound_window
@@ -72,4 +71,4 @@ returns-else-greatest-c c =
             simp one
       ]
     ] in
-    (off ∙ wrong, λ e. never (sym off ∙ e))
+    off ∙ wrong

@@ -15,19 +15,19 @@ use Rattle.wing_mirror.proofs.order.search_down.Goals as goal
 pub loop-number-init : goal.loop-number-init
 loop-number-init c =
     let z : c.args.count - c.args.count ≡ 0 = omega arith in
-    (from-none key_of c.args.key (records c.args.width c.args.count c.args.table.now) ∙ ap (λ (n : ℕ). counted_from n key_of c.args.key (records c.args.width c.args.count c.args.table.now)) (sym z), c.requires.up)
+    (from-none key_of c.args.key (records 264 c.args.count c.args.table.now) ∙ ap (λ (n : ℕ). counted_from n key_of c.args.key (records 264 c.args.count c.args.table.now)) (sym z), c.requires.up)
 
 pub key_at-last-requires : goal.key_at-last-requires
 key_at-last-requires c =
     let a = c.args in
-    (c.requires.wide, row_fits a.width _ a.count _ (omega arith) c.requires.room)
+    row_fits 264 _ a.count _ (omega arith) c.requires.room
 
 pub returns-then-last-key : goal.returns-then-last-key
 returns-then-last-key c =
     let a = c.args in
     let l = c.loop-number in
     let n : a.count - (l.number - 1) ≡ a.count - l.number + 1 = omega arith in
-    rw n (sym (l.invariant.0 ∙ stops-there a.width key_of a.key l.number (a.count - l.number) a.table.now c.loop-number-test.true l.invariant.1 (sym c.key_at-last.ensures ∙ c.if-last-key.true)))
+    rw n (sym (l.invariant.0 ∙ stops-there 264 key_of a.key l.number (a.count - l.number) a.table.now c.loop-number-test.true l.invariant.1 (sym c.key_at-last.ensures ∙ c.if-last-key.true)))
 
 pub returns-then-last-key-2 : goal.returns-then-last-key-2
 returns-then-last-key-2 c =
@@ -36,7 +36,7 @@ returns-then-last-key-2 c =
     let h : c.key_at-last.result < a.key = omega arith in
     let e : l.number - 1 + 1 ≡ l.number = omega arith in
     let n : a.count - (l.number - 1) ≡ a.count - l.number + 1 = omega arith in
-    rw (e, n) (sym (l.invariant.0 ∙ stops-below a.width key_of a.key l.number (a.count - l.number) a.table.now c.loop-number-test.true l.invariant.1 (rw c.key_at-last.ensures at h)))
+    rw (e, n) (sym (l.invariant.0 ∙ stops-below 264 key_of a.key l.number (a.count - l.number) a.table.now c.loop-number-test.true l.invariant.1 (rw c.key_at-last.ensures at h)))
 
 pub loop-number-preserved : goal.loop-number-preserved
 loop-number-preserved c =
@@ -45,8 +45,8 @@ loop-number-preserved c =
     let some = c.loop-number-test.true in
     let h : a.key < c.key_at-last.result = grind (arith, c.if-last-key.false) in
     let n : a.count - (l.number - 1) ≡ a.count - l.number + 1 = omega arith in (
-      rw n (l.invariant.0 ∙ goes_down a.width key_of a.key l.number (a.count - l.number) a.table.now some (rw c.key_at-last.ensures at h)),
-      fewer a.width key_of a.key l.number a.table.now some l.invariant.1,
+      rw n (l.invariant.0 ∙ goes_down 264 key_of a.key l.number (a.count - l.number) a.table.now some (rw c.key_at-last.ensures at h)),
+      fewer 264 key_of a.key l.number a.table.now some l.invariant.1,
     )
 
 pub returns : goal.returns
@@ -55,4 +55,4 @@ returns c =
     let l = c.loop-number in
     let z : 0 ≡ l.number = omega arith in
     let n : a.count ≡ a.count - l.number = omega arith in
-    ap₂ {C = Counted} (λ (m : ℕ) (reads : ℕ). record { position = Err m; reads = reads }) z n ∙ sym (l.invariant.0 ∙ stops-under a.width key_of a.key l.number (a.count - l.number) a.table.now c.loop-number-test.false)
+    ap₂ {C = Counted} (λ (m : ℕ) (reads : ℕ). record { position = Err m; reads = reads }) z n ∙ sym (l.invariant.0 ∙ stops-under 264 key_of a.key l.number (a.count - l.number) a.table.now c.loop-number-test.false)

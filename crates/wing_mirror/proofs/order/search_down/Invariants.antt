@@ -9,5 +9,5 @@ use Rattle.wing_mirror.proofs.order.search_down.Given as goal
 
 abbrev pub invariant-loop-number : goal.invariant-loop-number
 invariant-loop-number l =
-    (counted_of key_of l.key (records l.width l.count l.table) ≡ counted_from (l.count - l.number) key_of l.key (records l.width l.number l.table)) ×
-    (rising key_of (records l.width l.number l.table) ≡ true)
+    (counted_of key_of l.key (records 264 l.count l.table) ≡ counted_from (l.count - l.number) key_of l.key (records 264 l.number l.table)) ×
+    (rising key_of (records 264 l.number l.table) ≡ true)

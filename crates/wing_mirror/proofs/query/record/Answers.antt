@@ -3,12 +3,10 @@ use Prim.Native.Nat.{ℕ}
 use mathlib.Core.Path.{sym, ◌∙◌, ap}
 use mathlib.Core.List.{List}
 use native.Mathlib.Omega.{arith}
-use lib.ListN.{length}
 use borrow.Author.Tests.{lt-ltb, le-ltb}
 use Rattle.wing_mirror.specs.Record.{entry_in, full}
 use Rattle.wing_mirror.specs.Table.{table}
 use Rattle.wing_mirror.specs.Query.{read_of, record_answer}
-use Rattle.wing_mirror.proofs.Tables.Chunks.{row-wide}
 use Rattle.wing_mirror.proofs.Records.Usables.{room}
 use Rattle.wing_mirror.proofs.Records.Said.{row_of}
 use Rattle.wing_mirror.proofs.query.record.Goals as goal
@@ -18,11 +16,6 @@ pub row-requires : goal.row-requires
 row-requires c =
     let a = c.args in
     omega (arith, room full (table a.table.now a.count) (sym c.is_usable.ensures ∙ c.if-is_usable.true))
-
-pub read_record-requires : goal.read_record-requires
-read_record-requires c =
-    let a = c.args in
-    ap length c.row.ensures ∙ row-wide 264 a.number a.table.now (omega (arith, room full (table a.table.now a.count) (sym c.is_usable.ensures ∙ c.if-is_usable.true)))
 
 pub returns-then-number-count : goal.returns-then-number-count
 unfolding record_answer

@@ -3,20 +3,15 @@
 use Prim.Native.Nat.{ℕ}
 use mathlib.Core.Path.{◌∙◌, ap}
 use mathlib.Core.List.{List}
-use lib.ListN.{length}
 use Rattle.wing_wire.specs.Write.{write_of}
 use Rattle.wing_mirror.specs.Record.{well_formed}
 use Rattle.wing_mirror.specs.Table.{row_at}
 use Rattle.wing_mirror.specs.Sending.{order_in}
-use Rattle.wing_mirror.proofs.Tables.Chunks.{row-wide}
 use Rattle.wing_mirror.proofs.Calls.Sends.{laid-whole}
 use Rattle.wing_mirror.proofs.recall.lay_order.Goals as goal
 
 pub send_record-sent-requires : goal.send_record-sent-requires
-send_record-sent-requires c = (
-  ap length c.row.ensures ∙ row-wide 264 c.args.number c.args.table.now c.requires.0,
-  ap well_formed c.row.ensures ∙ c.requires.1,
-)
+send_record-sent-requires c = ap well_formed c.row.ensures ∙ c.requires.1
 
 pub returns : goal.returns
 returns c =

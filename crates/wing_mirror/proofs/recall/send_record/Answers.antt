@@ -58,7 +58,7 @@ returns-in-String c =
     let p = c.payload-bytes.result.now in
     let back-i : to_z w32 (of_z w32 id) ≡ id = search rules in
     let held : entry id (string (take n p)) o ≡ entry_in r = ap (λ (q : List ℕ). entry id (string (take n q)) o) c.payload-bytes.ensures ∙ string-held id w o (payload_in r) r h n c.in-String.is in
-    let good : storable (string (take n p)) ≡ true = ap (λ (e : Entry). storable e.value) held ∙ read-storable r c.requires.0 (λ i. omega (arith, c.type_inv.rec i)) c.requires.1 in
+    let good : storable (string (take n p)) ≡ true = ap (λ (e : Entry). storable e.value) held ∙ read-storable r c.told-rec (λ i. omega (arith, c.fits-rec i)) c.requires in
     rw back-i at c.set_string.ensures
     ∙ string-sent id n c.least-len.result p c.args.out.now c.least-len.ensures good
     ∙ ap (λ (e : Entry). write_of (set_of e) c.args.out.now) held

@@ -1,15 +1,10 @@
 -- The stores of the kind, of the length by `put_u16` and of the bytes by `lay` are those of `laid_from` in order, as n and `least` take the same
 -- bytes (`string-laid`).
-use mathlib.Core.Path.{sym}
 use native.Mathlib.Omega.{arith}
 use lib.ListN.{set, length-set, length-take}
-use lib.Seq.{length-take-le}
 use Rattle.wing_node.proofs.Numerals.Placed.{field-sets}
 use Rattle.wing_mirror.proofs.Tables.Laying.{string-laid}
 use Rattle.wing_mirror.proofs.record.lay_string.Goals as goal
-
-pub slice_bounds-lay-end : goal.slice_bounds-lay-end
-slice_bounds-lay-end c = sym (length-take-le _ _ (omega (arith, c.least-len.ensures)))
 
 pub lay-requires : goal.lay-requires
 lay-requires c =

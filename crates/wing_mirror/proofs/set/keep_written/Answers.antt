@@ -12,7 +12,7 @@ use Rattle.std.specs.Prelude.{Ok}
 
 pub put-requires : goal.put-requires
 put-requires c =
-    (in_order_lem (table c.args.table.now c.args.count) c.requires.0, c.requires.1)
+    in_order_lem (table c.args.table.now c.args.count) c.requires
 
 pub returns-in-Ok : goal.returns-in-Ok
 unfolding kept_of

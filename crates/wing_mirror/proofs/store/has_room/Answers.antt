@@ -11,10 +11,10 @@ pub returns-then-is_ok : goal.returns-then-is_ok
 returns-then-is_ok c =
     let a = c.args in
     let o : is_ok c.search.result ≡ true = search rules in
-    c.if-is_ok.true ∙ sym (takes-is a.width a.table.now a.rec.now a.count c.requires.0 c.requires.1 c.key.result c.key.ensures c.search.result c.search.ensures ∙ rw o)
+    c.if-is_ok.true ∙ sym (takes-is 264 a.table.now a.rec.now a.count c.requires c.told-rec c.key.result c.key.ensures c.search.result c.search.ensures ∙ rw o)
 
 pub returns-else-is_ok : goal.returns-else-is_ok
 returns-else-is_ok c =
     let a = c.args in
     let o : is_ok c.search.result ≡ false = search rules in
-    ap (ltb a.count) c.places_of.ensures ∙ sym (takes-is a.width a.table.now a.rec.now a.count c.requires.0 c.requires.1 c.key.result c.key.ensures c.search.result c.search.ensures ∙ rw o)
+    ap (ltb a.count) c.places_of.ensures ∙ sym (takes-is 264 a.table.now a.rec.now a.count c.requires c.told-rec c.key.result c.key.ensures c.search.result c.search.ensures ∙ rw o)

@@ -1,7 +1,11 @@
--- The contract of `is_sound_of` at 264 bytes, where `form_of` is 01's form.
-use Rattle.wing_mirror.specs.Form.{form_of}
+-- The records of a count that is at most the places stand in the buffer.
+use Prim.Native.Nat.{◌/◌, ◌≤◌}
+use native.Mathlib.Omega.{arith}
+use native.Mathlib.Nat.{mul-le-mul_left, mul-div-le}
+use lib.ListN.{length}
 use Rattle.wing_mirror.proofs.table.is_sound.Goals as goal
 
-pub returns : goal.returns
-unfolding form_of
-returns c = c.is_sound_of.ensures
+pub all_pass-requires : goal.all_pass-requires
+all_pass-requires c =
+    let few : c.args.count ≤ length c.args.table.now / 264 = rw c.places.ensures at c.if-count-places.true in
+    omega (arith, mul-le-mul_left 264 few, mul-div-le (length c.args.table.now) 264)
