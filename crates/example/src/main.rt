@@ -42,7 +42,7 @@ fn refused(to: &impl Print, why: Refusal) -> io::Result<()> {
 fn given(to: &impl Print, r: Result<answer::RecordRead, Refusal>) -> io::Result<()> {
     match r {
         Ok(r) => {
-            let number = origin::number(r.origin);
+            let number = u8::from(r.origin);
             println!(to; "its origin: {number}")
         }
         Err(why) => refused(to, why),

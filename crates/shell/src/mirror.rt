@@ -271,7 +271,7 @@ fn record(text: &mut String, r: Record) -> Result<Option<origin::Origin>, Unansw
 
 fn entry_origin(text: &mut String, r: Record) -> Answered {
     if let Some(origin) = record(text, r)? {
-        let number = origin::number(origin);
+        let number = u8::from(origin);
         write!(text, " origin {number}")?;
     }
     Ok(())

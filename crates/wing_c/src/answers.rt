@@ -7,7 +7,6 @@ ghost use Rattle.wing_c.specs.Numbers.{held_numbers, record_numbers, event_as, n
 
 use wing_listing::answer::Loaded;
 use wing_mirror::answer::{Counts, RecordRead};
-use wing_mirror::origin;
 use wing_node::field::of_i32;
 use wing_node::refusal::Refusal;
 use wing_node::value::Value;
@@ -282,7 +281,7 @@ pub(crate) fn record(r: Result<RecordRead, Refusal>) -> WingRecord
     ensures { result ≡ record_numbers r }
 {
     match r {
-        Ok(r) => record_of(r.id, r.value, origin::number(r.origin), r.string),
+        Ok(r) => record_of(r.id, r.value, u8::from(r.origin), r.string),
         Err(why) => WingRecord {
             status: minus(why),
             id: 0,

@@ -10,11 +10,14 @@ pub enum Origin {
 }
 
 // 02: 0 for the console, 1 for a set order.
-pub fn number(origin: Origin) -> u8
-    ensures { result ≡ origin_number origin }
-{
-    match origin {
-        Origin::Console => 0,
-        Origin::SetOrder => 1,
+impl From<Origin> for u8 {
+    ghost from_gives = { λ origin number. number ≡ origin_number origin };
+
+    #[tactic(auto, unfolding(crate::specs::Origin::origin_number))]
+    fn from(origin: Origin) -> u8 {
+        match origin {
+            Origin::Console => 0,
+            Origin::SetOrder => 1,
+        }
     }
 }

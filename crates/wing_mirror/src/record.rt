@@ -8,7 +8,7 @@ ghost use Rattle.wing_mirror.specs.Origin.{origin_of};
 ghost use Rattle.wing_mirror.specs.Record.{key_of, string_kept, well_kept, well_formed, id_in, payload_in, value_in, origin_byte, record_of, head_from, laid_from};
 
 use crate::origin::Origin;
-use crate::{bytes, origin};
+use crate::bytes;
 use wing_node::field;
 use wing_node::utf8::is_utf8;
 use wing_node::value::Value;
@@ -126,7 +126,7 @@ fn lay_head(out: &mut Record, id: i32, origin: Origin)
     ensures { out.new ≡ head_from out.old id origin }
 {
     field::put_i32(out, 0, id);
-    out[5] = origin::number(origin);
+    out[5] = u8::from(origin);
 }
 
 // The record of an id, a value and its origin; a string's bytes stand beside its length.
