@@ -40,8 +40,7 @@ pub fn lookup(table: &[u8], count: usize, id: i32) -> Result<Option<usize>, Refu
 }
 
 // The first n of a payload's bytes.
-fn string_read(id: i32, n: u16, payload: &[u8], origin: Origin) -> RecordRead
-    requires { length payload.now ≡ 256 }
+fn string_read(id: i32, n: u16, payload: &[u8; 256], origin: Origin) -> RecordRead
     ensures { result ≡ read_of (entry id (string_of (take n payload.now)) origin) }
 {
     let len = least(n as usize, 256);

@@ -7,8 +7,8 @@ ghost use Rattle.wing_mirror.specs.Call.{too_long};
 ghost use Rattle.wing_mirror.specs.Origin.{origin_of};
 ghost use Rattle.wing_mirror.specs.Record.{key_of, string_kept, well_kept, well_formed, id_in, payload_in, value_in, origin_byte, record_of, head_from, laid_from};
 
-use crate::origin::Origin;
 use crate::bytes;
+use crate::origin::Origin;
 use wing_node::field;
 use wing_node::utf8::is_utf8;
 use wing_node::value::Value;
@@ -39,16 +39,15 @@ pub(crate) fn key(rec: &Record) -> u32
 }
 
 // 01: the payload, 256 bytes.
-pub(crate) fn payload(rec: &Record) -> &[u8]
+pub(crate) fn payload(rec: &Record) -> &[u8; 256]
     ensures { result.now ≡ payload_in rec.now }
 {
-    &rec[8..]
+    &rec[8..].as_chunks().0[0]
 }
 
 // A string's length is 0 to 256, its bytes are UTF-8, and 0 stands after them.
 #[tactic(auto, unfolding(crate::specs::Record::string_kept))]
-fn string_kept(n: u16, payload: &[u8]) -> bool
-    requires { length payload.now ≡ 256 }
+fn string_kept(n: u16, payload: &[u8; 256]) -> bool
     ensures { result ≡ string_kept n payload.now }
 {
     let len = n as usize;
@@ -56,8 +55,7 @@ fn string_kept(n: u16, payload: &[u8]) -> bool
 }
 
 #[tactic(auto, unfolding(crate::specs::Record::well_kept))]
-fn well_kept(kind: u8, n: u16, payload: &[u8]) -> bool
-    requires { length payload.now ≡ 256 }
+fn well_kept(kind: u8, n: u16, payload: &[u8; 256]) -> bool
     ensures { result ≡ well_kept kind n payload.now }
 {
     match kind {
