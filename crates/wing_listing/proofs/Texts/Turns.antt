@@ -22,12 +22,11 @@ use Rattle.wing_listing.specs.Parts.{newline, parted, part}
 use Rattle.wing_listing.specs.Reading.{id_said, entry_said, line_fault, bad, after, unless_bad, lines_from, reading_of}
 use Rattle.wing_listing.specs.Steps.{id_before, unless_fault, judged_as}
 use Rattle.wing_node.specs.Result.{Result}
-use Rattle.std.specs.Prelude.{Ok, Err, is_ok}
+use Rattle.std.specs.Prelude.{Ok, Err}
 use Rattle.wing_listing.proofs.Texts.Drops.{rest-whole}
 use Rattle.wing_listing.proofs.Texts.Numbers.{by-test}
 use Rattle.wing_listing.proofs.Texts.Parts.{front-le, front-take}
 use Rattle.wing_listing.proofs.Texts.Reads.{said-passed}
-use Rattle.wing_listing.proofs.Texts.Lines.{true-false}
 use Rattle.wing_listing.proofs.Texts.Scans.{faultless-line, lines-unended, lines_next, header-none, header-next, counted, counted_next}
 use Rattle.wing_node.specs.declared.refusal.Refusal.TheVariants.{LineWrong}
 use Rattle.wing_listing.specs.Answers.{Loaded}
@@ -86,21 +85,13 @@ module _ (text : List ℕ) (at k : ℕ) (f : k ≡ length (part newline 0 (take 
         ap₂ (λ a b. counted a (lines_from b (found (id_said line)) (parted newline (drop (at + k + 1) text)))) c m) ∙ w)
 
 -- what was judged of the line
-abbrev ok_value : ℤ → Result ℤ → ℤ
-ok_value d (Ok x) = x
-ok_value d (Err why) = d
-
-abbrev err_value : Refusal → Result ℤ → Refusal
-err_value d (Ok x) = d
-err_value d (Err why) = why
-
 fault-err : (f : Fault) (id : ℤ) (why : Refusal) → unless_fault f id ≡ Err why → f ≡ because why
-fault-err (Ok u) id why h = absurd (true-false (ap is_ok h))
-fault-err (Err w) id why h = ap because (ap (err_value w) h)
+fault-err (Ok u) id why h = grind arith
+fault-err (Err w) id why h = grind arith
 
 fault-ok : (f : Fault) (id x : ℤ) → unless_fault f id ≡ Ok x → (f ≡ no_fault) × (x ≡ id)
-fault-ok (Ok u) id x h = (refl, sym (ap (ok_value x) h))
-fault-ok (Err w) id x h = absurd (true-false (sym (ap is_ok h)))
+fault-ok (Ok u) id x h = (refl, grind arith)
+fault-ok (Err w) id x h = (grind arith, grind arith)
 
 module _ (before : Found ℤ) (s line : List ℕ) (j : Result ℤ) (e : j ≡ judged_as before s) (same : s ≡ line) where
   judged : j ≡ unless_fault (line_fault before line) (id_said line)
