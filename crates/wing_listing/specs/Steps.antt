@@ -1,6 +1,7 @@
 -- What the steps of the code answer, by the definitions of a text.
 use Rattle.std.specs.Prelude.{ℕ, ◌+◌, min, Bool, true, not, ◌≡◌, List, map, ltb, leb, eqb, ℤ, pos, neg_ℤ, length, Ok, Err, Option, Some, None}
 use Rattle.wing_node.specs.declared.refusal.Refusal.{Refusal}
+use Rattle.wing_node.specs.Refusal.{Fault}
 use Rattle.wing_node.specs.Bool.{if, and}
 use Rattle.wing_node.specs.Bytes.{joined}
 use Rattle.wing_node.specs.Decimal.{number_spelled, integer_of}
@@ -13,7 +14,7 @@ use Rattle.wing_listing.specs.Integers.{is_digit, first, is_natural, is_integer}
 use Rattle.wing_listing.specs.Listing.{letter_i, letter_f, letter_s, line_of}
 use Rattle.wing_listing.specs.Reading.{is_line, id_said, line_fault, Reading, good, bad, reading_of}
 use Rattle.wing_listing.specs.declared.line.Line.{Line}
-use Rattle.wing_listing.specs.declared.line.Judged.{Judged}
+use Rattle.wing_node.specs.Result.{Result}
 use Rattle.wing_node.specs.declared.refusal.Refusal.TheVariants.{NoPlace, NumberOver, TableUnsound}
 use Rattle.wing_listing.specs.Answers.{Loaded}
 
@@ -57,9 +58,14 @@ unfoldable pub id_before : Option ℤ → Found ℤ
 id_before (Some id) = found id
 id_before None = nothing
 
--- what is wrong with a line, and its id, 0 if it is out of form
-unfoldable pub judged_as : Found ℤ → List ℕ → Judged
-judged_as before line = record { fault = line_fault before line; id = if (is_line line) (id_said line) (pos 0) }
+-- an id, unless something is wrong
+abbrev pub unless_fault : Fault → ℤ → Result ℤ
+unless_fault (Ok u) id = Ok id
+unless_fault (Err why) id = Err why
+
+-- a line's id, or what is wrong with the line
+unfoldable pub judged_as : Found ℤ → List ℕ → Result ℤ
+judged_as before line = unless_fault (line_fault before line) (id_said line)
 
 -- ---- a text
 

@@ -17,13 +17,6 @@ pub struct Line {
     pub from: usize,
 }
 
-// What is wrong with a line, if anything is, and its id, 0 if it is out of form.
-#[derive(Clone, Copy)]
-pub struct Judged {
-    pub fault: Result<(), Refusal>,
-    pub id: i32,
-}
-
 // The length of the part before the first byte b, or of the whole where there is none.
 pub(crate) fn find(s: &[u8], b: u8) -> usize
     ensures { result ≡ length (part b 0 s.now) }
@@ -93,26 +86,14 @@ fn rises(before: Option<i32>, id: i32) -> bool
     }
 }
 
-// A line after one with the id before, if there is any. 02: out of form is 17, and after that an id not above the one before 18.
-pub(crate) fn judge(s: &[u8], before: Option<i32>) -> Judged
+// The id of a line after one with the id before, if there is any. 02: out of form is 17, and after that an id not above the one before 18.
+pub(crate) fn judge(s: &[u8], before: Option<i32>) -> Result<i32, Refusal>
     ensures { result ≡ judged_as (id_before before) s.now }
 {
-    match line_in(s) {
-        None => Judged {
-            fault: Err(Refusal::LineWrong),
-            id: 0,
-        },
-        Some(l) => {
-            if !rises(before, l.id) {
-                return Judged {
-                    fault: Err(Refusal::IdNotAbove),
-                    id: l.id,
-                };
-            }
-            Judged {
-                fault: value_fault(l.kind, &s[l.from..]),
-                id: l.id,
-            }
-        }
+    let l = line_in(s).ok_or(Refusal::LineWrong)?;
+    if !rises(before, l.id) {
+        return Err(Refusal::IdNotAbove);
     }
+    value_fault(l.kind, &s[l.from..])?;
+    Ok(l.id)
 }

@@ -27,12 +27,10 @@ fn scan_lines(text: &[u8]) -> Loaded
         if end == text.len() {
             return bad(Refusal::LineWrong, number);
         }
-        let j = judge(&text[at..end], before);
-        match j.fault {
-            Ok(()) => {}
+        match judge(&text[at..end], before) {
+            Ok(id) => before = Some(id),
             Err(why) => return bad(why, number),
         }
-        before = Some(j.id);
         at = end + 1;
         number += 1;
     }

@@ -6,17 +6,19 @@ use mathlib.Core.List.{List}
 use native.Mathlib.Omega.{arith}
 use mir.Syntax.{w32}
 use mir.Val.{to_z, of_z}
-use lib.IntN.{ℤ, pos}
+use lib.IntN.{ℤ}
 use Rattle.std.proofs.Common.{Option, Some, None}
 use Rattle.std.specs.Option.{MatchOption, IsSome}
 use lib.ListN.{length, take, drop}
-use Rattle.wing_node.specs.Refusal.{because, Fault}
+use Rattle.wing_node.specs.Refusal.{Fault}
 use Rattle.wing_mirror.specs.Rows.{Found}
 use Rattle.wing_listing.specs.Parts.{comma, part}
 use Rattle.wing_listing.specs.Reading.{is_value, value_said, is_line, id_said, entry_said, above, value_fault, line_fault}
-use Rattle.wing_listing.specs.Steps.{LineSays, judged_as}
+use Rattle.wing_listing.specs.Steps.{LineSays, unless_fault, judged_as}
 use Rattle.wing_listing.specs.declared.line.Line.{Line}
-use Rattle.wing_listing.specs.declared.line.Judged.{Judged}
+use Rattle.wing_node.specs.Result.{Result}
+use Rattle.std.specs.Prelude.{Err}
+use Rattle.wing_node.specs.declared.refusal.Refusal.{Refusal}
 use Rattle.wing_listing.proofs.Texts.Drops.{rest-whole}
 use Rattle.wing_listing.proofs.Texts.Lines.{formed-fields, formed-said, formed-at}
 use Rattle.wing_listing.proofs.Texts.Reads.{said-passed}
@@ -38,9 +40,9 @@ module _ (s : List ℕ) (l : Line) (says : LineSays l s) where
   value_same = ap (value_said l.kind) value-field ∙ ap (λ k. value_said k (part comma 2 s)) (says.kind)
 
 -- a line out of form
-pub judged-off : (before : Found ℤ) (s : List ℕ) → is_line s ≡ false → ◌≡◌ {A = Judged} (record { fault = because LineWrong; id = pos 0 }) (judged_as before s)
+pub judged-off : (before : Found ℤ) (s : List ℕ) → is_line s ≡ false → (why : Refusal) → ◌≡◌ {A = Result Line} (Err why) (Err LineWrong) → ◌≡◌ {A = Result ℤ} (Err why) (judged_as before s)
 unfolding judged_as line_fault
-judged-off before s e = rw e
+judged-off before s e why w = let q : why ≡ LineWrong = grind arith in rw (q, e)
 
 module _ (before : Found ℤ) (s : List ℕ) (l : Line) (says : LineSays l s) (up : Bool) (u : up ≡ above before (to_z w32 (of_z w32 l.id))) where
   abbrev id : ℤ
@@ -52,12 +54,12 @@ module _ (before : Found ℤ) (s : List ℕ) (l : Line) (says : LineSays l s) (u
   up-said : up ≡ above before (id_said s)
   up-said = u ∙ ap (above before) id-read
 
-  pub judged-low : up ≡ false → ◌≡◌ {A = Judged} (record { fault = because IdNotAbove; id = id }) (judged_as before s)
+  pub judged-low : up ≡ false → ◌≡◌ {A = Result ℤ} (Err IdNotAbove) (judged_as before s)
   unfolding judged_as line_fault
-  judged-low t = rw (id-read, says.formed, sym up-said ∙ t)
+  judged-low t = rw (says.formed, sym up-said ∙ t)
 
   pub judged-value : up ≡ true → (v : Fault) → v ≡ value_fault (value_said l.kind (take (length s - l.from) (drop l.from s))) →
-      ◌≡◌ {A = Judged} (record { fault = v; id = id }) (judged_as before s)
+      unless_fault v id ≡ judged_as before s
   unfolding judged_as line_fault
   judged-value t v q = rw (q ∙ ap value_fault (value_same s l says), id-read, says.formed, sym up-said ∙ t)
 

@@ -1,7 +1,7 @@
 -- One turn over the lines of a text: where a line ends, and how the reading goes on after it.
 use Prim.Native.Nat.{ℕ, suc, ◌+◌, ◌-◌, ◌≤◌, ◌<◌}
 use mathlib.Core.Bool.{Bool, true, false}
-use mathlib.Core.Path.{◌≡◌, sym, ap, ap₂, ◌∙◌}
+use mathlib.Core.Path.{◌≡◌, refl, sym, ap, ap₂, ◌∙◌}
 use mathlib.Core.List.{List}
 use native.Mathlib.Omega.{arith}
 use borrow.Author.Tests.{ltb-true, ltb-false}
@@ -13,15 +13,16 @@ use lib.IntN.{ℤ}
 use lib.ListN.{length, take, drop, length-drop}
 use lib.Seq.{drop-drop}
 use Rattle.wing_node.specs.declared.refusal.Refusal.{Refusal}
-use Rattle.wing_node.specs.Refusal.{no_fault, because}
+use Rattle.wing_node.specs.Refusal.{Fault, no_fault, because}
 use Rattle.wing_node.specs.Bool.{if}
 use Rattle.wing_mirror.specs.Rows.{Found, found, nothing}
 use Rattle.wing_mirror.specs.Query.{same_bytes}
 use Rattle.wing_listing.specs.Listing.{header}
 use Rattle.wing_listing.specs.Parts.{newline, parted, part}
 use Rattle.wing_listing.specs.Reading.{id_said, entry_said, line_fault, bad, after, unless_bad, lines_from, reading_of}
-use Rattle.wing_listing.specs.Steps.{id_before, judged_as}
-use Rattle.wing_listing.specs.declared.line.Judged.{Judged}
+use Rattle.wing_listing.specs.Steps.{id_before, unless_fault, judged_as}
+use Rattle.wing_node.specs.Result.{Result}
+use Rattle.std.specs.Prelude.{Ok, Err}
 use Rattle.wing_listing.proofs.Texts.Drops.{rest-whole}
 use Rattle.wing_listing.proofs.Texts.Numbers.{by-test}
 use Rattle.wing_listing.proofs.Texts.Parts.{front-le, front-take}
@@ -84,17 +85,28 @@ module _ (text : List ℕ) (at k : ℕ) (f : k ≡ length (part newline 0 (take 
         ap₂ (λ a b. counted a (lines_from b (found (id_said line)) (parted newline (drop (at + k + 1) text)))) c m) ∙ w)
 
 -- what was judged of the line
-module _ (before : Found ℤ) (s line : List ℕ) (j : Judged) (e : j ≡ judged_as before s) (same : s ≡ line) where
-  pub judged-why : j.fault ≡ line_fault before line
-  unfolding judged_as
-  judged-why = ap (λ (x : Judged). x.fault) e ∙ ap (line_fault before) same
+fault-err : (f : Fault) (id : ℤ) (why : Refusal) → unless_fault f id ≡ Err why → f ≡ because why
+fault-err (Ok u) id why h = grind arith
+fault-err (Err w) id why h = grind arith
 
-  pub judged-id : j.fault ≡ no_fault → to_z w32 (of_z w32 j.id) ≡ id_said line
+fault-ok : (f : Fault) (id x : ℤ) → unless_fault f id ≡ Ok x → (f ≡ no_fault) × (x ≡ id)
+fault-ok (Ok u) id x h = (refl, grind arith)
+fault-ok (Err w) id x h = (grind arith, grind arith)
+
+module _ (before : Found ℤ) (s line : List ℕ) (j : Result ℤ) (e : j ≡ judged_as before s) (same : s ≡ line) where
+  judged : j ≡ unless_fault (line_fault before line) (id_said line)
   unfolding judged_as
-  judged-id z =
-      let formed = faultless-line before line (sym judged-why ∙ z) in
-      let said : (judged_as before line).id ≡ id_said line = rw formed in
-      said-passed line j.id formed (ap (λ (x : Judged). x.id) e ∙ ap (λ (t : List ℕ). (judged_as before t).id) same ∙ said)
+  judged = e ∙ ap (judged_as before) same
+
+  pub judged-why : (why : Refusal) → j ≡ Err why → line_fault before line ≡ because why
+  judged-why why z = fault-err (line_fault before line) (id_said line) why (sym judged ∙ z)
+
+  module _ (x : ℤ) (z : j ≡ Ok x) where
+    pub judged-good : line_fault before line ≡ no_fault
+    judged-good = (fault-ok (line_fault before line) (id_said line) x (sym judged ∙ z)).0
+
+    pub judged-id : to_z w32 (of_z w32 x) ≡ id_said line
+    judged-id = said-passed line x (faultless-line before line judged-good) (fault-ok (line_fault before line) (id_said line) x (sym judged ∙ z)).1
 
 -- the header, by the place of the first newline
 module _ (text : List ℕ) (n : ℕ) (f : n ≡ length (part newline 0 text)) where

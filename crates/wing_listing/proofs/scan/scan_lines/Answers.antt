@@ -11,7 +11,7 @@ use Rattle.wing_listing.specs.Parts.{newline, parted}
 use Rattle.wing_listing.specs.Reading.{lines_from}
 use Rattle.wing_listing.specs.Steps.{id_before, scanned_as}
 use Rattle.wing_listing.proofs.Texts.Drops.{drop-none}
-use Rattle.wing_listing.proofs.Texts.Turns.{not_equal, line, line-within, the-line, turn-unended, turn-bad, turn-again, judged-why, judged-id}
+use Rattle.wing_listing.proofs.Texts.Turns.{not_equal, line, line-within, the-line, turn-unended, turn-bad, turn-again, judged-why, judged-good, judged-id}
 use Rattle.wing_listing.proofs.Texts.Scans.{lines_end, counted, counted-all}
 use Rattle.wing_listing.proofs.scan.scan_lines.Goals as goal
 use Rattle.std.specs.Prelude.{Ok}
@@ -42,8 +42,8 @@ returns-in-Err c =
     let h = not_equal (c.loop-at.at + c.find.result) (length text) (omega (arith, c.loop-at.invariant.0)) c.if-end-text.false in
     let B = id_before c.loop-at.before in
     let x = line text c.loop-at.at c.find.result c.find.ensures in
-    let why = judged-why B _ x c.judge-j.result c.judge-j.ensures (the-line text c.loop-at.at c.find.result c.find.ensures) in
-    let bad-line = turn-bad text c.loop-at.at c.find.result c.find.ensures h c.loop-at.number B _ (sym why ∙ c.in-Err.is) in
+    let why = judged-why B _ x c.judge.result c.judge.ensures (the-line text c.loop-at.at c.find.result c.find.ensures) c.in-Err.why c.in-Err.is in
+    let bad-line = turn-bad text c.loop-at.at c.find.result c.find.ensures h c.loop-at.number B c.in-Err.why why in
     c.bad-in-Err.ensures ∙ ap (counted (c.loop-at.number - 2)) (sym bad-line) ∙ c.loop-at.invariant.3
 
 pub overflow_add-at : goal.overflow_add-at
@@ -58,10 +58,9 @@ loop-at-preserved c =
     let h = not_equal (c.loop-at.at + c.find.result) (length text) (omega (arith, c.loop-at.invariant.0)) c.if-end-text.false in
     let B = id_before c.loop-at.before in
     let x = line text c.loop-at.at c.find.result c.find.ensures in
-    let why = judged-why B _ x c.judge-j.result c.judge-j.ensures (the-line text c.loop-at.at c.find.result c.find.ensures) in
-    let z = c.in-Ok.is in
-    let i = judged-id B _ x c.judge-j.result c.judge-j.ensures (the-line text c.loop-at.at c.find.result c.find.ensures) z in
-    (omega arith, omega (arith, c.loop-at.invariant.1), omega (arith, c.loop-at.invariant.2), turn-again text c.loop-at.at c.find.result c.find.ensures h c.loop-at.number B (to_z w32 (of_z w32 c.judge-j.result.id)) (scanned_as (lines_from 2 nothing (parted newline text))) c.loop-at.invariant.1 (sym why ∙ z) i c.loop-at.invariant.3)
+    let z = judged-good B _ x c.judge.result c.judge.ensures (the-line text c.loop-at.at c.find.result c.find.ensures) c.in-Ok.id c.in-Ok.is in
+    let i = judged-id B _ x c.judge.result c.judge.ensures (the-line text c.loop-at.at c.find.result c.find.ensures) c.in-Ok.id c.in-Ok.is in
+    (omega arith, omega (arith, c.loop-at.invariant.1), omega (arith, c.loop-at.invariant.2), turn-again text c.loop-at.at c.find.result c.find.ensures h c.loop-at.number B (to_z w32 (of_z w32 c.in-Ok.id)) (scanned_as (lines_from 2 nothing (parted newline text))) c.loop-at.invariant.1 z i c.loop-at.invariant.3)
 
 pub returns : goal.returns
 returns c =
