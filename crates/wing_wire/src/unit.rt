@@ -220,6 +220,7 @@ fn string_done(node: i32, want: u16, store: &mut [u8]) -> Taken
     }
 }
 
+#[tactic(auto, unfolding(crate::specs::Unit::string_unit))]
 fn string_unit(node: i32, want: u16, left: u16, store: &mut [u8], u: u8) -> Taken
     ensures { unit_effect result store.new ≡ string_unit node want left store.old u }
 {
@@ -272,6 +273,7 @@ fn body_next(node: i32, want: u32, left: u32, stored: u16) -> Taken
     )
 }
 
+#[tactic(auto, unfolding(crate::specs::Unit::body_unit))]
 fn body_unit(
     node: i32,
     want: u32,
