@@ -107,6 +107,7 @@ fn head_of(version: u8, c: Control) -> [u8; HEAD]
 }
 
 // Bytes at a place.
+#[tactic(auto, using(crate::proofs::Saving::Fronts::put_sets))]
 fn lay(out: &mut [u8], at: usize, src: &[u8])
     requires { at + length src.now ≤ length out.old }
     ensures { out.new ≡ sets out.old at src.now }
@@ -165,6 +166,7 @@ fn low_16(n: u32) -> u16
     (n % 0x10000) as u16
 }
 
+#[tactic(auto, using(crate::proofs::Saving::Heads::class_said), unfolding(crate::specs::Saved::token_in))]
 fn token_in(k: TokenFields) -> Token
     ensures { result ≡ token_in k }
 {
@@ -191,6 +193,7 @@ fn token_in(k: TokenFields) -> Token
 }
 
 // What is stored has 16 bits: the last two of its four bytes.
+#[tactic(auto, unfolding(crate::specs::Saved::fields_in))]
 fn fields_in(s: &[u8]) -> TokenFields
     requires { length s.now ≡ saved_size }
     ensures { result ≡ fields_in s.now }
@@ -207,6 +210,7 @@ fn fields_in(s: &[u8]) -> TokenFields
 
 // What the fields say, whatever the bytes. head_under then lays the control's own fields and takes it only if they are these bytes, so that no
 // other number, such as a flag of 2 or a byte where none is pending, needs a test of its own.
+#[tactic(auto, unfolding(crate::specs::Saved::control_in))]
 fn control_in(s: &[u8]) -> Control
     requires { length s.now ≡ saved_size }
     ensures { result ≡ control_in s.now }

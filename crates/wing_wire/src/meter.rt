@@ -49,6 +49,7 @@ pub struct MetersRead {
 }
 
 // 01: a0 to a8 with index, a9 and aa alone, ab to af with index.
+#[tactic(auto, unfolding(crate::specs::Meter::item_of))]
 fn item_of(m: Meter) -> MeterItem
     ensures { result ≡ item_of m }
 {
@@ -72,6 +73,7 @@ fn item_of(m: Meter) -> MeterItem
     }
 }
 
+#[tactic(auto, unfolding(crate::specs::Meter::item_bytes))]
 fn lay_meter(out: &mut [u8], at: usize, m: Meter) -> usize
     requires { at ≤ 0x1000 }
     ensures laid { Laid (item_bytes (item_of m)) at out.old out.new result }

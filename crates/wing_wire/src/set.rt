@@ -96,6 +96,7 @@ pub fn set_float(out: &mut [u8], id: i32, bits: u32) -> Result<usize, Refusal>
 }
 
 // What stands before a string's bytes. 01: d0; 80 + length − 1 up to 64; d1 and length − 1 up to 256.
+#[tactic(auto, unfolding(crate::specs::Command::length_bytes))]
 fn lay_length(out: &mut [u8], at: usize, len: usize) -> usize
     requires { (at ≤ 0x1000) × (len ≤ 256) }
     ensures laid { Laid (length_bytes len) at out.old out.new result }

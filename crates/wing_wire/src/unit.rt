@@ -66,6 +66,7 @@ fn is_string(class: Class) -> bool
 }
 
 // A token that wants units.
+#[tactic(auto, unfolding(crate::specs::Unit::token_of))]
 fn token_of(class: Class, wants: u16) -> Token
     ensures { result ≡ token_of class wants }
 {
@@ -82,6 +83,7 @@ fn token_of(class: Class, wants: u16) -> Token
     }
 }
 
+#[tactic(auto, unfolding(crate::specs::Unit::begin_of))]
 fn begin(node: i32, t: u8) -> Taken
     ensures { result ≡ begin_of node t }
 {
@@ -112,6 +114,7 @@ fn body_of(node: i32, c: u32) -> Taken
 }
 
 // A 16-bit count; after 0 comes a 32-bit one.
+#[tactic(auto, unfolding(crate::specs::Unit::count_of))]
 fn count(node: i32, c: u16) -> Taken
     ensures { result ≡ count_of node c }
 {
@@ -169,6 +172,7 @@ pub(crate) fn shift_in(v: u32, u: u8) -> u32
     v % 0x1000000 * 256 + (u as u32)
 }
 
+#[tactic(auto, unfolding(crate::specs::Unit::number_unit))]
 fn number_unit(node: i32, class: Class, left: u16, v: u32, u: u8) -> Taken
     ensures { result ≡ number_unit node class left v u }
 {
@@ -216,6 +220,7 @@ fn string_done(node: i32, want: u16, store: &mut [u8]) -> Taken
     }
 }
 
+#[tactic(auto, unfolding(crate::specs::Unit::string_unit))]
 fn string_unit(node: i32, want: u16, left: u16, store: &mut [u8], u: u8) -> Taken
     ensures { unit_effect result store.new ≡ string_unit node want left store.old u }
 {
@@ -250,6 +255,7 @@ fn body_done(node: i32, want: u32, stored: u16) -> Taken
     refuse(Refusal::BodyLong, node)
 }
 
+#[tactic(auto, unfolding(crate::specs::Unit::body_next))]
 fn body_next(node: i32, want: u32, left: u32, stored: u16) -> Taken
     ensures { result ≡ body_next node want left stored }
 {
@@ -267,6 +273,7 @@ fn body_next(node: i32, want: u32, left: u32, stored: u16) -> Taken
     )
 }
 
+#[tactic(auto, unfolding(crate::specs::Unit::body_unit))]
 fn body_unit(
     node: i32,
     want: u32,
@@ -286,6 +293,7 @@ fn body_unit(
 }
 
 // One unit. What a body's units append is in the store, as is every unit of a string.
+#[tactic(auto, unfolding(crate::specs::Unit::unit_of))]
 pub(crate) fn take_unit(node: i32, token: Token, store: &mut [u8], u: u8, appended: bool) -> Taken
     ensures { unit_effect result store.new ≡ unit_of node token store.old u appended }
 {
