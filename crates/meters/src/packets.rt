@@ -1,6 +1,6 @@
 // The packets of the input: their ids, and their readings one after the other.
 use crate::column::{entry, onward, put};
-use wing_node::field::{left, u16_at};
+use wing_node::field::{left, number_at};
 use wing_wire::meter::{MetersRead, read_meters};
 
 // The most bytes that an input may have.
@@ -137,7 +137,7 @@ fn take_packet(
     if left(input, at) < 2 {
         return stopped(p, Stand::Inside);
     }
-    let len = u16_at(input, at) as usize;
+    let len = number_at::<u16>(input, at) as usize;
     if is_outside(len) {
         return stopped(p, Stand::Refused(13));
     }

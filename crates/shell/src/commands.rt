@@ -4,7 +4,7 @@ use crate::forms::{Asked, Numbers};
 use crate::show::{Log, Said};
 use crate::{read, show};
 use wing_node::writer::BodyWritten;
-use wing_node::{anew, field, writer};
+use wing_node::{anew, writer};
 use wing_wire::meter::Meter;
 use wing_wire::write::Written;
 use wing_wire::{meter, request, set};
@@ -21,7 +21,7 @@ pub fn word(n: usize) -> u32 {
 }
 
 pub fn int(n: usize) -> i32 {
-    field::to_i32(word(n))
+    word(n).cast_signed()
 }
 
 pub fn half(n: usize) -> u16 {
@@ -193,7 +193,7 @@ fn readings(log: &mut Log, mut at: usize, out: &[i16], count: usize) -> usize {
     while i < out.len() {
         let reading = out[i];
         if i < count {
-            at = show::hex(log, at, field::of_i16(reading) as usize, 4);
+            at = show::hex(log, at, reading.cast_unsigned() as usize, 4);
         } else if reading != READING_MARK {
             kept = false;
         }

@@ -2,7 +2,6 @@
 // stays at its end.
 
 use crate::read;
-use wing_node::field;
 use wing_node::refusal::Refusal;
 use wing_wire::state::zeros_from;
 
@@ -236,7 +235,7 @@ pub fn tell(log: &mut Log, at: usize, letter: u8, a: usize, b: usize, c: usize, 
 
 // The bits of a signed number.
 pub fn bits(x: i32) -> usize {
-    field::of_i32(x) as usize
+    x.cast_unsigned() as usize
 }
 
 pub fn flag(yes: bool) -> usize {

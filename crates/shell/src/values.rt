@@ -73,8 +73,8 @@ fn string(log: &mut Log, length: usize, s: &[u8]) -> usize {
 
 fn getters(log: &mut Log, kind: usize, s: &[u8]) -> usize {
     match kind {
-        0 => sized(log, Value::Integer(field::i32_at(s, 0)), s, 4, 4),
-        1 => sized(log, Value::Float(field::u32_at(s, 0)), s, 4, 4),
+        0 => sized(log, Value::Integer(field::number_at::<i32>(s, 0)), s, 4, 4),
+        1 => sized(log, Value::Float(field::number_at::<u32>(s, 0)), s, 4, 4),
         _ => string(log, s.len(), s),
     }
 }

@@ -141,7 +141,7 @@ fn rows(log: &mut Log, s: Said, out: &[i32]) -> usize {
 fn lay_readings(xs: &mut Spelled, bytes: &[u8]) {
     let mut i = 0;
     while i < READINGS {
-        xs[i] = field::to_i16(field::u16_at(bytes, 2 * i));
+        xs[i] = field::number_at::<u16>(bytes, 2 * i).cast_signed();
         i += 1;
     }
 }
@@ -227,7 +227,7 @@ fn levels_of(bytes: &[u8]) -> Levels {
     let mut levels = [0u16; 256];
     let mut i = 0;
     while i < 256 {
-        levels[i] = field::u16_at(bytes, 2 * i);
+        levels[i] = field::number_at::<u16>(bytes, 2 * i);
         i += 1;
     }
     levels
@@ -256,7 +256,7 @@ pub fn order(w: Window, a: Asked, bytes: &[u8], log: &mut Log) -> Watched {
     let letter = a.letter;
     match letter {
         b'w' => make(w, word(a.first), log),
-        b'r' => reading(w, field::to_i16(half(a.first)), log),
+        b'r' => reading(w, half(a.first).cast_signed(), log),
         b'f' => figures(w, log),
         b's' => readings(w, a.last, bytes, log),
         b'g' => ring(w, log),

@@ -8,7 +8,6 @@ ghost use Rattle.wing_c.specs.Definitions.{walk_as, begun_numbers, no_item, item
 
 use crate::answers::{Outcome, no_refusal, sent_back};
 use wing_node::definition::{Definition, Details, Item, Parsed};
-use wing_node::field::of_i32;
 use wing_node::items::Begun;
 use wing_node::node_type::{type_number, type_of, unit_number};
 use wing_node::refusal::Refusal;
@@ -114,7 +113,7 @@ fn numbers_of(d: Details) -> DetailFields
     match d {
         Details::None => limits(0, 0, 0),
         Details::Floats { min, max, steps } => limits(min, max, steps),
-        Details::Integers { min, max } => limits(of_i32(min), of_i32(max), 0),
+        Details::Integers { min, max } => limits(min.cast_unsigned(), max.cast_unsigned(), 0),
         Details::Items { count, first } => listed(count, first, 0),
         Details::String { max_len } => listed(0, 0, max_len),
     }

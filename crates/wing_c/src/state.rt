@@ -10,7 +10,6 @@ ghost use Rattle.wing_c.specs.Kept.{state_status, carried_kept, state_carried, s
 
 use crate::answers::{WingEvent, WingWritten, event, minus, written};
 use crate::kept::keep;
-use wing_node::field::least;
 use wing_node::refusal::{Refusal, number};
 use wing_saved::earlier::load_earlier;
 use wing_saved::{HEAD, LoadAnswer};
@@ -62,7 +61,7 @@ pub extern "C" fn wing_state_carry_over(earlier: &[u8], state: &mut [u8]) -> Win
 fn copy_front(out: &mut [u8], s: &[u8], n: usize)
     ensures { out.new ≡ over (take n s.now) out.old }
 {
-    let most = least(least(n, s.len()), out.len());
+    let most = n.min(s.len()).min(out.len());
     let mut i = 0;
     while i < most {
         out[i] = s[i];

@@ -3,12 +3,10 @@
 ghost use Rattle.std.specs.Prelude.{◌≡◌, ◌*◌, ◌≤◌};
 ghost use Rattle.wing_meters.specs.Level.{level_of, reading_at, lowered};
 
-use wing_node::field::{of_i16, to_i16, to_i32};
-
 pub(crate) fn level_of(x: i16) -> u16
     ensures { result ≡ level_of x }
 {
-    let bits = of_i16(x);
+    let bits = x.cast_unsigned();
     if bits < 0x8000 {
         bits + 0x8000
     } else {
@@ -21,9 +19,9 @@ pub(crate) fn reading_at(level: u16) -> i16
     ensures { result ≡ reading_at level }
 {
     if level < 0x8000 {
-        to_i16(level + 0x8000)
+        (level + 0x8000).cast_signed()
     } else {
-        to_i16(level - 0x8000)
+        (level - 0x8000).cast_signed()
     }
 }
 
@@ -34,7 +32,7 @@ pub(crate) fn sum_of(sum: u32, held: u16) -> i32
 {
     let raised = 0x8000 * held as u32;
     if sum < raised {
-        return to_i32(0xffff_ffff - (raised - sum - 1));
+        return (0xffff_ffff - (raised - sum - 1)).cast_signed();
     }
-    to_i32(sum - raised)
+    (sum - raised).cast_signed()
 }

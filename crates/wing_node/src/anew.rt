@@ -5,7 +5,6 @@ ghost use Rattle.wing_node.specs.Anew.{fields_with, fields_of, item_bytes, lent_
 
 use crate::cursor::Cursor;
 use crate::definition::{Definition, Details, Parsed, from_bytes, past_items};
-use crate::field::least;
 use crate::node_type::{NodeType, type_number, unit_number};
 use crate::refusal::Fault;
 use crate::writer::{BodyWritten, Fields, to_bytes};
@@ -21,10 +20,10 @@ struct Part {
 fn part_of(body: &[u8], from: usize, len: usize) -> Part
     ensures { (result.start ≤ result.end) × (result.end ≤ length body.now) × (take (result.end - result.start) (drop result.start body.now) ≡ take len (drop from body.now)) }
 {
-    let start = least(from, body.len());
+    let start = from.min(body.len());
     Part {
         start: start,
-        end: start + least(len, body.len() - start),
+        end: start + len.min(body.len() - start),
     }
 }
 

@@ -3,7 +3,6 @@
 ghost use Rattle.std.specs.Prelude.{◌≡◌, take};
 ghost use Rattle.wing_node.specs.Refusal.{refusal_number, is_refused, first_fault, by_number, string_fault};
 
-use crate::field::least;
 use crate::utf8::good_len;
 
 // 1 is a string of the wire or to be set, 5 one of a definition.
@@ -62,7 +61,7 @@ pub fn by_number(n: u8) -> Fault
 pub fn string_fault(s: &[u8], n: u16) -> Fault
     ensures { result ≡ string_fault (take n s.now) }
 {
-    let len = least(n as usize, s.len());
+    let len = (n as usize).min(s.len());
     let good = good_len(&s[..len]);
     if good == len {
         return Fault::None;

@@ -7,7 +7,7 @@ ghost use Rattle.wing_wire.specs.Meter.{item_of, item_bytes, meters_bytes, reque
 
 use crate::laying::{hand_over, lay, lay_8, lay_16};
 use crate::write::Written;
-use wing_node::field::{to_i16, u16_at};
+use wing_node::field::number_at;
 use wing_node::refusal::{Refusal, number};
 
 #[derive(Clone, Copy)]
@@ -234,7 +234,7 @@ fn reading_at(packet: &[u8], at: usize) -> i16
     ensures { result ≡ signed 15 (field_at 2 packet.now at) }
 {
     let pair = pair_at(packet, at);
-    to_i16(pair % 256 * 256 + pair / 256)
+    (pair % 256 * 256 + pair / 256).cast_signed()
 }
 
 // The first count readings of a packet, after its four bytes of head.
@@ -266,7 +266,7 @@ pub fn read_meters(packet: &[u8], out: &mut [i16]) -> MetersRead
     }
     fill_readings(packet, out, count);
     MetersRead::Readings {
-        id: u16_at(packet, 0),
+        id: number_at::<u16>(packet, 0),
         count: count,
     }
 }

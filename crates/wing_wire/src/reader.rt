@@ -7,7 +7,6 @@ ghost use Rattle.wing_wire.specs.Reader.{over, filled, string_beside, body_besid
 use crate::state::{State, is_sound};
 use crate::stream::{advance, release};
 use crate::unit::Answer;
-use wing_node::field::least;
 use wing_node::refusal::Refusal;
 
 // The answer, the bytes taken, the state after it, and the string or body, zero-filled.
@@ -25,7 +24,7 @@ pub struct Reply {
 pub(crate) fn copy_front(out: &mut [u8], s: &[u8], n: usize)
     ensures { out.new ≡ over (take n s.now) out.old }
 {
-    let most = least(least(n, s.len()), out.len());
+    let most = n.min(s.len()).min(out.len());
     let mut i = 0;
     while i < most {
         out[i] = s[i];

@@ -9,7 +9,6 @@ ghost use Rattle.wing_wire.specs.Command.{from◌to◌, integer_bytes, length_by
 
 use crate::laying::{hand_over, lay, lay_8, lay_16, lay_32, lay_escaped, lay_id};
 use crate::write::Written;
-use wing_node::field::{of_i16, of_i32};
 use wing_node::refusal::{Fault, Refusal, string_fault};
 
 // What follows an id.
@@ -61,10 +60,10 @@ fn lay_integer(out: &mut [u8], at: usize, value: i32) -> usize
     }
     if is_from(-32768, 32767, value) {
         let next = lay(out, at, 0xd3);
-        return lay_16(out, next, of_i16(value as i16));
+        return lay_16(out, next, (value as i16).cast_unsigned());
     }
     let next = lay(out, at, 0xd4);
-    lay_32(out, next, of_i32(value))
+    lay_32(out, next, value.cast_unsigned())
 }
 
 fn lay_set_int(out: &mut [u8], id: i32, value: i32) -> usize

@@ -10,6 +10,7 @@ use lib.Dec.{ltb}
 use lib.ListN.{length, take, drop, get_or, set, length-append, length-drop, take-append-drop}
 use lib.Seq.{take-suc, drop-cons, sets, sets-eq, drop_at, drop-drop, length-take-le, take-append_seam}
 use borrow.Author.Tests.{lt-ltb, le-ltb, ltb-false}
+use borrow.Rule.Slice.PartMut.{put_mid}
 use Rattle.wing_node.specs.Bytes.{placed}
 use Rattle.wing_node.specs.Field.{big, bytes_of, field_at, put, put_at}
 use Rattle.wing_node.proofs.Numerals.Numbers.{Digits, digits-take, digits-drop, digits_number, number_digits, length-digits_in}
@@ -101,6 +102,10 @@ sets-append [] ws l i = rw (add-zero i)
 sets-append (v ∷ vs) ws l i =
     let z : i + suc (length vs) ≡ suc i + length vs = omega arith in
     rw z (sets-append vs ws (set l i v) (suc i))
+
+-- bytes in the place of a part of the output that is as long
+pub part-sets : (d s : List ℕ) (at n : ℕ) → n ≡ length s → at + n ≤ length d → put_mid at n d s ≡ sets d at s
+part-sets d s at n e h = rw (drop-drop, e) (sym (sets-eq s d at (omega arith) ∙ append_assoc (take at d) s (drop (at + length s) d)))
 
 -- a turn of a loop that lays bytes
 pub lay-more : (out src : List ℕ) (at i : ℕ) → i < length src → set (sets out at (take i src)) (at + i) (get_or src i 0) ≡ sets out at (take (i + 1) src)

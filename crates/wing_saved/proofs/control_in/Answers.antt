@@ -10,8 +10,8 @@ pub returns : goal.returns
 unfolding control_in
 returns c =
     let x = c.to_i8.result in
-    let y = c.i32_at.result in
+    let y = c.number_at.result in
     let k : to_z w8 (of_z w8 x) ≡ x = search rules in
     let l : to_z w32 (of_z w32 y) ≡ y = search rules in
     rw (k, l)
-    (simp (c.to_i8.ensures, c.i32_at.ensures, c.token_in-token.ensures, c.fields_in.ensures, c.pending_in-pending.ensures))
+    (simp (c.to_i8.ensures, c.number_at.ensures, c.token_in-token.ensures, c.fields_in.ensures, c.pending_in-pending.ensures))

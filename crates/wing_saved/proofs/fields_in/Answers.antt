@@ -4,4 +4,4 @@ use Rattle.wing_saved.proofs.fields_in.Goals as goal
 
 pub returns : goal.returns
 unfolding fields_in
-returns c = simp (c.u32_at.ensures, c.u32_at-2.ensures, c.u16_at.ensures, c.u32_at-3.ensures)
+returns c = simp (c.number_at.ensures, c.number_at-2.ensures, c.number_at-3.ensures, c.number_at-4.ensures)

@@ -10,7 +10,7 @@ use Rattle.wing_wire.proofs.Reading.Overs.{over-turn, length_over, over-least}
 use Rattle.wing_c.proofs.state.copy_front.Goals as goal
 
 pub loop-i-init : goal.loop-i-init
-loop-i-init c = (omega arith, c.least-most.ensures ∙ ap (λ (k : ℕ). min k (length c.args.out.now)) c.least.ensures, refl)
+loop-i-init c = (omega arith, c.min-most.ensures ∙ ap (λ (k : ℕ). min k (length c.args.out.now)) c.min.ensures, refl)
 
 pub bounds-out-i : goal.bounds-out-i
 bounds-out-i c =

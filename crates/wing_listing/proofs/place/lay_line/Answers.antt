@@ -28,7 +28,7 @@ slice_bounds-lay_said-start c =
 pub lay_said-requires : goal.lay_said-requires
 lay_said-requires c =
     let x = c.args.s.now in (
-      c.put_i32.auto.out ∙ c.zero.auto.out ∙ c.requires.0,
+      c.put_number.auto.out ∙ c.zero.auto.out ∙ c.requires.0,
       value-formed x c.line_in-l.result c.line_in-l.ensures c.requires.1,
       ap value_fault (value_same x c.line_in-l.result c.line_in-l.ensures c.requires.1) ∙ c.requires.2,
     )
@@ -39,6 +39,6 @@ returns c =
     let x = c.args.s.now in
     let id : to_z w32 (of_z w32 c.line_in-l.result.id) ≡ id_said x = read-passed (part comma 0 x) c.line_in-l.result.id c.line_in-l.ensures.id ∙ read-id x c.requires.1 in
     let zeros : c.zero.new.out ≡ replicate 264 0 = c.zero.ensures ∙ ap (λ n. replicate n 0) c.requires.0 in
-    record-laid (id_said x) (entry_said x).value Console c.zero.new.out c.put_i32.new.out c.lay_said.new.out zeros
-    (console-head (id_said x) c.zero.new.out c.put_i32.new.out c.put_i32.result zeros (c.put_i32.ensures ∙ ap (λ y. put_at (bytes_of 4 (unsigned 31 y)) 0 c.zero.new.out) id))
-    (c.lay_said.ensures ∙ ap (λ (v : NodeValue). laid_from c.put_i32.new.out (kind_of v) (payload_of v)) (value_same x c.line_in-l.result c.line_in-l.ensures c.requires.1))
+    record-laid (id_said x) (entry_said x).value Console c.zero.new.out c.put_number.new.out c.lay_said.new.out zeros
+    (console-head (id_said x) c.zero.new.out c.put_number.new.out c.put_number.result zeros (c.put_number.ensures ∙ ap (λ y. put_at (bytes_of 4 (unsigned 31 y)) 0 c.zero.new.out) id))
+    (c.lay_said.ensures ∙ ap (λ (v : NodeValue). laid_from c.put_number.new.out (kind_of v) (payload_of v)) (value_same x c.line_in-l.result c.line_in-l.ensures c.requires.1))

@@ -1,17 +1,18 @@
--- Each arm is the line of `number_of` with that class; the contracts of `to_i16` and `to_i32` give the signed numbers, and that of `count` what a
+-- Each arm is the line of `number_of` with that class; the casts give the signed numbers (`reads`), and that of `count` what a
 -- count does.
-use mathlib.Core.Path.{◌≡◌}
+use mathlib.Core.Path.{◌≡◌, refl}
 use native.Mathlib.Omega.{arith}
 use mir.Val.{SFits, to_z, of_z}
 use mir.Syntax.{w16, w32}
 use mir.Facts.{to_z-of_z}
 use borrow.Author.Rules.{rules}
 use Rattle.wing_wire.specs.Unit.{number_of}
+use Rattle.wing_node.proofs.Numerals.Signs.{reads}
 use Rattle.wing_wire.proofs.unit.number.Goals as goal
 
 pub overflow_cast-x : goal.overflow_cast-x
 overflow_cast-x c =
-    let x = c.to_i16-x.result in
+    let x = c.cast_signed-x.result in
     let back : to_z w16 (of_z w16 x) ≡ x = search rules in
     let fits : SFits w16 x = search rules in
     rw back (record { sfits = omega (arith, fits.sfits) })
@@ -35,18 +36,18 @@ returns-in-Length c = simp (c.in-Length.is, c.taken_of-in-Length.ensures) (rw (t
 pub returns-in-Int16 : goal.returns-in-Int16
 unfolding number_of
 returns-in-Int16 c =
-    let x = c.to_i16-x.result in
+    let x = c.cast_signed-x.result in
     let back : to_z w16 (of_z w16 x) ≡ x = search rules in
     let fits : SFits w16 x = search rules in
     let wide : to_z w32 (of_z w32 x) ≡ x = to_z-of_z {w = w32} (record { sfits = omega (arith, fits.sfits) }) in
-    simp (c.taken_of-in-Int16.ensures, c.in-Int16.is) (rw (back, wide, to_z-of_z c.ranges.node, c.to_i16-x.ensures))
+    simp (c.taken_of-in-Int16.ensures, c.in-Int16.is) (rw (back, wide, to_z-of_z c.ranges.node, c.cast_signed-x.ensures, reads w16 refl _))
 
 pub returns-in-Int32 : goal.returns-in-Int32
 unfolding number_of
 returns-in-Int32 c =
-    let x = c.to_i32.result in
+    let x = c.cast_signed.result in
     let back : to_z w32 (of_z w32 x) ≡ x = search rules in
-    simp (c.taken_of-in-Int32.ensures, c.in-Int32.is) (rw (back, to_z-of_z c.ranges.node, c.to_i32.ensures))
+    simp (c.taken_of-in-Int32.ensures, c.in-Int32.is) (rw (back, to_z-of_z c.ranges.node, c.cast_signed.ensures, reads w32 refl _))
 
 pub returns-in-Float : goal.returns-in-Float
 unfolding number_of
@@ -55,9 +56,9 @@ returns-in-Float c = simp (c.in-Float.is, c.taken_of-in-Float.ensures) (rw (to_z
 pub returns-in-Node : goal.returns-in-Node
 unfolding number_of
 returns-in-Node c =
-    let x = c.to_i32-in-Node.result in
+    let x = c.cast_signed-in-Node.result in
     let back : to_z w32 (of_z w32 x) ≡ x = search rules in
-    simp (c.taken_of-in-Node.ensures, c.in-Node.is) (rw (back, c.to_i32-in-Node.ensures))
+    simp (c.taken_of-in-Node.ensures, c.in-Node.is) (rw (back, c.cast_signed-in-Node.ensures, reads w32 refl _))
 
 pub returns-in-End : goal.returns-in-End
 unfolding number_of
