@@ -133,8 +133,8 @@ fn last_fields(d: definition::Definition) -> Said {
     let u = d.unit;
     details(
         more,
-        node_type::type_number(t) as usize,
-        node_type::unit_number(u) as usize,
+        u8::from(t) as usize,
+        u8::from(u) as usize,
         show::flag(d.read_only),
     )
 }
@@ -206,7 +206,7 @@ fn cuts(log: &mut Log, body: &[u8]) -> usize {
 
 // One step from a place that need not come from a walk; after it, in the same log, the walker's, to be held against it.
 fn step(log: &mut Log, a: Asked, body: &[u8]) -> usize {
-    let kind = node_type::type_of((a.third % 0x1_0000) as u16);
+    let kind = node_type::NodeType::from((a.third % 0x1_0000) as u16);
     let at = a.first;
     let left = (a.second % 0x1_0000) as u16;
     let w = items::Walk { at, left, kind };

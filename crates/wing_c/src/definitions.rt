@@ -9,7 +9,7 @@ ghost use Rattle.wing_c.specs.Definitions.{walk_as, begun_numbers, no_item, item
 use crate::answers::{Outcome, no_refusal, sent_back};
 use wing_node::definition::{Definition, Details, Item, Parsed};
 use wing_node::items::Begun;
-use wing_node::node_type::{type_number, type_of, unit_number};
+use wing_node::node_type::NodeType;
 use wing_node::refusal::Refusal;
 use wing_node::{definition, items};
 
@@ -134,8 +134,8 @@ fn taken(d: Definition) -> WingDefinition
         parent_id: d.parent_id,
         id: d.id,
         index: d.index,
-        node_type: type_number(node_type),
-        unit: unit_number(unit),
+        node_type: u8::from(node_type),
+        unit: u8::from(unit),
         read_only: d.read_only,
         count: n.count,
         max_len: n.max_len,
@@ -209,7 +209,7 @@ pub extern "C" fn wing_items_begin(body: &[u8]) -> WingWalk
     match begun {
         Begun::Good(w) => {
             let kind = w.kind;
-            walk(no_refusal(), w.at, w.left, type_number(kind))
+            walk(no_refusal(), w.at, w.left, u8::from(kind))
         }
         Begun::Refused(why) => walk(sent_back(why), 0, 0, 0),
     }
@@ -264,14 +264,14 @@ fn item(i: Item) -> WingItem
 pub extern "C" fn wing_item_step(body: &[u8], at: usize, left: u16, node_type: u8) -> WingStep
     ensures { result ≡ step_numbers (step_at body.now at left (type_of node_type)) }
 {
-    let kind = type_of(node_type as u16);
+    let kind = NodeType::from(node_type as u16);
     let step = items::item_step(body, at, left, kind);
     let i = step.item;
     let next = step.next;
     let after = next.kind;
     WingStep {
         item: item(i),
-        walk: walk(no_refusal(), next.at, next.left, type_number(after)),
+        walk: walk(no_refusal(), next.at, next.left, u8::from(after)),
     }
 }
 

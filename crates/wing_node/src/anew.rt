@@ -5,7 +5,7 @@ ghost use Rattle.wing_node.specs.Anew.{fields_with, fields_of, item_bytes, lent_
 
 use crate::cursor::Cursor;
 use crate::definition::{Definition, Details, Parsed, from_bytes, past_items};
-use crate::node_type::{NodeType, type_number, unit_number};
+use crate::node_type::NodeType;
 use crate::refusal::Fault;
 use crate::writer::{BodyWritten, Fields, to_bytes};
 
@@ -72,8 +72,8 @@ fn fields_with(
         parent_id: d.parent_id,
         id: d.id,
         index: d.index,
-        node_type: type_number(node_type),
-        unit: unit_number(unit),
+        node_type: u8::from(node_type),
+        unit: u8::from(unit),
         read_only: d.read_only,
         min_float: min_float,
         max_float: max_float,

@@ -5,7 +5,7 @@ ghost use Rattle.wing_node.specs.Cursor.{after};
 ghost use Rattle.wing_node.specs.Definition.{span_of, item_at, items_of, listed_at, details_at, parsed_from, definition_of};
 
 use crate::cursor::{Cursor, FieldRead, read_16, read_32, read_string};
-use crate::node_type::{NodeType, NodeUnit, type_of, unit_of};
+use crate::node_type::{NodeType, NodeUnit};
 use crate::refusal::{Fault, Refusal, is_refused};
 
 // Where a string lies in the body.
@@ -230,7 +230,7 @@ pub fn from_bytes(body: &[u8]) -> Parsed
     let long_name = read_string(body, name.next);
     let flags = read_16(body, long_name.next);
     let bits = flags.value;
-    let kind = type_of(bits / 16 % 16);
+    let kind = NodeType::from(bits / 16 % 16);
     let found = read_details(body, kind, flags.next);
     let details = found.details;
     let d = Definition {
@@ -240,7 +240,7 @@ pub fn from_bytes(body: &[u8]) -> Parsed
         name: span_of(name),
         long_name: span_of(long_name),
         node_type: kind,
-        unit: unit_of(bits % 16),
+        unit: NodeUnit::from(bits % 16),
         read_only: bits / 512 % 2 == 1,
         details: details,
     };

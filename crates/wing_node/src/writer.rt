@@ -16,7 +16,7 @@ ghost use Rattle.wing_node.specs.Written.{laid_by};
 ghost use Rattle.wing_node.specs.Writer.{lent, type_given, flags_of, holds, body_given, unfit, texts_fault, lent_fault, body_effect, body_of_fields};
 
 use crate::field::{left, put_number};
-use crate::node_type::{NodeType, has_items, type_of};
+use crate::node_type::{NodeType, has_items};
 use crate::refusal::{Fault, Refusal, by_number, first_fault};
 use crate::utf8::good_len;
 
@@ -146,7 +146,7 @@ fn fields_fault(node_type: u8, unit: u8, count: u16, items: &[u8], names: Fault)
     if unit > 7 {
         return by_number(16);
     }
-    let kind = type_of(node_type as u16);
+    let kind = NodeType::from(node_type as u16);
     if has_items(kind) {
         return items_fault(items, kind, count, names);
     }
@@ -295,7 +295,7 @@ pub fn to_bytes(
         Fault::None => {}
         Fault::Refused(why) => return BodyWritten::Refused(why),
     }
-    let kind = type_of(d.node_type as u16);
+    let kind = NodeType::from(d.node_type as u16);
     let len = 14 + name.len() + long_name.len() + added_len(kind) + items.len();
     if len > 4096 {
         return BodyWritten::Refused(Refusal::Number(2));

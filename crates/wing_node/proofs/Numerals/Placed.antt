@@ -40,25 +40,6 @@ take_more n s i h = rw (add-one i, drop-cons s i 0 h)
 pub two_bytes : (s : List ℕ) (i : ℕ) → 2 ≤ length s - i → take 2 (drop i s) ≡ get_or s i 0 ∷ get_or s (i + 1) 0 ∷ []
 two_bytes s i h = rw (take_more 1 s i (omega arith), take_more 0 s (i + 1) (omega arith))
 
-pub four_bytes : (s : List ℕ) (i : ℕ) → 4 ≤ length s - i →
-    take 4 (drop i s) ≡ get_or s i 0 ∷ get_or s (i + 1) 0 ∷ get_or s (i + 2) 0 ∷ get_or s (i + 3) 0 ∷ []
-four_bytes s i h =
-    let e : i + 1 + 1 ≡ i + 2 = omega arith in
-    let e' : i + 2 + 1 ≡ i + 3 = omega arith in
-    rw (take_more 3 s i (omega arith), take_more 2 s (i + 1) (omega arith), e, take_more 1 s (i + 2) (omega arith), e', take_more 0 s (i + 3) (omega arith))
-
--- the stores of a writer, one byte after the other
-pub stores-two : (a b : ℕ) (at : ℕ) (s : List ℕ) → 2 ≤ length s - at → put true (set (set s at a) (at + 1) b) ≡ put_at (a ∷ b ∷ []) at s
-stores-two a b at s h = sym (put_whole (a ∷ b ∷ []) at s (omega arith) h ∙ rw (← add-one at))
-
-pub stores-four : (a b c d : ℕ) (at : ℕ) (s : List ℕ) → 4 ≤ length s - at →
-    put true (set (set (set (set s at a) (at + 1) b) (at + 2) c) (at + 3) d) ≡ put_at (a ∷ b ∷ c ∷ d ∷ []) at s
-stores-four a b c d at s h =
-    let one : at + 1 ≡ suc at = omega arith in
-    let two : at + 2 ≡ suc (suc at) = omega arith in
-    let three : at + 3 ≡ suc (suc (suc at)) = omega arith in
-    sym (put_whole (a ∷ b ∷ c ∷ d ∷ []) at s (omega arith) h ∙ rw (one, two, three))
-
 -- the bytes written from a place on, read from there
 placed-read : (s : List ℕ) (at : ℕ) (bs : List ℕ) → at ≤ length s → take (length bs) (drop at (placed s at bs)) ≡ bs
 unfolding placed

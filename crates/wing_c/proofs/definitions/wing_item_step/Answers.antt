@@ -6,5 +6,5 @@ use Rattle.wing_c.proofs.definitions.wing_item_step.Goals as goal
 
 pub returns : goal.returns
 returns c =
-    rw (c.walk.ensures, c.type_number.ensures, c.no_refusal.ensures, c.item.ensures)
-    (ap step_numbers (c.item_step-step.ensures ∙ ap (step_at c.args.body.now c.args.at c.args.left) c.type_of-kind.ensures))
+    rw (c.walk.ensures, c.from.ensures, c.no_refusal.ensures, c.item.ensures)
+    (ap step_numbers (c.item_step-step.ensures ∙ ap (step_at c.args.body.now c.args.at c.args.left) c.from-kind.ensures))

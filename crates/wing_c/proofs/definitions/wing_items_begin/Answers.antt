@@ -2,7 +2,7 @@
 use Rattle.wing_c.proofs.definitions.wing_items_begin.Goals as goal
 
 pub returns-in-Good : goal.returns-in-Good
-returns-in-Good c = simp (← c.items_begin-begun.ensures, c.in-Good.is, c.no_refusal.ensures, c.type_number.ensures, c.walk.ensures)
+returns-in-Good c = simp (← c.items_begin-begun.ensures, c.in-Good.is, c.no_refusal.ensures, c.from.ensures, c.walk.ensures)
 
 pub returns-in-Refused : goal.returns-in-Refused
 returns-in-Refused c = simp (← c.items_begin-begun.ensures, c.in-Refused.is, c.sent_back.ensures, c.walk-in-Refused.ensures)
