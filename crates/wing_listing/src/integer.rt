@@ -3,8 +3,6 @@ ghost use Rattle.std.specs.Prelude.{◌≡◌};
 ghost use Rattle.wing_listing.specs.Integers.{no_leading_zero};
 ghost use Rattle.wing_listing.specs.Steps.{number_up_to, not_read, natural_read, negative_read, integer_read};
 
-use wing_node::field::to_i32;
-
 // Whether a text is an integer in form, and which: 0 if it is not.
 #[derive(Clone, Copy)]
 pub struct IntegerRead {
@@ -54,7 +52,7 @@ fn natural_in(s: &[u8]) -> IntegerRead
         if n < 0x8000_0000 {
             return IntegerRead {
                 formed: true,
-                value: to_i32(n as u32),
+                value: (n as u32).cast_signed(),
             };
         }
     }
@@ -70,7 +68,7 @@ fn negative_in(s: &[u8]) -> IntegerRead
         if n <= 0x8000_0000 {
             return IntegerRead {
                 formed: true,
-                value: to_i32((TOO_MUCH - n) as u32),
+                value: ((TOO_MUCH - n) as u32).cast_signed(),
             };
         }
     }

@@ -14,10 +14,9 @@ use crate::order::{row, search};
 use crate::origin::Origin;
 use crate::record::{id_in, origin_in, payload, rank, value_in};
 use crate::table::is_usable;
-use wing_node::field::least;
+use wing_node::refusal::Refusal;
 use wing_node::value::Value;
 use wing_wire::state::State;
-use wing_node::refusal::Refusal;
 
 fn number_of(table: &[u8], width: usize, count: usize, key: u32) -> Result<Option<usize>, Refusal>
     requires { InOrder width (table_of table.now count) }
@@ -44,7 +43,7 @@ fn string_read(id: i32, n: u16, payload: &[u8], origin: Origin) -> RecordRead
     requires { length payload.now ≡ 256 }
     ensures { result ≡ read_of (entry id (string_of (take n payload.now)) origin) }
 {
-    let len = least(n as usize, 256);
+    let len = (n as usize).min(256);
     let mut string = [0u8; 256];
     lay(&mut string, 0, &payload[..len]);
     let value = Value::String(len as u16);

@@ -9,7 +9,6 @@ ghost use Rattle.wing_mirror.specs.Sending.{order_in, orders_of, size_in};
 use crate::order::row;
 use crate::record;
 use crate::table::is_usable;
-use wing_node::field;
 use wing_node::refusal::Refusal;
 use wing_node::value::Value;
 use wing_wire::set;
@@ -27,7 +26,7 @@ fn send_record(out: &mut [u8], rec: &[u8]) -> Result<usize, Refusal>
         Value::Float(bits) => set::set_float(out, id, bits),
         Value::String(n) => {
             let bytes = record::payload(rec);
-            let len = field::least(n as usize, bytes.len());
+            let len = (n as usize).min(bytes.len());
             set::set_string(out, id, &bytes[..len])
         }
     }

@@ -25,7 +25,7 @@ fn flip(bits: u32) -> u32
 pub(crate) fn rank(id: i32) -> u32
     ensures { result ≡ rank_of id }
 {
-    flip(field::of_i32(id))
+    flip(id.cast_unsigned())
 }
 
 // Where a record stands in the order: its id is its first four bytes.
@@ -33,7 +33,7 @@ pub(crate) fn key(rec: &[u8]) -> u32
     requires { 4 ≤ length rec.now }
     ensures { result ≡ key_of rec.now }
 {
-    flip(field::u32_at(rec, 0))
+    flip(field::number_at::<u32>(rec, 0))
 }
 
 // 01: the payload, 256 bytes.
@@ -71,14 +71,14 @@ pub(crate) fn well_formed(rec: &[u8]) -> bool
     ensures { result ≡ well_formed rec.now }
 {
     let origin = rec[5];
-    origin <= 1 && well_kept(rec[4], field::u16_at(rec, 6), payload(rec))
+    origin <= 1 && well_kept(rec[4], field::number_at::<u16>(rec, 6), payload(rec))
 }
 
 pub(crate) fn id_in(rec: &[u8]) -> i32
     requires { length rec.now ≡ width }
     ensures { result ≡ id_in rec.now }
 {
-    field::i32_at(rec, 0)
+    field::number_at::<i32>(rec, 0)
 }
 
 // Its value, whatever its form. A string's bytes stand in the payload, as many as its length.
@@ -87,9 +87,9 @@ pub(crate) fn value_in(rec: &[u8]) -> Value
     ensures { node_value result (payload_in rec.now) ≡ value_in rec.now }
 {
     match rec[4] {
-        0 => Value::Integer(field::i32_at(rec, 8)),
-        1 => Value::Float(field::u32_at(rec, 8)),
-        _ => Value::String(field::u16_at(rec, 6)),
+        0 => Value::Integer(field::number_at::<i32>(rec, 8)),
+        1 => Value::Float(field::number_at::<u32>(rec, 8)),
+        _ => Value::String(field::number_at::<u16>(rec, 6)),
     }
 }
 
@@ -110,8 +110,8 @@ fn lay_number(out: &mut [u8], kind: u8, bits: u32)
     ensures { out.new ≡ laid_from out.old kind (bytes_of 4 bits) }
 {
     out[4] = kind;
-    field::put_u16(out, 6, 4);
-    field::put_u32(out, 8, bits);
+    field::put_number::<u16>(out, 6, 4);
+    field::put_number(out, 8, bits);
 }
 
 // Kind, length and payload of a string, the first n of the bytes lent.
@@ -119,9 +119,9 @@ fn lay_string(out: &mut [u8], string: &[u8], n: u16)
     requires { (length out.old ≡ width) × (length (take n string.now) ≤ 256) }
     ensures { out.new ≡ laid_from out.old 2 (take n string.now) }
 {
-    let len = field::least(n as usize, string.len());
+    let len = (n as usize).min(string.len());
     out[4] = 2;
-    field::put_u16(out, 6, len as u16);
+    field::put_number(out, 6, len as u16);
     bytes::lay(out, 8, &string[..len]);
 }
 
@@ -130,7 +130,7 @@ fn lay_head(out: &mut [u8], id: i32, origin: Origin)
     requires { length out.old ≡ width }
     ensures { out.new ≡ head_from out.old id origin }
 {
-    field::put_i32(out, 0, id);
+    field::put_number(out, 0, id);
     out[5] = origin::number(origin);
 }
 
@@ -141,7 +141,7 @@ pub(crate) fn lay_record(out: &mut [u8], id: i32, value: Value, string: &[u8], o
 {
     lay_head(out, id, origin);
     match value {
-        Value::Integer(x) => lay_number(out, 0, field::of_i32(x)),
+        Value::Integer(x) => lay_number(out, 0, x.cast_unsigned()),
         Value::Float(bits) => lay_number(out, 1, bits),
         Value::String(n) => lay_string(out, string, n),
     }

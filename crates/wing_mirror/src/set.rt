@@ -29,7 +29,12 @@ fn refused(why: Refusal, count: usize) -> SetReply
 }
 
 // Stored if its command was written.
-fn keep_written(table: &mut [u8], count: usize, rec: &[u8], written: Result<usize, Refusal>) -> SetReply
+fn keep_written(
+    table: &mut [u8],
+    count: usize,
+    rec: &[u8],
+    written: Result<usize, Refusal>,
+) -> SetReply
     requires { (usable full (table_of table.old count) ≡ true) × (length rec.now ≡ width) }
     ensures { replied result table.new ≡ kept_of full written rec.now (table_of table.old count) }
 {

@@ -8,7 +8,7 @@ ghost use Rattle.wing_wire.specs.Write.{write_effect, write_of};
 ghost use Rattle.wing_saved.specs.Saved.{saved_size, pending_flag, pending_byte_of, fields_of, head_under, head_bytes, state_bytes};
 ghost use Rattle.wing_saved.specs.Saved.{pending_in, token_in, fields_in, control_in, sound_only, head_from_under, head_from, state_from, save_of};
 
-use wing_node::field::{i32_at, put_i32, put_u32, u16_at, u32_at};
+use wing_node::field::{number_at, put_number};
 use wing_node::refusal::Refusal;
 use wing_wire::state::{Control, Escape, State, Token, is_sound};
 use wing_wire::token::Class;
@@ -96,13 +96,13 @@ fn head_of(version: u8, c: Control) -> [u8; HEAD]
     head[2] = escape.channel.cast_unsigned();
     head[3] = pending_flag(pending);
     head[4] = pending_byte(pending);
-    put_i32(&mut head, 5, c.node);
+    put_number(&mut head, 5, c.node);
     head[9] = k.kind;
     head[10] = k.class;
-    put_u32(&mut head, 11, k.want);
-    put_u32(&mut head, 15, k.left);
-    put_u32(&mut head, 19, k.stored as u32);
-    put_u32(&mut head, 23, k.value);
+    put_number(&mut head, 11, k.want);
+    put_number(&mut head, 15, k.left);
+    put_number(&mut head, 19, k.stored as u32);
+    put_number(&mut head, 23, k.value);
     head
 }
 
@@ -201,10 +201,10 @@ fn fields_in(s: &[u8]) -> TokenFields
     TokenFields {
         kind: s[9],
         class: s[10],
-        want: u32_at(s, 11),
-        left: u32_at(s, 15),
-        stored: u16_at(s, 21),
-        value: u32_at(s, 23),
+        want: number_at::<u32>(s, 11),
+        left: number_at::<u32>(s, 15),
+        stored: number_at::<u16>(s, 21),
+        value: number_at::<u32>(s, 23),
     }
 }
 
@@ -223,7 +223,7 @@ fn control_in(s: &[u8]) -> Control
             channel: s[2].cast_signed(),
             pending: pending,
         },
-        node: i32_at(s, 5),
+        node: number_at::<i32>(s, 5),
         token: token,
     }
 }

@@ -4,7 +4,7 @@ ghost use Rattle.wing_wire.specs.Write.{Laid, write_effect, write_of};
 ghost use Rattle.wing_wire.specs.Meter.{item_of, item_bytes, meters_bytes, request_head, meter_request, request_effect, request_meter, keep_alive, keep_alives, readings, packet_effect, packet_of};
 
 use crate::laying::{hand_over, lay, lay_8, lay_16};
-use wing_node::field::u16_at;
+use wing_node::field::number_at;
 use wing_node::refusal::Refusal;
 
 #[derive(Clone, Copy)]
@@ -234,7 +234,7 @@ pub fn read_meters(packet: &[u8], out: &mut [i16]) -> Result<MetersRead, Refusal
     }
     fill_readings(packet, out, count);
     Ok(MetersRead {
-        id: u16_at(packet, 0),
+        id: number_at::<u16>(packet, 0),
         count,
     })
 }

@@ -4,7 +4,6 @@ ghost use Rattle.wing_wire.specs.Unit.{taken, single_of, is_string, token_of, be
 
 use crate::state::{State, Token, collected};
 use crate::token::{Class, rule_of};
-use wing_node::field::{to_i16, to_i32};
 use wing_node::refusal::{Refusal, string_fault};
 
 // What reading gives: 01's events, a refusal, or that more bytes are wanted.
@@ -153,12 +152,12 @@ fn number(node: i32, class: Class, v: u32) -> Taken
             taken_of(Answer::More, node, Token::String { want: n, left: n })
         }
         Class::Int16 => {
-            let x = to_i16((v % 0x10000) as u16);
+            let x = ((v % 0x10000) as u16).cast_signed();
             taken_of(Answer::Integer(x as i32), node, Token::Between)
         }
-        Class::Int32 => taken_of(Answer::Integer(to_i32(v)), node, Token::Between),
+        Class::Int32 => taken_of(Answer::Integer(v.cast_signed()), node, Token::Between),
         Class::Float => taken_of(Answer::Float(v), node, Token::Between),
-        Class::Node => taken_of(Answer::More, to_i32(v), Token::Between),
+        Class::Node => taken_of(Answer::More, v.cast_signed(), Token::Between),
         Class::Count => count(node, (v % 0x10000) as u16),
         Class::LongCount => long_count(node, v),
         _ => taken_of(Answer::More, node, Token::Between),

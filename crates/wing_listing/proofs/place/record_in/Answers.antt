@@ -37,6 +37,6 @@ unfolding entry_said
 returns c =
     let x = c.args.s.now in
     let id : to_z w32 (of_z w32 c.line_in-l.result.id) ≡ id_said x = read-passed (part comma 0 x) c.line_in-l.result.id c.line_in-l.ensures.id ∙ read-id x c.requires.0 in
-    record-laid (id_said x) (entry_said x).value Console (replicate 264 0) c.put_i32.new.out c.lay_said.new.out refl
-    (console-head (id_said x) (replicate 264 0) c.put_i32.new.out c.put_i32.result refl (c.put_i32.ensures ∙ ap (λ y. put_at (bytes_of 4 (unsigned 31 y)) 0 (replicate 264 0)) id))
-    (c.lay_said.ensures ∙ ap (λ (v : NodeValue). laid_from c.put_i32.new.out (kind_of v) (payload_of v)) (value_same x c.line_in-l.result c.line_in-l.ensures c.requires.0))
+    record-laid (id_said x) (entry_said x).value Console (replicate 264 0) c.put_number.new.out c.lay_said.new.out refl
+    (console-head (id_said x) (replicate 264 0) c.put_number.new.out c.put_number.result refl (c.put_number.ensures ∙ ap (λ y. put_at (bytes_of 4 (unsigned 31 y)) 0 (replicate 264 0)) id))
+    (c.lay_said.ensures ∙ ap (λ (v : NodeValue). laid_from c.put_number.new.out (kind_of v) (payload_of v)) (value_same x c.line_in-l.result c.line_in-l.ensures c.requires.0))

@@ -8,10 +8,10 @@ use Rattle.wing_mirror.proofs.Records.Said.{string-said}
 use Rattle.wing_mirror.proofs.query.string_read.Goals as goal
 
 pub slice_bounds-lay-end-2 : goal.slice_bounds-lay-end-2
-slice_bounds-lay-end-2 c = sym (length-take-le _ _ (omega (arith, c.least-len.ensures)))
+slice_bounds-lay-end-2 c = sym (length-take-le _ _ (omega (arith, c.min-len.ensures)))
 
 pub lay-requires : goal.lay-requires
-lay-requires c = omega (arith, c.least-len.ensures, length-take c.least-len.result c.args.payload.now)
+lay-requires c = omega (arith, c.min-len.ensures, length-take c.min-len.result c.args.payload.now)
 
 pub returns : goal.returns
-returns c = rw (to_z-of_z c.ranges.id) (string-said c.args.id c.args.origin c.args.n c.least-len.result c.args.payload.now _ c.requires c.least-len.ensures c.lay.ensures)
+returns c = rw (to_z-of_z c.ranges.id) (string-said c.args.id c.args.origin c.args.n c.min-len.result c.args.payload.now _ c.requires c.min-len.ensures c.lay.ensures)

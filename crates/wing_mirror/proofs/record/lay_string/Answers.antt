@@ -9,15 +9,15 @@ use Rattle.wing_mirror.proofs.Tables.Laying.{string-laid}
 use Rattle.wing_mirror.proofs.record.lay_string.Goals as goal
 
 pub slice_bounds-lay-end : goal.slice_bounds-lay-end
-slice_bounds-lay-end c = sym (length-take-le _ _ (omega (arith, c.least-len.ensures)))
+slice_bounds-lay-end c = sym (length-take-le _ _ (omega (arith, c.min-len.ensures)))
 
 pub lay-requires : goal.lay-requires
 lay-requires c =
     let s = c.args.string.now in
-    let n = c.least-len.result in
-    omega (arith, c.least-len.ensures, length-take n s, length-take c.args.n s, c.put_u16.auto.out, length-set c.args.out.now 4 2)
+    let n = c.min-len.result in
+    omega (arith, c.min-len.ensures, length-take n s, length-take c.args.n s, c.put_number.auto.out, length-set c.args.out.now 4 2)
 
 pub returns : goal.returns
 returns c =
     let o = c.args.out.now in
-    string-laid o c.put_u16.new.out _ c.args.string.now c.args.n c.least-len.result c.least-len.ensures (field-sets 2 c.least-len.result 6 (set o 4 2) _ _ (omega arith) (omega (arith, length-set o 4 2)) c.put_u16.ensures) c.lay.ensures
+    string-laid o c.put_number.new.out _ c.args.string.now c.args.n c.min-len.result c.min-len.ensures (field-sets 2 c.min-len.result 6 (set o 4 2) _ _ (omega arith) (omega (arith, length-set o 4 2)) c.put_number.ensures) c.lay.ensures

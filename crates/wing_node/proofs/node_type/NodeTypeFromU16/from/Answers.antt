@@ -3,7 +3,7 @@ use mathlib.Core.Path.{sym}
 use lib.ListN.{get_or-eq_default}
 use Rattle.wing_node.proofs.Eight.{over-seven}
 use Rattle.wing_node.specs.Types.{types, type_of}
-use Rattle.wing_node.proofs.node_type.type_of.Goals as goal
+use Rattle.wing_node.proofs.node_type.NodeTypeFromU16.from.Goals as goal
 
 pub returns-in-0 : goal.returns-in-0
 unfolding type_of
