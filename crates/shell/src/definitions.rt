@@ -3,8 +3,8 @@ use crate::show::{Answered, Pairs, Refused, Unanswered, same_again, tell_refused
 use crate::words::Words;
 use std::alloc::Global;
 use wing_node::definition::{Details, Item, Span};
-use wing_node::refusal::Refusal;
 use wing_node::node_type::NodeType;
+use wing_node::refusal::Refusal;
 use wing_node::{definition, items, walker};
 
 #[derive(Drop)]

@@ -21,6 +21,6 @@ returns c =
     let memory = c.args.table.now in
     let e = c.check-answer.ensures ∙ ap (checked_as text) c.places.ensures in
     elim c.match-answer.branch [
-      in-Ok w ↦ load-done text memory _ _ _ (w.answer-is ∙ sym w.in-Ok.is ∙ e) c.fresh.ensures (laid-leaves memory _ _ _ _ w.answer-is (w.table-is ∙ w.lay_lines.ensures))
-    | in-Err w ↦ load-done text memory _ _ _ (w.answer-is ∙ e) c.fresh.ensures (back-leaves memory _ _ _ _ (w.answer-is ∙ w.in-Err.is) w.table-is)
+      | in-Ok w ↦ load-done text memory _ _ _ (w.answer-is ∙ sym w.in-Ok.is ∙ e) c.fresh.ensures (laid-leaves memory _ _ _ _ w.answer-is (w.table-is ∙ w.lay_lines.ensures))
+      | in-Err w ↦ load-done text memory _ _ _ (w.answer-is ∙ e) c.fresh.ensures (back-leaves memory _ _ _ _ (w.answer-is ∙ w.in-Err.is) w.table-is)
     ]
