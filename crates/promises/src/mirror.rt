@@ -10,8 +10,8 @@ ghost use Rattle.promises.specs.Mirror.{mirror as mirror_of, FeedCall, LentFeedC
 
 use wing_mirror::answer::{FeedReply, LentFeedReply, RecordRead, SetReply};
 use wing_mirror::origin::Origin;
-use wing_wire::state::{Control, State};
 use wing_node::refusal::Refusal;
+use wing_wire::state::{Control, State};
 
 pub fn feed(state: State, table: &mut [u8], count: usize, bytes: &[u8]) -> FeedReply
     ensures { FeedCall (mirror_of state (table_of table.old count)) bytes.now result.answer (mirror_of result.state (table_of table.new result.count)) }

@@ -2,8 +2,8 @@
 // the call.
 ghost use Rattle.promises.specs.Saved.{SaveCall, LoadCall, LoadEarlierCall};
 
-use wing_wire::state::State;
 use wing_node::refusal::Refusal;
+use wing_wire::state::State;
 
 pub fn save(out: &mut [u8], s: State) -> Result<usize, Refusal>
     ensures { SaveCall s out.old result out.new }

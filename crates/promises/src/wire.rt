@@ -6,6 +6,7 @@ ghost use Rattle.wing_wire.specs.Lent.{whole_reply};
 ghost use Rattle.wing_wire.specs.Meter.{keep_alives};
 ghost use Rattle.promises.specs.Wire.{NextCall, CarryCall, AdvanceCall, DecodeCall, command_lines, string_lines, CommandCall, SetOrder, MeterCall, PacketCall};
 
+use wing_node::refusal::Refusal;
 use wing_wire::earlier;
 use wing_wire::escape::NextUnit;
 use wing_wire::lent::Parted;
@@ -13,7 +14,6 @@ use wing_wire::meter::{Meter, MetersRead, Requested};
 use wing_wire::reader::Reply;
 use wing_wire::state::{Control, Escape, State};
 use wing_wire::stream::Advanced;
-use wing_node::refusal::Refusal;
 
 pub fn next(s: State, bytes: &[u8]) -> Reply
     ensures { NextCall s bytes.now result }

@@ -7,7 +7,7 @@ use crate::words::Words;
 use std::alloc::Global;
 use wing_node::refusal::Refusal;
 use wing_node::writer::Fields;
-use wing_node::{anew, field, writer};
+use wing_node::{anew, writer};
 use wing_wire::meter::Meter;
 use wing_wire::{meter, request, set};
 
@@ -157,8 +157,8 @@ fn fields(words: &mut Words) -> Result<Fields, Unanswered> {
         read_only,
         min_float: min,
         max_float: max,
-        min_int: field::to_i32(min),
-        max_int: field::to_i32(max),
+        min_int: min.cast_signed(),
+        max_int: max.cast_signed(),
         steps: words.number()?,
         count: words.number()?,
         max_len: words.number()?,

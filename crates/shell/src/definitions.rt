@@ -3,8 +3,9 @@ use crate::show::{Answered, Pairs, Refused, Unanswered, same_again, tell_refused
 use crate::words::Words;
 use std::alloc::Global;
 use wing_node::definition::{Details, Item, Span};
+use wing_node::node_type::NodeType;
 use wing_node::refusal::Refusal;
-use wing_node::{definition, items, node_type, walker};
+use wing_node::{definition, items, walker};
 
 #[derive(Drop)]
 pub enum Order {
@@ -19,7 +20,7 @@ pub enum Order {
 fn walk_from(words: &mut Words) -> Result<items::Walk, Unanswered> {
     let at = words.number::<u16>()? as usize;
     let left = words.number()?;
-    let kind = node_type::type_of(words.number()?);
+    let kind = NodeType::from(words.number::<u16>()?);
     Ok(items::Walk { at, left, kind })
 }
 
@@ -176,8 +177,8 @@ fn fields(text: &mut String, body: &[u8], d: definition::Definition) -> Answered
     write!(text, "{parent:08x}{id:08x}{index:04x}n{name}l{long_name}")?;
     let t = d.node_type;
     let u = d.unit;
-    let kind = node_type::type_number(t);
-    let unit = node_type::unit_number(u);
+    let kind = u8::from(t);
+    let unit = u8::from(u);
     let read_only = d.read_only as u8;
     write!(text, "k{kind:02x}{unit:02x}{read_only}")?;
     let more = d.details;

@@ -24,8 +24,8 @@ pub enum Order {
 // A value by its kind and the bytes of its array.
 fn value_of(kind: usize, s: &[u8]) -> Result<Value, Unanswered> {
     match (kind, s.len()) {
-        (0, 4) => Ok(Value::Integer(field::i32_at(s, 0))),
-        (1, 4) => Ok(Value::Float(field::u32_at(s, 0))),
+        (0, 4) => Ok(Value::Integer(field::number_at::<i32>(s, 0))),
+        (1, 4) => Ok(Value::Float(field::number_at::<u32>(s, 0))),
         (2, 0..=STRING) => Ok(Value::String(s.len() as u16)),
         _ => Err(Unanswered::Form),
     }

@@ -1,5 +1,4 @@
 // The libraries' calls as bench/ times them: slices and numbers alone, since no enum crosses the border to Rust.
-use wing_node::field::{of_i32, to_i32};
 use wing_node::refusal::Refusal;
 use wing_node::writer::Fields;
 use wing_node::{definition, utf8, writer};
@@ -10,7 +9,7 @@ use wing_wire::{meter, reader, set, state, stream};
 fn value(a: Answer) -> u32 {
     match a {
         Answer::More => 0,
-        Answer::Integer(x) => of_i32(x),
+        Answer::Integer(x) => x.cast_unsigned(),
         Answer::Float(bits) => bits,
         Answer::String(n) => n as u32,
         Answer::Body(n) => n as u32,
@@ -83,7 +82,7 @@ pub extern "C" fn port_next(bytes: &[u8]) -> u64 {
 pub extern "C" fn port_from_bytes(body: &[u8]) -> u32 {
     let parsed = definition::from_bytes(body);
     match parsed {
-        Ok(d) => of_i32(d.id),
+        Ok(d) => d.id.cast_unsigned(),
         Err(_) => 0,
     }
 }
@@ -116,8 +115,8 @@ pub extern "C" fn port_to_bytes(
         read_only,
         min_float: min,
         max_float: max,
-        min_int: to_i32(min),
-        max_int: to_i32(max),
+        min_int: min.cast_signed(),
+        max_int: max.cast_signed(),
         steps,
         count,
         max_len,

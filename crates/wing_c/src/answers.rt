@@ -7,7 +7,6 @@ ghost use Rattle.wing_c.specs.Numbers.{held_numbers, record_numbers, event_as, n
 
 use wing_listing::answer::Loaded;
 use wing_mirror::answer::{Counts, RecordRead};
-use wing_node::field::of_i32;
 use wing_node::refusal::Refusal;
 use wing_node::value::Value;
 use wing_wire::meter::{MetersRead, Requested};
@@ -250,7 +249,7 @@ fn record_of(id: i32, value: Value, origin: u8, string: [u8; 256]) -> WingRecord
         Value::Integer(x) => WingRecord {
             status: 0,
             id: id,
-            value: of_i32(x),
+            value: x.cast_unsigned(),
             len: 0,
             kind: 0,
             origin: origin,
@@ -329,7 +328,7 @@ pub(crate) fn event(a: Answer, node: i32, taken: usize) -> WingEvent
 {
     match a {
         Answer::More => without_event(no_refusal(), node, taken),
-        Answer::Integer(x) => event_of(0, of_i32(x), 0, node, taken),
+        Answer::Integer(x) => event_of(0, x.cast_unsigned(), 0, node, taken),
         Answer::Float(bits) => event_of(1, bits, 0, node, taken),
         Answer::String(n) => event_of(2, 0, n, node, taken),
         Answer::Body(n) => event_of(3, 0, n, node, taken),

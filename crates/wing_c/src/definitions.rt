@@ -8,9 +8,8 @@ ghost use Rattle.wing_c.specs.Definitions.{walk_as, begun_numbers, no_item, item
 
 use crate::answers::{Outcome, no_refusal, sent_back};
 use wing_node::definition::{Definition, Details, Item};
-use wing_node::field::of_i32;
 use wing_node::items::Walk;
-use wing_node::node_type::{type_number, type_of, unit_number};
+use wing_node::node_type::NodeType;
 use wing_node::refusal::Refusal;
 use wing_node::{definition, items};
 
@@ -114,7 +113,7 @@ fn numbers_of(d: Details) -> DetailFields
     match d {
         Details::None => limits(0, 0, 0),
         Details::Floats { min, max, steps } => limits(min, max, steps),
-        Details::Integers { min, max } => limits(of_i32(min), of_i32(max), 0),
+        Details::Integers { min, max } => limits(min.cast_unsigned(), max.cast_unsigned(), 0),
         Details::Items { count, first } => listed(count, first, 0),
         Details::String { max_len } => listed(0, 0, max_len),
     }
@@ -135,8 +134,8 @@ fn taken(d: Definition) -> WingDefinition
         parent_id: d.parent_id,
         id: d.id,
         index: d.index,
-        node_type: type_number(node_type),
-        unit: unit_number(unit),
+        node_type: u8::from(node_type),
+        unit: u8::from(unit),
         read_only: d.read_only,
         count: n.count,
         max_len: n.max_len,
@@ -206,7 +205,7 @@ pub extern "C" fn wing_items_begin(body: &[u8]) -> WingWalk
     ensures { result ≡ begun_numbers (begin_of body.now) }
 {
     match items::items_begin(body) {
-        Ok(w) => walk(no_refusal(), w.at, w.left, type_number(w.kind)),
+        Ok(w) => walk(no_refusal(), w.at, w.left, u8::from(w.kind)),
         Err(why) => walk(sent_back(why), 0, 0, 0),
     }
 }
@@ -263,13 +262,13 @@ pub extern "C" fn wing_item_step(body: &[u8], at: usize, left: u16, node_type: u
     let there = Walk {
         at,
         left,
-        kind: type_of(node_type as u16),
+        kind: NodeType::from(node_type as u16),
     };
     let step = items::item_step(body, there);
     let next = step.next;
     WingStep {
         item: item(step.item),
-        walk: walk(no_refusal(), next.at, next.left, type_number(next.kind)),
+        walk: walk(no_refusal(), next.at, next.left, u8::from(next.kind)),
     }
 }
 

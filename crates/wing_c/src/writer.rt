@@ -7,7 +7,6 @@ ghost use Rattle.wing_c.specs.Definitions.{fields_given};
 
 use crate::answers;
 use crate::answers::WingWritten;
-use wing_node::field::to_i32;
 use wing_node::writer::Fields;
 use wing_node::{anew, writer};
 
@@ -42,8 +41,8 @@ fn fields_given(f: WingFields) -> Fields
         read_only: f.read_only,
         min_float: f.min,
         max_float: f.max,
-        min_int: to_i32(f.min),
-        max_int: to_i32(f.max),
+        min_int: f.min.cast_signed(),
+        max_int: f.max.cast_signed(),
         steps: f.steps,
         count: f.count,
         max_len: f.max_len,

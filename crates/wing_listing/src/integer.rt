@@ -3,7 +3,6 @@ ghost use Rattle.std.specs.Prelude.{◌≡◌};
 ghost use Rattle.wing_listing.specs.Integers.{no_leading_zero};
 ghost use Rattle.wing_listing.specs.Steps.{number_up_to, natural_read, negative_read, integer_read};
 
-use wing_node::field::to_i32;
 
 // More than any number that fits.
 const TOO_MUCH: u64 = 0x1_0000_0000;
@@ -36,7 +35,7 @@ fn natural_in(s: &[u8]) -> Option<i32>
     if is_led(s) {
         let n = number_in(s);
         if n < 0x8000_0000 {
-            return Some(to_i32(n as u32));
+            return Some((n as u32).cast_signed());
         }
     }
     None
@@ -49,7 +48,7 @@ fn negative_in(s: &[u8]) -> Option<i32>
     if s.len() > 0 && s[0] != b'0' {
         let n = number_in(s);
         if n <= 0x8000_0000 {
-            return Some(to_i32((TOO_MUCH - n) as u32));
+            return Some(((TOO_MUCH - n) as u32).cast_signed());
         }
     }
     None

@@ -8,7 +8,7 @@ ghost use Rattle.wing_listing.specs.Steps.{kind_of_letter};
 use crate::hex::lay_bytes;
 use crate::integer::integer_in;
 use crate::line::line_in;
-use wing_node::field::{put_i32, put_u16};
+use wing_node::field::put_number;
 use wing_wire::state::State;
 
 // The kind of a letter that is not i.
@@ -27,11 +27,11 @@ fn lay_said(out: &mut [u8; State::PLACE_WIDTH], kind: u8, s: &[u8])
     if kind == 0x69 {
         let x = integer_in(s).unwrap();
         out[4] = 0;
-        put_u16(out, 6, 4);
-        put_i32(out, 8, x);
+        put_number::<u16>(out, 6, 4);
+        put_number(out, 8, x);
     } else {
         out[4] = kind_of(kind);
-        put_u16(out, 6, (s.len() / 2) as u16);
+        put_number(out, 6, (s.len() / 2) as u16);
         lay_bytes(out, 8, s);
     }
 }
@@ -43,7 +43,7 @@ pub(crate) fn record_in(s: &[u8]) -> [u8; State::PLACE_WIDTH]
 {
     let l = line_in(s).unwrap();
     let mut out = [0u8; State::PLACE_WIDTH];
-    put_i32(&mut out, 0, l.id);
+    put_number(&mut out, 0, l.id);
     lay_said(&mut out, l.kind, &s[l.from..]);
     out
 }

@@ -9,7 +9,7 @@ ghost use Rattle.wing_listing.specs.Steps.{letter_in};
 
 use crate::hex::lay_pairs;
 use wing_mirror::table::row;
-use wing_node::field::{i32_at, u16_at};
+use wing_node::field::number_at;
 use wing_node::value::put_decimal;
 use wing_wire::state::State;
 
@@ -33,9 +33,9 @@ fn lay_value(out: &mut [u8], at: usize, rec: &[u8; State::PLACE_WIDTH]) -> usize
     ensures { Laid (value_text (value_in rec.now)) at out.old out.new result }
 {
     if rec[4] == 0 {
-        return at + put_decimal(out, at, i32_at(rec, 8));
+        return at + put_decimal(out, at, number_at::<i32>(rec, 8));
     }
-    let n = u16_at(rec, 6) as usize;
+    let n = number_at::<u16>(rec, 6) as usize;
     lay_pairs(out, at, &rec[8..8 + n]);
     at + 2 * n
 }
@@ -45,7 +45,7 @@ fn lay_entry(out: &mut [u8], at: usize, rec: &[u8; State::PLACE_WIDTH]) -> usize
     requires { (well_formed rec.now ≡ true) × (at + length (ended (line_of (entry_in rec.now))) ≤ length out.old) }
     ensures { Laid (ended (line_of (entry_in rec.now))) at out.old out.new result }
 {
-    let to = at + put_decimal(out, at, i32_at(rec, 0));
+    let to = at + put_decimal(out, at, number_at::<i32>(rec, 0));
     out[to] = 0x2c;
     out[to + 1] = letter(rec[4]);
     out[to + 2] = 0x2c;

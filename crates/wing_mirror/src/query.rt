@@ -14,7 +14,6 @@ use crate::order::search;
 use crate::origin::Origin;
 use crate::record::{Record, id_in, origin_in, payload, rank, value_in};
 use crate::table::{is_usable, row};
-use wing_node::field::least;
 use wing_node::refusal::Refusal;
 use wing_node::value::Value;
 use wing_wire::state::State;
@@ -43,7 +42,7 @@ pub fn lookup(table: &[u8], count: usize, id: i32) -> Result<Option<usize>, Refu
 fn string_read(id: i32, n: u16, payload: &[u8; 256], origin: Origin) -> RecordRead
     ensures { result ≡ read_of (entry id (string_of (take n payload.now)) origin) }
 {
-    let len = least(n as usize, 256);
+    let len = (n as usize).min(256);
     let mut string = [0u8; 256];
     lay(&mut string, 0, &payload[..len]);
     let value = Value::String(len as u16);

@@ -8,7 +8,6 @@ ghost use Rattle.wing_mirror.specs.Sending.{order_in, orders_of, size_in};
 
 use crate::record::{self, Record};
 use crate::table::{is_usable, row};
-use wing_node::field;
 use wing_node::refusal::Refusal;
 use wing_node::value::Value;
 use wing_wire::set;
@@ -25,7 +24,7 @@ fn send_record(out: &mut [u8], rec: &Record) -> Result<usize, Refusal>
         Value::Float(bits) => set::set_float(out, id, bits),
         Value::String(n) => {
             let bytes = record::payload(rec);
-            let len = field::least(n as usize, bytes.len());
+            let len = (n as usize).min(bytes.len());
             set::set_string(out, id, &bytes[..len])
         }
     }

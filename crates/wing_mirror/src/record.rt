@@ -9,7 +9,7 @@ ghost use Rattle.wing_mirror.specs.Record.{key_of, string_kept, well_kept, well_
 
 use crate::bytes;
 use crate::origin::Origin;
-use wing_node::field;
+use wing_node::field::{number_at, put_number};
 use wing_node::utf8::is_utf8;
 use wing_node::value::Value;
 use wing_wire::state::{State, zeros_from};
@@ -28,14 +28,14 @@ fn flip(bits: u32) -> u32
 pub(crate) fn rank(id: i32) -> u32
     ensures { result ≡ rank_of id }
 {
-    flip(field::of_i32(id))
+    flip(id.cast_unsigned())
 }
 
 // Where a record stands in the order: its id is its first four bytes.
 pub(crate) fn key(rec: &Record) -> u32
     ensures { result ≡ key_of rec.now }
 {
-    flip(field::u32_at(rec, 0))
+    flip(number_at::<u32>(rec, 0))
 }
 
 // 01: the payload, 256 bytes.
@@ -69,13 +69,13 @@ pub(crate) fn well_formed(rec: &Record) -> bool
     ensures { result ≡ well_formed rec.now }
 {
     let origin = rec[5];
-    origin <= 1 && well_kept(rec[4], field::u16_at(rec, 6), payload(rec))
+    origin <= 1 && well_kept(rec[4], number_at::<u16>(rec, 6), payload(rec))
 }
 
 pub(crate) fn id_in(rec: &Record) -> i32
     ensures { result ≡ id_in rec.now }
 {
-    field::i32_at(rec, 0)
+    number_at::<i32>(rec, 0)
 }
 
 // Its value, whatever its form. A string's bytes stand in the payload, as many as its length.
@@ -83,9 +83,9 @@ pub(crate) fn value_in(rec: &Record) -> Value
     ensures { node_value result (payload_in rec.now) ≡ value_in rec.now }
 {
     match rec[4] {
-        0 => Value::Integer(field::i32_at(rec, 8)),
-        1 => Value::Float(field::u32_at(rec, 8)),
-        _ => Value::String(field::u16_at(rec, 6)),
+        0 => Value::Integer(number_at::<i32>(rec, 8)),
+        1 => Value::Float(number_at::<u32>(rec, 8)),
+        _ => Value::String(number_at::<u16>(rec, 6)),
     }
 }
 
@@ -104,8 +104,8 @@ fn lay_number(out: &mut Record, kind: u8, bits: u32)
     ensures { out.new ≡ laid_from out.old kind (bytes_of 4 bits) }
 {
     out[4] = kind;
-    field::put_u16(out, 6, 4);
-    field::put_u32(out, 8, bits);
+    put_number::<u16>(out, 6, 4);
+    put_number(out, 8, bits);
 }
 
 // Kind, length and payload of a string, the first n of the bytes lent.
@@ -113,9 +113,9 @@ fn lay_string(out: &mut Record, string: &[u8], n: u16)
     requires { length (take n string.now) ≤ 256 }
     ensures { out.new ≡ laid_from out.old 2 (take n string.now) }
 {
-    let len = field::least(n as usize, string.len());
+    let len = (n as usize).min(string.len());
     out[4] = 2;
-    field::put_u16(out, 6, len as u16);
+    put_number(out, 6, len as u16);
     bytes::lay(out, 8, &string[..len]);
 }
 
@@ -123,7 +123,7 @@ fn lay_string(out: &mut Record, string: &[u8], n: u16)
 fn lay_head(out: &mut Record, id: i32, origin: Origin)
     ensures { out.new ≡ head_from out.old id origin }
 {
-    field::put_i32(out, 0, id);
+    put_number(out, 0, id);
     out[5] = u8::from(origin);
 }
 
@@ -135,7 +135,7 @@ pub(crate) fn record_of(id: i32, value: Value, string: &[u8], origin: Origin) ->
     let mut out = [0u8; State::PLACE_WIDTH];
     lay_head(&mut out, id, origin);
     match value {
-        Value::Integer(x) => lay_number(&mut out, 0, field::of_i32(x)),
+        Value::Integer(x) => lay_number(&mut out, 0, x.cast_unsigned()),
         Value::Float(bits) => lay_number(&mut out, 1, bits),
         Value::String(n) => lay_string(&mut out, string, n),
     }

@@ -5,7 +5,6 @@ ghost use Rattle.wing_wire.specs.Write.{write_effect, write_of};
 ghost use Rattle.wing_wire.specs.Command.{set_bytes};
 ghost use Rattle.wing_mirror.specs.Entry.{storable};
 
-use wing_node::field::least;
 use wing_node::refusal::Refusal;
 use wing_node::value::Value;
 use wing_wire::set;
@@ -19,7 +18,7 @@ pub(crate) fn send(out: &mut [u8], id: i32, value: Value, string: &[u8]) -> Resu
         Value::Integer(x) => set::set_int(out, id, x),
         Value::Float(bits) => set::set_float(out, id, bits),
         Value::String(n) => {
-            let len = least(n as usize, string.len());
+            let len = (n as usize).min(string.len());
             set::set_string(out, id, &string[..len])
         }
     }

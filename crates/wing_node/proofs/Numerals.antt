@@ -4,3 +4,4 @@ pub mod Signs
 pub mod Placed
 pub mod Spelled
 pub mod Answers
+pub mod BigEndian

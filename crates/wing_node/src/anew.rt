@@ -5,8 +5,7 @@ ghost use Rattle.wing_node.specs.Anew.{fields_with, fields_of, item_bytes, lent_
 
 use crate::cursor::Cursor;
 use crate::definition::{Definition, Details, from_bytes, past_items};
-use crate::field::least;
-use crate::node_type::{NodeType, type_number, unit_number};
+use crate::node_type::NodeType;
 use crate::refusal::Refusal;
 use crate::writer::{Fields, to_bytes};
 
@@ -21,10 +20,10 @@ struct Part {
 fn part_of(body: &[u8], from: usize, len: usize) -> Part
     ensures { (result.start ≤ result.end) × (result.end ≤ length body.now) × (take (result.end - result.start) (drop result.start body.now) ≡ take len (drop from body.now)) }
 {
-    let start = least(from, body.len());
+    let start = from.min(body.len());
     Part {
         start: start,
-        end: start + least(len, body.len() - start),
+        end: start + len.min(body.len() - start),
     }
 }
 
@@ -73,8 +72,8 @@ fn fields_with(
         parent_id: d.parent_id,
         id: d.id,
         index: d.index,
-        node_type: type_number(node_type),
-        unit: unit_number(unit),
+        node_type: u8::from(node_type),
+        unit: u8::from(unit),
         read_only: d.read_only,
         min_float: min_float,
         max_float: max_float,

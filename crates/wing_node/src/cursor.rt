@@ -3,7 +3,7 @@
 ghost use Rattle.std.specs.Prelude.{◌≡◌};
 ghost use Rattle.wing_node.specs.Cursor.{number, string, stopped, nothing, read_at, short_of};
 
-use crate::field::{least, left, u16_at, u32_at};
+use crate::field::{left, number_at};
 use crate::refusal::Refusal;
 use crate::utf8::good_len;
 
@@ -65,7 +65,7 @@ pub(crate) fn read_32(body: &[u8], c: Cursor) -> FieldRead
         return refuse(c, Err(Refusal::DefinitionShort));
     }
     FieldRead {
-        value: u32_at(body, at),
+        value: number_at::<u32>(body, at),
         start: at,
         next: Cursor {
             at: at + 4,
@@ -86,7 +86,7 @@ pub(crate) fn read_16(body: &[u8], c: Cursor) -> ShortRead
         return refuse_short(c, Err(Refusal::DefinitionShort));
     }
     ShortRead {
-        value: u16_at(body, at),
+        value: number_at::<u16>(body, at),
         next: Cursor {
             at: at + 2,
             fault: Ok(()),
@@ -111,7 +111,7 @@ pub(crate) fn read_string(body: &[u8], c: Cursor) -> FieldRead
     let len = body[at] as usize;
     let first = at + 1;
     let rest = there - 1;
-    let end = first + least(len, rest);
+    let end = first + len.min(rest);
     let good = good_len(&body[first..end]);
     if rest < len {
         return refuse(c, Err(Refusal::DefinitionShort));

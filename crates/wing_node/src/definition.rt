@@ -5,8 +5,7 @@ ghost use Rattle.wing_node.specs.Cursor.{after};
 ghost use Rattle.wing_node.specs.Definition.{span_of, item_at, items_of, listed_at, details_at, parsed_from, definition_of};
 
 use crate::cursor::{Cursor, FieldRead, read_16, read_32, read_string};
-use crate::field::to_i32;
-use crate::node_type::{NodeType, NodeUnit, type_of, unit_of};
+use crate::node_type::{NodeType, NodeUnit};
 use crate::refusal::Refusal;
 
 // Where a string lies in the body.
@@ -137,7 +136,7 @@ fn floats(body: &[u8], c: Cursor) -> DetailsRead
         details: Details::Floats {
             min: min.value,
             max: max.value,
-            steps: to_i32(steps.value),
+            steps: steps.value.cast_signed(),
         },
         next: next,
     }
@@ -151,8 +150,8 @@ fn integers(body: &[u8], c: Cursor) -> DetailsRead
     let next = max.next;
     DetailsRead {
         details: Details::Integers {
-            min: to_i32(min.value),
-            max: to_i32(max.value),
+            min: min.value.cast_signed(),
+            max: max.value.cast_signed(),
         },
         next: next,
     }
@@ -212,17 +211,17 @@ pub fn from_bytes(body: &[u8]) -> Result<Definition, Refusal>
     let long_name = read_string(body, name.next);
     let flags = read_16(body, long_name.next);
     let bits = flags.value;
-    let kind = type_of(bits / 16 % 16);
+    let kind = NodeType::from(bits / 16 % 16);
     let found = read_details(body, kind, flags.next);
     let details = found.details;
     let d = Definition {
-        parent_id: to_i32(parent_id.value),
-        id: to_i32(id.value),
+        parent_id: parent_id.value.cast_signed(),
+        id: id.value.cast_signed(),
         index: index.value,
         name: span_of(name),
         long_name: span_of(long_name),
         node_type: kind,
-        unit: unit_of(bits % 16),
+        unit: NodeUnit::from(bits % 16),
         read_only: bits / 512 % 2 == 1,
         details: details,
     };

@@ -1,8 +1,101 @@
-// Number fields in lent bytes: big-endian, 16 and 32 bits, unsigned and signed.
+// Number fields in lent bytes: big-endian, of any width.
 // A field that is not whole reads as 0, and writing one that has no room leaves the bytes as they were.
-ghost use Rattle.std.specs.Prelude.{◌≡◌, ◌-◌, min, length, ◌∷◌, []};
+ghost use Rattle.std.specs.Prelude.{ℕ, ◌≡◌, ◌-◌, ◌<◌, ◌^◌, length, refl};
+ghost use Rattle.std.proofs.Common.{rules};
 ghost use Rattle.wing_node.specs.Signed.{signed, unsigned};
 ghost use Rattle.wing_node.specs.Field.{big, bytes_of, field_at, put, put_at};
+
+// A number that stands in bytes, the most significant first.
+pub trait BigEndian: Copy + Default {
+    // How many bytes it takes.
+    ghost WIDTH: { ℕ };
+
+    // The value that has these bits.
+    ghost value: { ℕ → Self };
+
+    // The bits of a value.
+    ghost bits: { Self → ℕ };
+
+    const WIDTH: usize;
+
+    fn of_bytes(bytes: &[u8]) -> Self
+        requires { length bytes.now ≡ WIDTH }
+        ensures { result ≡ value (big bytes.now) };
+
+    fn lay_over(self, out: &mut [u8])
+        requires { length out.old ≡ WIDTH }
+        ensures { out.new ≡ bytes_of WIDTH (bits self) };
+
+    ghost takes_bytes: { 0 < WIDTH };
+
+    ghost default_is_zero: { (x : Self) → Self.is_default x → x ≡ value 0 };
+}
+
+impl BigEndian for u16 {
+    ghost WIDTH = { 2 };
+
+    ghost value = { λ n. n };
+
+    ghost bits = { λ n. n };
+
+    const WIDTH: usize = 2;
+
+    fn of_bytes(bytes: &[u8]) -> u16 {
+        u16::from_be_bytes([bytes[0], bytes[1]])
+    }
+
+    fn lay_over(self, out: &mut [u8]) {
+        out.copy_from_slice(&self.to_be_bytes());
+    }
+
+    ghost takes_bytes = { Prim.search rules };
+
+    ghost default_is_zero = { λ x h. h };
+}
+
+impl BigEndian for u32 {
+    ghost WIDTH = { 4 };
+
+    ghost value = { λ n. n };
+
+    ghost bits = { λ n. n };
+
+    const WIDTH: usize = 4;
+
+    fn of_bytes(bytes: &[u8]) -> u32 {
+        u32::from_be_bytes([bytes[0], bytes[1], bytes[2], bytes[3]])
+    }
+
+    fn lay_over(self, out: &mut [u8]) {
+        out.copy_from_slice(&self.to_be_bytes());
+    }
+
+    ghost takes_bytes = { Prim.search rules };
+
+    ghost default_is_zero = { λ x h. h };
+}
+
+impl BigEndian for i32 {
+    ghost WIDTH = { 4 };
+
+    ghost value = { signed 31 };
+
+    ghost bits = { unsigned 31 };
+
+    const WIDTH: usize = 4;
+
+    fn of_bytes(bytes: &[u8]) -> i32 {
+        u32::of_bytes(bytes).cast_signed()
+    }
+
+    fn lay_over(self, out: &mut [u8]) {
+        self.cast_unsigned().lay_over(out);
+    }
+
+    ghost takes_bytes = { Prim.search rules };
+
+    ghost default_is_zero = { λ x h. h };
+}
 
 // The bytes from a place on.
 pub fn left(s: &[u8], at: usize) -> usize
@@ -11,130 +104,23 @@ pub fn left(s: &[u8], at: usize) -> usize
     s.len().saturating_sub(at)
 }
 
-// The smaller of two lengths.
-pub fn least(a: usize, b: usize) -> usize
-    ensures { result ≡ min a b }
+// The number in the bytes from a place on, 0 where fewer are left.
+pub fn number_at<T: BigEndian>(s: &[u8], at: usize) -> T
+    ensures { result ≡ T.value (field_at T.WIDTH s.now at) }
 {
-    a.min(b)
-}
-
-fn number_16(a: u8, b: u8) -> u16
-    ensures { result ≡ big (a ∷ b ∷ []) }
-{
-    (a as u16) * 256 + (b as u16)
-}
-
-fn number_32(a: u8, b: u8, c: u8, d: u8) -> u32
-    ensures { result ≡ big (a ∷ b ∷ c ∷ d ∷ []) }
-{
-    (((a as u32) * 256 + (b as u32)) * 256 + (c as u32)) * 256 + (d as u32)
-}
-
-// The number whose 16 bits are u, by two's complement.
-pub fn to_i16(u: u16) -> i16
-    ensures { result ≡ signed 15 u }
-{
-    u.cast_signed()
-}
-
-// The number whose 32 bits these are, in two's complement.
-pub fn to_i32(u: u32) -> i32
-    ensures { result ≡ signed 31 u }
-{
-    u.cast_signed()
-}
-
-// The 16 bits of x.
-pub fn of_i16(x: i16) -> u16
-    ensures { result ≡ unsigned 15 x }
-{
-    x.cast_unsigned()
-}
-
-// The 32 bits of a number.
-pub fn of_i32(x: i32) -> u32
-    ensures { result ≡ unsigned 31 x }
-{
-    x.cast_unsigned()
-}
-
-// The 16-bit number in the bytes from a place on, 0 where fewer are left.
-pub fn u16_at(s: &[u8], at: usize) -> u16
-    ensures { result ≡ field_at 2 s.now at }
-{
-    if left(s, at) < 2 {
-        return 0;
+    if left(s, at) < T::WIDTH {
+        return T::default();
     }
-    number_16(s[at], s[at + 1])
-}
-
-// The same of 32 bits.
-pub fn u32_at(s: &[u8], at: usize) -> u32
-    ensures { result ≡ field_at 4 s.now at }
-{
-    if left(s, at) < 4 {
-        return 0;
-    }
-    number_32(s[at], s[at + 1], s[at + 2], s[at + 3])
-}
-
-// The same of 32 bits, signed.
-pub fn i32_at(s: &[u8], at: usize) -> i32
-    ensures { result ≡ signed 31 (field_at 4 s.now at) }
-{
-    to_i32(u32_at(s, at))
+    T::of_bytes(&s[at..at + T::WIDTH])
 }
 
 // The answer says whether there was room.
-pub fn put_u16(out: &mut [u8], at: usize, n: u16) -> bool
-    ensures { put result out.new ≡ put_at (bytes_of 2 n) at out.old }
+pub fn put_number<T: BigEndian>(out: &mut [u8], at: usize, n: T) -> bool
+    ensures { put result out.new ≡ put_at (bytes_of T.WIDTH (T.bits n)) at out.old }
 {
-    if left(out, at) < 2 {
+    if left(out, at) < T::WIDTH {
         return false;
     }
-    let bytes = bytes_16(n);
-    out[at] = bytes[0];
-    out[at + 1] = bytes[1];
+    n.lay_over(&mut out[at..at + T::WIDTH]);
     true
-}
-
-// The same of 32 bits.
-pub fn put_u32(out: &mut [u8], at: usize, n: u32) -> bool
-    ensures { put result out.new ≡ put_at (bytes_of 4 n) at out.old }
-{
-    if left(out, at) < 4 {
-        return false;
-    }
-    let bytes = bytes_32(n);
-    out[at] = bytes[0];
-    out[at + 1] = bytes[1];
-    out[at + 2] = bytes[2];
-    out[at + 3] = bytes[3];
-    true
-}
-
-// The same of 32 bits, signed.
-pub fn put_i32(out: &mut [u8], at: usize, x: i32) -> bool
-    ensures { put result out.new ≡ put_at (bytes_of 4 (unsigned 31 x)) at out.old }
-{
-    put_u32(out, at, of_i32(x))
-}
-
-// The bytes of a number.
-pub fn bytes_16(n: u16) -> [u8; 2]
-    ensures { result ≡ bytes_of 2 n }
-{
-    [(n / 256 % 256) as u8, (n % 256) as u8]
-}
-
-// The four bytes of a number.
-pub fn bytes_32(n: u32) -> [u8; 4]
-    ensures { result ≡ bytes_of 4 n }
-{
-    [
-        (n / 256 / 256 / 256 % 256) as u8,
-        (n / 256 / 256 % 256) as u8,
-        (n / 256 % 256) as u8,
-        (n % 256) as u8,
-    ]
 }

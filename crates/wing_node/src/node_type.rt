@@ -27,50 +27,58 @@ pub enum NodeUnit {
 }
 
 // The type of a number from the flags; a number over 7 is type 0.
-pub fn type_of(n: u16) -> NodeType
-    ensures { result ≡ type_of n }
-{
-    match n {
-        0 => NodeType::Node,
-        1 => NodeType::LinearFloat,
-        2 => NodeType::LogarithmicFloat,
-        3 => NodeType::FaderLevel,
-        4 => NodeType::Integer,
-        5 => NodeType::StringEnum,
-        6 => NodeType::FloatEnum,
-        7 => NodeType::String,
-        _ => NodeType::Node,
+impl From<u16> for NodeType {
+    ghost from_gives = { λ n t. t ≡ type_of n };
+
+    fn from(n: u16) -> NodeType {
+        match n {
+            0 => NodeType::Node,
+            1 => NodeType::LinearFloat,
+            2 => NodeType::LogarithmicFloat,
+            3 => NodeType::FaderLevel,
+            4 => NodeType::Integer,
+            5 => NodeType::StringEnum,
+            6 => NodeType::FloatEnum,
+            7 => NodeType::String,
+            _ => NodeType::Node,
+        }
     }
 }
 
 // The unit of a number from the flags; a number over 7 is unit 0.
-pub fn unit_of(n: u16) -> NodeUnit
-    ensures { result ≡ unit_of n }
-{
-    match n {
-        0 => NodeUnit::None,
-        1 => NodeUnit::Db,
-        2 => NodeUnit::Percent,
-        3 => NodeUnit::Milliseconds,
-        4 => NodeUnit::Hertz,
-        5 => NodeUnit::Meters,
-        6 => NodeUnit::Seconds,
-        7 => NodeUnit::Octaves,
-        _ => NodeUnit::None,
+impl From<u16> for NodeUnit {
+    ghost from_gives = { λ n u. u ≡ unit_of n };
+
+    fn from(n: u16) -> NodeUnit {
+        match n {
+            0 => NodeUnit::None,
+            1 => NodeUnit::Db,
+            2 => NodeUnit::Percent,
+            3 => NodeUnit::Milliseconds,
+            4 => NodeUnit::Hertz,
+            5 => NodeUnit::Meters,
+            6 => NodeUnit::Seconds,
+            7 => NodeUnit::Octaves,
+            _ => NodeUnit::None,
+        }
     }
 }
 
 // 01: types in order 0 to 7.
-pub fn type_number(t: NodeType) -> u8
-    ensures { result ≡ type_number t }
-{
-    t as u8
+impl From<NodeType> for u8 {
+    ghost from_gives = { λ t n. n ≡ type_number t };
+
+    fn from(t: NodeType) -> u8 {
+        t as u8
+    }
 }
 
-pub fn unit_number(u: NodeUnit) -> u8
-    ensures { result ≡ unit_number u }
-{
-    u as u8
+impl From<NodeUnit> for u8 {
+    ghost from_gives = { λ u n. n ≡ unit_number u };
+
+    fn from(u: NodeUnit) -> u8 {
+        u as u8
+    }
 }
 
 // 01: types 5 and 6 have items.

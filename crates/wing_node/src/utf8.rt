@@ -3,7 +3,7 @@
 ghost use Rattle.std.specs.Prelude.{◌≡◌, ◌∷◌, [], ◌+◌, drop, replicate};
 ghost use Rattle.wing_node.specs.Utf8.{◌to◌, utf8_tail, begins, lead_length, second, char_length, good, utf8, Octets, Longest, Decides};
 
-use crate::field::{left, u32_at};
+use crate::field::{left, number_at};
 
 // The length of the sequence that a lead byte begins, 0 where it begins none.
 // Its class, the count of its leading ones, chooses. C0 and C1 would begin a character that one byte holds, F5 to F7 one past U+10FFFF.
@@ -97,7 +97,7 @@ fn ascii_4(s: &[u8], i: usize) -> bool
     if left(s, i) < 4 {
         return false;
     }
-    u32_at(s, i) & 0x8080_8080 == 0
+    number_at::<u32>(s, i) & 0x8080_8080 == 0
 }
 
 // How many leading bytes form whole characters by RFC 3629's grammar: the largest such number.

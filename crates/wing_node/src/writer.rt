@@ -16,8 +16,8 @@ ghost use Rattle.wing_node.specs.Written.{laid_by};
 ghost use Rattle.wing_node.specs.Writer.{lent, type_given, flags_of, holds, body_given, unfit, texts_fault, lent_fault, body_effect, body_of_fields};
 ghost use Rattle.wing_node.specs.declared.refusal.Refusal.TheVariants.{FieldsUnfit};
 
-use crate::field::{least, left, of_i32, put_i32, put_u16, put_u32};
-use crate::node_type::{NodeType, has_items, type_of};
+use crate::field::{left, put_number};
+use crate::node_type::{NodeType, has_items};
 use crate::refusal::Refusal;
 use crate::utf8::good_len;
 
@@ -73,7 +73,7 @@ fn check_string(items: &[u8], at: usize) -> Checked
     }
     let len = items[at] as usize;
     let first = at + 1;
-    let end = first + least(len, there - 1);
+    let end = first + len.min(there - 1);
     Checked {
         at: first + len,
         fault: text_fault(&items[first..end]),
@@ -151,7 +151,7 @@ fn fields_fault(
     if unit > 7 {
         return Err(Refusal::FieldsUnfit);
     }
-    let kind = type_of(node_type as u16);
+    let kind = NodeType::from(node_type as u16);
     if has_items(kind) {
         return items_fault(items, kind, count, names);
     }
@@ -223,9 +223,9 @@ fn lay_ids(out: &mut [u8], parent_id: i32, id: i32, index: u16)
     requires { 10 ≤ length out.old }
     ensures { out.new ≡ sets out.old 0 (bytes_of 4 (unsigned 31 parent_id) ++ (bytes_of 4 (unsigned 31 id) ++ bytes_of 2 index)) }
 {
-    put_i32(out, 0, parent_id);
-    put_i32(out, 4, id);
-    put_u16(out, 8, index);
+    put_number(out, 0, parent_id);
+    put_number(out, 4, id);
+    put_number(out, 8, index);
 }
 
 // The fields of every definition, and the place after them.
@@ -236,7 +236,7 @@ fn lay_header(out: &mut [u8], d: Fields, name: &[u8], long_name: &[u8]) -> usize
     lay_ids(out, d.parent_id, d.id, d.index);
     let at = lay_string(out, 10, name);
     let end = lay_string(out, at, long_name);
-    put_u16(out, end, flags_of(d.node_type, d.unit, d.read_only));
+    put_number(out, end, flags_of(d.node_type, d.unit, d.read_only));
     end + 2
 }
 
@@ -244,8 +244,8 @@ fn lay_limits(out: &mut [u8], at: usize, min: u32, max: u32)
     requires { at + 8 ≤ length out.old }
     ensures { out.new ≡ sets out.old at (bytes_of 4 min ++ bytes_of 4 max) }
 {
-    put_u32(out, at, min);
-    put_u32(out, at + 4, max);
+    put_number(out, at, min);
+    put_number(out, at + 4, max);
 }
 
 // The fields that a type adds.
@@ -256,14 +256,19 @@ fn lay_added(out: &mut [u8], at: usize, d: Fields, kind: NodeType)
     match kind {
         NodeType::LinearFloat | NodeType::LogarithmicFloat => {
             lay_limits(out, at, d.min_float, d.max_float);
-            put_i32(out, at + 8, d.steps);
+            put_number(out, at + 8, d.steps);
         }
-        NodeType::Integer => lay_limits(out, at, of_i32(d.min_int), of_i32(d.max_int)),
+        NodeType::Integer => lay_limits(
+            out,
+            at,
+            d.min_int.cast_unsigned(),
+            d.max_int.cast_unsigned(),
+        ),
         NodeType::StringEnum | NodeType::FloatEnum => {
-            put_u16(out, at, d.count);
+            put_number(out, at, d.count);
         }
         NodeType::String => {
-            put_u16(out, at, d.max_len);
+            put_number(out, at, d.max_len);
         }
         NodeType::Node | NodeType::FaderLevel => {}
     }
@@ -291,7 +296,7 @@ pub fn to_bytes(
     ensures { body_effect result out.new ≡ body_of_fields d (lent name.now long_name.now items.now) out.old }
 {
     lent_fault(d, name, long_name, items)?;
-    let kind = type_of(d.node_type as u16);
+    let kind = NodeType::from(d.node_type as u16);
     let len = 14 + name.len() + long_name.len() + added_len(kind) + items.len();
     if len > 4096 {
         return Err(Refusal::BodyLong);

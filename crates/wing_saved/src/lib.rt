@@ -8,7 +8,7 @@ ghost use Rattle.wing_wire.specs.Write.{write_effect, write_of};
 ghost use Rattle.wing_saved.specs.Saved.{saved_size, pending_flag, pending_byte_of, fields_of, head_under, head_bytes, state_bytes};
 ghost use Rattle.wing_saved.specs.Saved.{pending_in, token_in, fields_in, control_in, sound_only, head_from_under, head_from, state_from, save_of};
 
-use wing_node::field::{i32_at, put_i32, put_u32, u16_at, u32_at};
+use wing_node::field::{number_at, put_number};
 use wing_node::refusal::Refusal;
 use wing_wire::state::{Control, Escape, State, Token, is_sound};
 use wing_wire::token::Class;
@@ -96,17 +96,18 @@ fn head_of(version: u8, c: Control) -> [u8; HEAD]
     head[2] = escape.channel.cast_unsigned();
     head[3] = pending_flag(pending);
     head[4] = pending_byte(pending);
-    put_i32(&mut head, 5, c.node);
+    put_number(&mut head, 5, c.node);
     head[9] = k.kind;
     head[10] = k.class;
-    put_u32(&mut head, 11, k.want);
-    put_u32(&mut head, 15, k.left);
-    put_u32(&mut head, 19, k.stored as u32);
-    put_u32(&mut head, 23, k.value);
+    put_number(&mut head, 11, k.want);
+    put_number(&mut head, 15, k.left);
+    put_number(&mut head, 19, k.stored as u32);
+    put_number(&mut head, 23, k.value);
     head
 }
 
 // Bytes at a place.
+#[tactic(auto, using(crate::proofs::Saving::Fronts::put_sets))]
 fn lay(out: &mut [u8], at: usize, src: &[u8])
     requires { at + length src.now ≤ length out.old }
     ensures { out.new ≡ sets out.old at src.now }
@@ -165,6 +166,7 @@ fn low_16(n: u32) -> u16
     (n % 0x10000) as u16
 }
 
+#[tactic(auto, using(crate::proofs::Saving::Heads::class_said), unfolding(crate::specs::Saved::token_in))]
 fn token_in(k: TokenFields) -> Token
     ensures { result ≡ token_in k }
 {
@@ -191,6 +193,7 @@ fn token_in(k: TokenFields) -> Token
 }
 
 // What is stored has 16 bits: the last two of its four bytes.
+#[tactic(auto, unfolding(crate::specs::Saved::fields_in))]
 fn fields_in(s: &[u8]) -> TokenFields
     requires { length s.now ≡ saved_size }
     ensures { result ≡ fields_in s.now }
@@ -198,15 +201,16 @@ fn fields_in(s: &[u8]) -> TokenFields
     TokenFields {
         kind: s[9],
         class: s[10],
-        want: u32_at(s, 11),
-        left: u32_at(s, 15),
-        stored: u16_at(s, 21),
-        value: u32_at(s, 23),
+        want: number_at::<u32>(s, 11),
+        left: number_at::<u32>(s, 15),
+        stored: number_at::<u16>(s, 21),
+        value: number_at::<u32>(s, 23),
     }
 }
 
 // What the fields say, whatever the bytes. head_under then lays the control's own fields and takes it only if they are these bytes, so that no
 // other number, such as a flag of 2 or a byte where none is pending, needs a test of its own.
+#[tactic(auto, unfolding(crate::specs::Saved::control_in))]
 fn control_in(s: &[u8]) -> Control
     requires { length s.now ≡ saved_size }
     ensures { result ≡ control_in s.now }
@@ -219,7 +223,7 @@ fn control_in(s: &[u8]) -> Control
             channel: s[2].cast_signed(),
             pending: pending,
         },
-        node: i32_at(s, 5),
+        node: number_at::<i32>(s, 5),
         token: token,
     }
 }

@@ -1,4 +1,5 @@
 -- From bytes to answers.
+pub mod Columns
 pub mod Zeros
 pub mod Powers
 pub mod Underway

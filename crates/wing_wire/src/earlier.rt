@@ -40,6 +40,7 @@ fn is_started(token: Token) -> bool
 }
 
 // The same token, a body's counts in 32 bits.
+#[tactic(auto, unfolding(crate::specs::Earlier::carried_token))]
 fn carried_token(token: Token) -> state::Token
     ensures { result ≡ carried_token token }
 {

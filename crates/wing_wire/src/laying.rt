@@ -6,7 +6,6 @@ ghost use Rattle.wing_node.specs.Signed.{unsigned};
 ghost use Rattle.wing_wire.specs.Write.{escaped, field, Laid, write_effect, write_of};
 
 use crate::reader::copy_front;
-use wing_node::field::{bytes_16, bytes_32, of_i32};
 use wing_node::refusal::Refusal;
 
 // One byte as it is.
@@ -50,7 +49,7 @@ pub(crate) fn lay_16(out: &mut [u8], at: usize, n: u16) -> usize
     ensures laid { Laid (field 2 n) at out.old out.new result }
     ensures upper_bound { result ≤ at + 4 }
 {
-    let bytes = bytes_16(n);
+    let bytes = n.to_be_bytes();
     lay_escaped(out, at, &bytes)
 }
 
@@ -59,7 +58,7 @@ pub(crate) fn lay_32(out: &mut [u8], at: usize, n: u32) -> usize
     ensures laid { Laid (field 4 n) at out.old out.new result }
     ensures upper_bound { result ≤ at + 8 }
 {
-    let bytes = bytes_32(n);
+    let bytes = n.to_be_bytes();
     lay_escaped(out, at, &bytes)
 }
 
@@ -69,7 +68,7 @@ pub(crate) fn lay_id(out: &mut [u8], prefix: u8, id: i32) -> usize
     ensures upper_bound { result ≤ 9 }
 {
     let at = lay(out, 0, prefix);
-    lay_32(out, at, of_i32(id))
+    lay_32(out, at, id.cast_unsigned())
 }
 
 // The first n bytes laid, to the front of out. 01: output too short for the whole is 9, as it was.

@@ -4,7 +4,7 @@ ghost use Rattle.wing_wire.specs.Write.{Laid, write_effect, write_of};
 ghost use Rattle.wing_wire.specs.Meter.{item_of, item_bytes, meters_bytes, request_head, meter_request, request_effect, request_meter, keep_alive, keep_alives, readings, packet_effect, packet_of};
 
 use crate::laying::{hand_over, lay, lay_8, lay_16};
-use wing_node::field::u16_at;
+use wing_node::field::number_at;
 use wing_node::refusal::Refusal;
 
 #[derive(Clone, Copy)]
@@ -49,6 +49,7 @@ pub struct MetersRead {
 }
 
 // 01: a0 to a8 with index, a9 and aa alone, ab to af with index.
+#[tactic(auto, unfolding(crate::specs::Meter::item_of))]
 fn item_of(m: Meter) -> MeterItem
     ensures { result ≡ item_of m }
 {
@@ -72,6 +73,7 @@ fn item_of(m: Meter) -> MeterItem
     }
 }
 
+#[tactic(auto, unfolding(crate::specs::Meter::item_bytes))]
 fn lay_meter(out: &mut [u8], at: usize, m: Meter) -> usize
     requires { at ≤ 0x1000 }
     ensures laid { Laid (item_bytes (item_of m)) at out.old out.new result }
@@ -232,7 +234,7 @@ pub fn read_meters(packet: &[u8], out: &mut [i16]) -> Result<MetersRead, Refusal
     }
     fill_readings(packet, out, count);
     Ok(MetersRead {
-        id: u16_at(packet, 0),
+        id: number_at::<u16>(packet, 0),
         count,
     })
 }

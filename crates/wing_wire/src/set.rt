@@ -8,7 +8,6 @@ ghost use Rattle.wing_wire.specs.Write.{Laid, write_effect, write_of};
 ghost use Rattle.wing_wire.specs.Command.{from◌to◌, integer_bytes, length_bytes, id_bytes, suffix_bytes, set_bytes, set_string};
 
 use crate::laying::{hand_over, lay, lay_8, lay_16, lay_32, lay_escaped, lay_id};
-use wing_node::field::{of_i16, of_i32};
 use wing_node::refusal::{Refusal, string_fault};
 
 fn lay_format(out: &mut [u8], id: i32, prefix: u8, suffix: Option<u8>) -> usize
@@ -50,10 +49,10 @@ fn lay_integer(out: &mut [u8], at: usize, value: i32) -> usize
     }
     if is_from(-32768, 32767, value) {
         let next = lay(out, at, 0xd3);
-        return lay_16(out, next, of_i16(value as i16));
+        return lay_16(out, next, (value as i16).cast_unsigned());
     }
     let next = lay(out, at, 0xd4);
-    lay_32(out, next, of_i32(value))
+    lay_32(out, next, value.cast_unsigned())
 }
 
 fn lay_set_int(out: &mut [u8], id: i32, value: i32) -> usize
@@ -96,6 +95,7 @@ pub fn set_float(out: &mut [u8], id: i32, bits: u32) -> Result<usize, Refusal>
 }
 
 // What stands before a string's bytes. 01: d0; 80 + length − 1 up to 64; d1 and length − 1 up to 256.
+#[tactic(auto, unfolding(crate::specs::Command::length_bytes))]
 fn lay_length(out: &mut [u8], at: usize, len: usize) -> usize
     requires { (at ≤ 0x1000) × (len ≤ 256) }
     ensures laid { Laid (length_bytes len) at out.old out.new result }

@@ -112,6 +112,7 @@ fn is_within(value: u32, units: u16) -> bool
 }
 
 // A number has fewer units than its class, and no more bits than they gave.
+#[tactic(auto, unfolding(crate::specs::State::sound_number))]
 fn sound_number(class: Class, left: u16, value: u32) -> bool
     ensures { result ≡ sound_number class left value }
 {
@@ -128,6 +129,7 @@ fn sound_string(want: u16, left: u16) -> bool
 }
 
 // No more bytes stored than units collected, and none where the count is over the limit.
+#[tactic(auto, unfolding(crate::specs::State::sound_body))]
 fn sound_body(want: u32, left: u32, stored: u16) -> bool
     ensures { result ≡ sound_body want left stored }
 {

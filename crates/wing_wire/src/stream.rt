@@ -181,6 +181,7 @@ fn is_free(t: Answered) -> bool
     is_more(t.answer) && is_plain(t.control.escape)
 }
 
+#[tactic(auto, unfolding(crate::specs::Plain::ahead_of))]
 fn ahead(c: Control, store: &mut [u8], bytes: &[u8], at: usize) -> Stepped
     ensures { stepped result store.new ≡ ahead_of c store.old at (drop at bytes.now) }
 {
@@ -198,6 +199,7 @@ fn ahead(c: Control, store: &mut [u8], bytes: &[u8], at: usize) -> Stepped
 }
 
 // One unit, and after it the plain bytes that go fast.
+#[tactic(auto, unfolding(crate::specs::Plain::once_of, crate::specs::Plain::on_ahead))]
 fn step(c: Control, store: &mut [u8], bytes: &[u8], at: usize) -> Stepped
     ensures { stepped result store.new ≡ once_of c store.old bytes.now at }
 {

@@ -1,6 +1,8 @@
 // The token table: the class of a first unit and how many units its token wants.
 ghost use Rattle.std.specs.Prelude.{◌≡◌};
-ghost use Rattle.wing_wire.specs.Token.{rule, rule_of, class_number, IsNumbered, width_of};
+ghost use Rattle.wing_wire.specs.Token.{rule_of, class_number, IsNumbered, width_of};
+
+mod rows;
 
 // What a token is. LongCount is in no table row: it is the 32-bit count after a count of 0.
 #[derive(Debug, Clone, Copy, PartialEq, Eq)]
@@ -56,37 +58,14 @@ pub struct Rule {
     pub wants: u16,
 }
 
-impl Rule {
-    fn new(class: Class, wants: u8) -> Self
-        ensures { result ≡ rule class wants }
-    {
-        Self {
-            class: class,
-            wants: u16::from(wants),
-        }
-    }
-}
-
-// The row of a first unit in the token table.
-#[tactic(auto, unfolding(crate::specs::Token::rule_of, crate::specs::Token::rule_in))]
+// The row of a first unit. The table is looked up here alone.
 pub fn rule_of(t: u8) -> Rule
     ensures { result ≡ rule_of t }
 {
-    match t {
-        0x00..=0x3f => Rule::new(Class::Integer, 0),
-        0x80..=0xbf => Rule::new(Class::String, t - 0x80 + 1),
-        0xc0..=0xcf => Rule::new(Class::String, t - 0xc0 + 1),
-        0xd0 => Rule::new(Class::String, 0),
-        0xd1 => Rule::new(Class::Length, 1),
-        0xd2 => Rule::new(Class::NoEvent, 2),
-        0xd3 => Rule::new(Class::Int16, 2),
-        0xd4 => Rule::new(Class::Int32, 4),
-        0xd5..=0xd6 => Rule::new(Class::Float, 4),
-        0xd7 => Rule::new(Class::Node, 4),
-        0xd9 => Rule::new(Class::NoEvent, 1),
-        0xde => Rule::new(Class::End, 0),
-        0xdf => Rule::new(Class::Count, 2),
-        _ => Rule::new(Class::NoEvent, 0),
+    let i = usize::from(t);
+    Rule {
+        class: rows::CLASSES[i],
+        wants: u16::from(rows::WANTS[i]),
     }
 }
 

@@ -4,7 +4,6 @@ ghost use Rattle.wing_wire.specs.Unit.{taken, single_of, is_string, token_of, be
 
 use crate::state::{State, Token, collected};
 use crate::token::{Class, rule_of};
-use wing_node::field::{to_i16, to_i32};
 use wing_node::refusal::{Refusal, string_fault};
 
 // What reading gives: 01's events, a refusal, or that more bytes are wanted.
@@ -66,6 +65,7 @@ fn is_string(class: Class) -> bool
 }
 
 // A token that wants units.
+#[tactic(auto, unfolding(crate::specs::Unit::token_of))]
 fn token_of(class: Class, wants: u16) -> Token
     ensures { result ≡ token_of class wants }
 {
@@ -82,6 +82,7 @@ fn token_of(class: Class, wants: u16) -> Token
     }
 }
 
+#[tactic(auto, unfolding(crate::specs::Unit::begin_of))]
 fn begin(node: i32, t: u8) -> Taken
     ensures { result ≡ begin_of node t }
 {
@@ -112,6 +113,7 @@ fn body_of(node: i32, c: u32) -> Taken
 }
 
 // A 16-bit count; after 0 comes a 32-bit one.
+#[tactic(auto, unfolding(crate::specs::Unit::count_of))]
 fn count(node: i32, c: u16) -> Taken
     ensures { result ≡ count_of node c }
 {
@@ -150,12 +152,12 @@ fn number(node: i32, class: Class, v: u32) -> Taken
             taken_of(Answer::More, node, Token::String { want: n, left: n })
         }
         Class::Int16 => {
-            let x = to_i16((v % 0x10000) as u16);
+            let x = ((v % 0x10000) as u16).cast_signed();
             taken_of(Answer::Integer(x as i32), node, Token::Between)
         }
-        Class::Int32 => taken_of(Answer::Integer(to_i32(v)), node, Token::Between),
+        Class::Int32 => taken_of(Answer::Integer(v.cast_signed()), node, Token::Between),
         Class::Float => taken_of(Answer::Float(v), node, Token::Between),
-        Class::Node => taken_of(Answer::More, to_i32(v), Token::Between),
+        Class::Node => taken_of(Answer::More, v.cast_signed(), Token::Between),
         Class::Count => count(node, (v % 0x10000) as u16),
         Class::LongCount => long_count(node, v),
         _ => taken_of(Answer::More, node, Token::Between),
@@ -169,6 +171,7 @@ pub(crate) fn shift_in(v: u32, u: u8) -> u32
     v % 0x1000000 * 256 + (u as u32)
 }
 
+#[tactic(auto, unfolding(crate::specs::Unit::number_unit))]
 fn number_unit(node: i32, class: Class, left: u16, v: u32, u: u8) -> Taken
     ensures { result ≡ number_unit node class left v u }
 {
@@ -216,6 +219,7 @@ fn string_done(node: i32, want: u16, store: &mut [u8]) -> Taken
     }
 }
 
+#[tactic(auto, unfolding(crate::specs::Unit::string_unit))]
 fn string_unit(node: i32, want: u16, left: u16, store: &mut [u8], u: u8) -> Taken
     ensures { unit_effect result store.new ≡ string_unit node want left store.old u }
 {
@@ -250,6 +254,7 @@ fn body_done(node: i32, want: u32, stored: u16) -> Taken
     refuse(Refusal::BodyLong, node)
 }
 
+#[tactic(auto, unfolding(crate::specs::Unit::body_next))]
 fn body_next(node: i32, want: u32, left: u32, stored: u16) -> Taken
     ensures { result ≡ body_next node want left stored }
 {
@@ -267,6 +272,7 @@ fn body_next(node: i32, want: u32, left: u32, stored: u16) -> Taken
     )
 }
 
+#[tactic(auto, unfolding(crate::specs::Unit::body_unit))]
 fn body_unit(
     node: i32,
     want: u32,
@@ -286,6 +292,7 @@ fn body_unit(
 }
 
 // One unit. What a body's units append is in the store, as is every unit of a string.
+#[tactic(auto, unfolding(crate::specs::Unit::unit_of))]
 pub(crate) fn take_unit(node: i32, token: Token, store: &mut [u8], u: u8, appended: bool) -> Taken
     ensures { unit_effect result store.new ≡ unit_of node token store.old u appended }
 {

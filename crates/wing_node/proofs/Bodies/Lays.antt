@@ -4,8 +4,7 @@ use mathlib.Core.List.{List, [], ◌∷◌, ◌++◌, append_assoc, append-nil}
 use Prim.Native.Nat.{ℕ, ◌+◌, ◌≤◌}
 use native.Mathlib.Omega.{arith}
 use lib.ListN.{length, take, drop, length-append}
-use lib.Seq.{sets, sets-eq, drop-drop}
-use borrow.Rule.Slice.PartMut.{put_mid}
+use lib.Seq.{sets, sets-eq}
 use Rattle.wing_node.specs.Bytes.{placed}
 use Rattle.wing_node.specs.Field.{bytes_of}
 use Rattle.wing_node.specs.Signed.{unsigned}
@@ -21,10 +20,6 @@ use Rattle.wing_node.proofs.Numerals.Placed.{sets-append}
 -- a, and then b where a ends
 pub lays-then : (d e f : List ℕ) (at n : ℕ) (a b : List ℕ) → e ≡ sets d at a → n ≡ at + length a → f ≡ sets e n b → f ≡ sets d at (a ++ b)
 lays-then d e f at n a b p q r = r ∙ rw (p, q) (sets-append a b d at)
-
--- bytes in the place of a part of the output that is as long
-pub part-sets : (d s : List ℕ) (at n : ℕ) → n ≡ length s → at + n ≤ length d → put_mid at n d s ≡ sets d at s
-part-sets d s at n e h = rw (drop-drop, e) (sym (sets-eq s d at (omega arith) ∙ append_assoc (take at d) s (drop (at + length s) d)))
 
 -- from the front on, the bytes are placed
 pub sets-placed : (d s : List ℕ) → length s ≤ length d → sets d 0 s ≡ placed d 0 s

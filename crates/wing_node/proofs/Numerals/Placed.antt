@@ -10,6 +10,7 @@ use lib.Dec.{ltb}
 use lib.ListN.{length, take, drop, get_or, set, length-append, length-drop, take-append-drop}
 use lib.Seq.{take-suc, drop-cons, sets, sets-eq, drop_at, drop-drop, length-take-le, take-append_seam}
 use borrow.Author.Tests.{lt-ltb, le-ltb, ltb-false}
+use borrow.Rule.Slice.PartMut.{put_mid}
 use Rattle.wing_node.specs.Bytes.{placed}
 use Rattle.wing_node.specs.Field.{big, bytes_of, field_at, put, put_at}
 use Rattle.wing_node.proofs.Numerals.Numbers.{Digits, digits-take, digits-drop, digits_number, number_digits, length-digits_in}
@@ -38,25 +39,6 @@ take_more n s i h = rw (add-one i, drop-cons s i 0 h)
 
 pub two_bytes : (s : List ℕ) (i : ℕ) → 2 ≤ length s - i → take 2 (drop i s) ≡ get_or s i 0 ∷ get_or s (i + 1) 0 ∷ []
 two_bytes s i h = rw (take_more 1 s i (omega arith), take_more 0 s (i + 1) (omega arith))
-
-pub four_bytes : (s : List ℕ) (i : ℕ) → 4 ≤ length s - i →
-    take 4 (drop i s) ≡ get_or s i 0 ∷ get_or s (i + 1) 0 ∷ get_or s (i + 2) 0 ∷ get_or s (i + 3) 0 ∷ []
-four_bytes s i h =
-    let e : i + 1 + 1 ≡ i + 2 = omega arith in
-    let e' : i + 2 + 1 ≡ i + 3 = omega arith in
-    rw (take_more 3 s i (omega arith), take_more 2 s (i + 1) (omega arith), e, take_more 1 s (i + 2) (omega arith), e', take_more 0 s (i + 3) (omega arith))
-
--- the stores of a writer, one byte after the other
-pub stores-two : (a b : ℕ) (at : ℕ) (s : List ℕ) → 2 ≤ length s - at → put true (set (set s at a) (at + 1) b) ≡ put_at (a ∷ b ∷ []) at s
-stores-two a b at s h = sym (put_whole (a ∷ b ∷ []) at s (omega arith) h ∙ rw (← add-one at))
-
-pub stores-four : (a b c d : ℕ) (at : ℕ) (s : List ℕ) → 4 ≤ length s - at →
-    put true (set (set (set (set s at a) (at + 1) b) (at + 2) c) (at + 3) d) ≡ put_at (a ∷ b ∷ c ∷ d ∷ []) at s
-stores-four a b c d at s h =
-    let one : at + 1 ≡ suc at = omega arith in
-    let two : at + 2 ≡ suc (suc at) = omega arith in
-    let three : at + 3 ≡ suc (suc (suc at)) = omega arith in
-    sym (put_whole (a ∷ b ∷ c ∷ d ∷ []) at s (omega arith) h ∙ rw (one, two, three))
 
 -- the bytes written from a place on, read from there
 placed-read : (s : List ℕ) (at : ℕ) (bs : List ℕ) → at ≤ length s → take (length bs) (drop at (placed s at bs)) ≡ bs
@@ -101,6 +83,10 @@ sets-append [] ws l i = rw (add-zero i)
 sets-append (v ∷ vs) ws l i =
     let z : i + suc (length vs) ≡ suc i + length vs = omega arith in
     rw z (sets-append vs ws (set l i v) (suc i))
+
+-- bytes in the place of a part of the output that is as long
+pub part-sets : (d s : List ℕ) (at n : ℕ) → n ≡ length s → at + n ≤ length d → put_mid at n d s ≡ sets d at s
+part-sets d s at n e h = rw (drop-drop, e) (sym (sets-eq s d at (omega arith) ∙ append_assoc (take at d) s (drop (at + length s) d)))
 
 -- a turn of a loop that lays bytes
 pub lay-more : (out src : List ℕ) (at i : ℕ) → i < length src → set (sets out at (take i src)) (at + i) (get_or src i 0) ≡ sets out at (take (i + 1) src)

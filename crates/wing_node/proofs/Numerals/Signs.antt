@@ -27,6 +27,11 @@ module _ (w : Width) (wide : bits w ≡ hbits w + 1) where
       sel-if (ltb u (2 ^ hbits w)) (pos u) (negsuc (2 ^ bits w - suc u)) ∙
       ap (λ (m : ℕ). if (ltb u (2 ^ hbits w)) (pos u) (negsuc (2 ^ m - suc u))) wide
 
+  -- and so are its bits
+  pub writes : (x : ℤ) → of_z w x ≡ unsigned (hbits w) x
+  writes (pos n) = refl
+  writes (negsuc n) = ap (λ (m : ℕ). 2 ^ m - suc n) wide
+
 module _ (w : Width) (double : 2 ^ bits w ≡ 2 ^ hbits w + 2 ^ hbits w) (x : ℤ) (fits : SFits w x) where
   -- the bits of a number below 0, turned over, are those of its magnitude
   pub complement : lt_z x (pos 0) ≡ true → to_z w (2 ^ bits w - 1 - of_z w x) ≡ pos (mag x)

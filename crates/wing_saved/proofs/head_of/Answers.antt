@@ -1,4 +1,4 @@
--- The bytes of a field each are stored at their places and those of four written by `put_i32` and `put_u32`, which are the fields in their order (law
+-- The bytes of a field each are stored at their places and those of four written by `put_number`, which are the fields in their order (law
 -- `fields-put`).
 use mathlib.Core.Path.{◌≡◌, ◌∙◌}
 use mir.Val.{to_z, of_z}
@@ -14,5 +14,5 @@ returns c =
     let a = c.args.c in
     let k : to_z w8 (of_z w8 a.escape.channel) ≡ a.escape.channel = search rules in
     let l : to_z w32 (of_z w32 a.node) ≡ a.node = search rules in
-    fields-put _ _ _ _ _ _ _ _ _ _ _ _ c.put_i32.ensures c.put_u32.ensures c.put_u32-2.ensures c.put_u32-3.ensures c.put_u32-4.ensures
+    fields-put _ _ _ _ _ _ _ _ _ _ _ _ c.put_number.ensures c.put_number-2.ensures c.put_number-3.ensures c.put_number-4.ensures c.put_number-5.ensures
     ∙ rw (c.from.ensures, flag_same a.escape.escaped, c.cast_unsigned.ensures, k, bits_same a.escape.channel, c.pending_flag.ensures, c.pending_byte.ensures, c.fields_of-k.ensures, l)

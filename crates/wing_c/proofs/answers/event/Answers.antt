@@ -1,8 +1,9 @@
 -- Each arm is the line of `event_numbers` with that answer; the node and an integer come back from their bits as they went in.
 use mir.Syntax.{w32}
 use mir.Val.{to_z, of_z}
-use mathlib.Core.Path.{◌≡◌, ◌∙◌}
+use mathlib.Core.Path.{◌≡◌, ◌∙◌, refl}
 use borrow.Author.Rules.{rules}
+use Rattle.wing_node.proofs.Numerals.Signs.{writes}
 use Rattle.wing_c.proofs.answers.event.Goals as goal
 
 pub returns-in-More : goal.returns-in-More
@@ -14,7 +15,7 @@ pub returns-in-Integer : goal.returns-in-Integer
 returns-in-Integer c =
     let back : to_z w32 (of_z w32 c.args.node) ≡ c.args.node = search rules in
     let value : to_z w32 (of_z w32 c.in-Integer.x) ≡ c.in-Integer.x = search rules in
-    (rw back at c.event_of.ensures) ∙ simp (rw value at c.of_i32.ensures, c.in-Integer.is)
+    (rw back at c.event_of.ensures) ∙ simp (rw (value, writes w32 refl c.in-Integer.x) at c.cast_unsigned.ensures, c.in-Integer.is)
 
 pub returns-in-Float : goal.returns-in-Float
 returns-in-Float c =

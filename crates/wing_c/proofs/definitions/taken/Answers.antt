@@ -10,4 +10,4 @@ returns c =
     let back : to_z w32 (of_z w32 c.args.d.parent_id) ≡ c.args.d.parent_id = search rules in
     let back2 : to_z w32 (of_z w32 c.args.d.id) ≡ c.args.d.id = search rules in
     let back3 : to_z w32 (of_z w32 c.numbers_of-n.result.steps) ≡ c.numbers_of-n.result.steps = search rules in
-    rw (back, back2, back3) (simp (c.numbers_of-n.ensures, c.type_number.ensures, c.unit_number.ensures))
+    rw (back, back2, back3) (simp (c.numbers_of-n.ensures, c.from.ensures, c.from-2.ensures))

@@ -25,7 +25,7 @@ pub lay_bytes-requires : goal.lay_bytes-requires
 lay_bytes-requires c =
     let s = c.args.s.now in
     let g = said c.args.kind s c.if-kind-eq105.false c.requires.0 c.requires.1 in
-    (g.pairs, omega (arith, g.few, c.told-out, c.put_u16-else-kind-eq105.auto.out, length-set c.args.out.now 4 c.kind_of.result))
+    (g.pairs, omega (arith, g.few, c.told-out, c.put_number-else-kind-eq105.auto.out, length-set c.args.out.now 4 c.kind_of.result))
 
 pub returns-then-kind-eq105 : goal.returns-then-kind-eq105
 returns-then-kind-eq105 c =
@@ -34,11 +34,11 @@ returns-then-kind-eq105 c =
     let k = c.args.kind in
     let i = c.if-kind-eq105.true in
     let l = length-set o 4 0 in
-    let mid = c.put_u16.new.out in
-    let last = c.put_i32.new.out in
+    let mid = c.put_number.new.out in
+    let last = c.put_number-then-kind-eq105.new.out in
     integer-said k s o mid last i _ (read-passed c.unwrap-x.result s (sym c.unwrap-x.ensures ∙ c.integer_in.ensures))
-    (field-sets 2 4 6 (set o 4 0) mid _ (omega arith) (omega (arith, c.told-out)) c.put_u16.ensures)
-    (field-sets 4 _ 8 mid last _ (omega arith) (omega (arith, c.told-out, c.put_u16.auto.out)) c.put_i32.ensures)
+    (field-sets 2 4 6 (set o 4 0) mid _ (omega arith) (omega (arith, c.told-out)) c.put_number.ensures)
+    (field-sets 4 _ 8 mid last _ (omega arith) (omega (arith, c.told-out, c.put_number.auto.out)) c.put_number-then-kind-eq105.ensures)
 
 pub returns-else-kind-eq105 : goal.returns-else-kind-eq105
 returns-else-kind-eq105 c =
@@ -46,8 +46,8 @@ returns-else-kind-eq105 c =
     let s = c.args.s.now in
     let k = c.args.kind in
     let l = length-set o 4 c.kind_of.result in
-    let mid = c.put_u16-else-kind-eq105.new.out in
+    let mid = c.put_number-else-kind-eq105.new.out in
     let g = said k s c.if-kind-eq105.false c.requires.0 c.requires.1 in
     pairs-said k s o mid c.lay_bytes.new.out g c.kind_of.result c.kind_of.ensures
-    (field-sets 2 (length s / 2) 6 (set o 4 c.kind_of.result) mid _ (omega arith) (omega (arith, c.told-out)) c.put_u16-else-kind-eq105.ensures)
+    (field-sets 2 (length s / 2) 6 (set o 4 c.kind_of.result) mid _ (omega arith) (omega (arith, c.told-out)) c.put_number-else-kind-eq105.ensures)
     c.lay_bytes.ensures

@@ -1,4 +1,4 @@
--- `put_i32` leaves the id over zeros, which is the head of a record from the console (`console-head`), and `lay_said` the value over that: the record of what the line says (wing_mirror's `record-laid`).
+-- `put_number` leaves the id over zeros, which is the head of a record from the console (`console-head`), and `lay_said` the value over that: the record of what the line says (wing_mirror's `record-laid`).
 use mathlib.Core.Path.{◌≡◌, refl, ap, ◌∙◌}
 use mir.Syntax.{w32}
 use mir.Val.{to_z, of_z}
@@ -41,6 +41,6 @@ returns c =
     let x = c.args.s.now in
     let l = says (goal.at.returns c).After-unwrap-l in
     let id : to_z w32 (of_z w32 c.unwrap-l.result.id) ≡ id_said x = said-passed x c.unwrap-l.result.id c.requires.0 l.id in
-    record-laid (id_said x) (entry_said x).value Console (replicate 264 0) c.put_i32.new.out c.lay_said.new.out refl
-    (console-head (id_said x) (replicate 264 0) c.put_i32.new.out c.put_i32.result refl (c.put_i32.ensures ∙ ap (λ y. put_at (bytes_of 4 (unsigned 31 y)) 0 (replicate 264 0)) id))
-    (c.lay_said.ensures ∙ ap (λ (v : NodeValue). laid_from c.put_i32.new.out (kind_of v) (payload_of v)) (value_same x c.unwrap-l.result l))
+    record-laid (id_said x) (entry_said x).value Console (replicate 264 0) c.put_number.new.out c.lay_said.new.out refl
+    (console-head (id_said x) (replicate 264 0) c.put_number.new.out c.put_number.result refl (c.put_number.ensures ∙ ap (λ y. put_at (bytes_of 4 (unsigned 31 y)) 0 (replicate 264 0)) id))
+    (c.lay_said.ensures ∙ ap (λ (v : NodeValue). laid_from c.put_number.new.out (kind_of v) (payload_of v)) (value_same x c.unwrap-l.result l))

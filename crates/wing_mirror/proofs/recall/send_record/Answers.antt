@@ -24,7 +24,7 @@ use Rattle.wing_mirror.proofs.recall.send_record.Goals as goal
 pub slice_bounds-set_string-end : goal.slice_bounds-set_string-end
 slice_bounds-set_string-end c =
     let size : length c.payload-bytes.result.now ≡ 256 = search rules in
-    sym (length-take-le _ _ (omega (arith, c.least-len.ensures, size)))
+    sym (length-take-le _ _ (omega (arith, c.min-len.ensures, size)))
 
 pub returns-in-Integer : goal.returns-in-Integer
 returns-in-Integer c =
@@ -63,5 +63,5 @@ returns-in-String c =
     let held : entry id (string (take n p)) o ≡ entry_in r = ap (λ (q : List ℕ). entry id (string (take n q)) o) c.payload-bytes.ensures ∙ string-held id w o (payload_in r) r h n c.in-String.is in
     let good : storable (string (take n p)) ≡ true = ap (λ (e : Entry). storable e.value) held ∙ read-storable r c.told-rec (λ i. omega (arith, c.fits-rec i)) c.requires in
     rw back-i at c.set_string.ensures
-    ∙ string-sent id n c.least-len.result p c.args.out.now (c.least-len.ensures ∙ ap (min n) (sym size)) good
+    ∙ string-sent id n c.min-len.result p c.args.out.now (c.min-len.ensures ∙ ap (min n) (sym size)) good
     ∙ ap (λ (e : Entry). write_of (set_of e) c.args.out.now) held

@@ -8,6 +8,6 @@ use Rattle.wing_mirror.proofs.record.id_in.Goals as goal
 
 pub returns : goal.returns
 returns c =
-    let id = c.i32_at.result in
+    let id = c.number_at.result in
     let back : to_z w32 (of_z w32 id) ≡ id = search rules in
-    rw back (id-said c.args.rec.now c.told-rec id c.i32_at.ensures)
+    rw back (id-said c.args.rec.now c.told-rec id c.number_at.ensures)

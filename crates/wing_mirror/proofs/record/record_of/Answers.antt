@@ -7,11 +7,11 @@ use mir.Syntax.{w32}
 use mir.Val.{to_z, of_z}
 use lib.ListN.{take, replicate}
 use Rattle.wing_node.specs.Field.{bytes_of}
-use Rattle.wing_node.specs.Signed.{unsigned}
 use Rattle.wing_node.specs.Value.{integer, float, string, node_value}
 use Rattle.wing_mirror.specs.Record.{kind_of, payload_of, laid_from}
 use Rattle.wing_mirror.proofs.Tables.Laying.{record-laid, short}
 use borrow.Author.Rules.{rules}
+use Rattle.wing_node.proofs.Numerals.Signs.{writes}
 use Rattle.wing_mirror.proofs.record.record_of.Goals as goal
 
 pub lay_string-requires : goal.lay_string-requires
@@ -25,7 +25,7 @@ returns-in-Integer c =
     let a = c.args in
     let x = c.in-Integer.x in
     let back : to_z w32 (of_z w32 x) ≡ x = search rules in
-    rw c.in-Integer.is (record-laid a.id (integer x) a.origin (replicate 264 0) c.lay_head.new.out _ refl (rw (to_z-of_z c.ranges.id) at c.lay_head.ensures) (c.lay_number.ensures ∙ ap (λ (u : ℕ). laid_from c.lay_head.new.out 0 (bytes_of 4 u)) (c.of_i32.ensures ∙ ap (unsigned 31) back)))
+    rw c.in-Integer.is (record-laid a.id (integer x) a.origin (replicate 264 0) c.lay_head.new.out _ refl (rw (to_z-of_z c.ranges.id) at c.lay_head.ensures) (c.lay_number.ensures ∙ ap (λ (u : ℕ). laid_from c.lay_head.new.out 0 (bytes_of 4 u)) (c.cast_unsigned.ensures ∙ ap (of_z w32) back ∙ writes w32 refl x)))
 
 pub returns-in-Float : goal.returns-in-Float
 unfolding kind_of payload_of node_value

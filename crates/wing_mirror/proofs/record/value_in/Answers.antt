@@ -11,16 +11,16 @@ use Rattle.wing_mirror.proofs.record.value_in.Goals as goal
 pub returns-in-0 : goal.returns-in-0
 unfolding node_value
 returns-in-0 c =
-    let x = c.i32_at.result in
+    let x = c.number_at.result in
     let back : to_z w32 (of_z w32 x) ≡ x = search rules in
-    rw back (integer-value c.args.rec.now c.told-rec x c.in-0.is c.i32_at.ensures)
+    rw back (integer-value c.args.rec.now c.told-rec x c.in-0.is c.number_at.ensures)
 
 pub returns-in-1 : goal.returns-in-1
 unfolding node_value
 returns-in-1 c =
-    float_value c.args.rec.now c.told-rec c.u32_at.result (λ e. omega arith) c.in-1.is c.u32_at.ensures
+    float_value c.args.rec.now c.told-rec c.number_at-in-1.result (λ e. omega arith) c.in-1.is c.number_at-in-1.ensures
 
 pub returns-in_default : goal.returns-in_default
 unfolding node_value
 returns-in_default c =
-    string-value c.args.rec.now c.told-rec c.u16_at.result (λ e. omega arith) (λ e. omega arith) c.u16_at.ensures
+    string-value c.args.rec.now c.told-rec c.number_at-in_default.result (λ e. omega arith) (λ e. omega arith) c.number_at-in_default.ensures

@@ -18,7 +18,7 @@ unfolding well_formed
 returns-then-origin-le1 c =
     let r = c.args.rec.now in
     let n : field_at 2 r 6 ≡ big (take 2 (drop 6 r)) = field-whole 2 r 6 (omega arith) in
-    simp (le-leb _ _ c.if-origin-le1.true) (c.well_kept.ensures ∙ ap₂ (well_kept (get_or r 4 0)) (c.u16_at.ensures ∙ n) c.payload.ensures)
+    simp (le-leb _ _ c.if-origin-le1.true) (c.well_kept.ensures ∙ ap₂ (well_kept (get_or r 4 0)) (c.number_at.ensures ∙ n) c.payload.ensures)
 
 pub returns-else-origin-le1 : goal.returns-else-origin-le1
 unfolding well_formed

@@ -17,7 +17,7 @@ use borrow.Author.Rules.{rules}
 use Rattle.wing_mirror.proofs.send.send.Goals as goal
 
 pub slice_bounds-set_string-end : goal.slice_bounds-set_string-end
-slice_bounds-set_string-end c = sym (length-take-le _ _ (omega (arith, c.least-len.ensures)))
+slice_bounds-set_string-end c = sym (length-take-le _ _ (omega (arith, c.min-len.ensures)))
 
 pub returns-in-Integer : goal.returns-in-Integer
 unfolding node_value
@@ -40,4 +40,4 @@ returns-in-String c =
     let n = c.in-String.n in
     let same : string (take n a.string.now) ≡ node_value a.value a.string.now = simp c.in-String.is in
     let good : storable (string (take n a.string.now)) ≡ true = rw same c.requires in
-    rw (to_z-of_z c.ranges.id) at c.set_string.ensures ∙ string-sent a.id n c.least-len.result a.string.now a.out.now c.least-len.ensures good ∙ ap (λ (w : NodeValue). write_of (set_bytes a.id w) a.out.now) same
+    rw (to_z-of_z c.ranges.id) at c.set_string.ensures ∙ string-sent a.id n c.min-len.result a.string.now a.out.now c.min-len.ensures good ∙ ap (λ (w : NodeValue). write_of (set_bytes a.id w) a.out.now) same

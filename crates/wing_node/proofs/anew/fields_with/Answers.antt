@@ -13,4 +13,4 @@ returns c =
     let min : to_z w32 (of_z w32 args.min_int) ≡ args.min_int = search rules in
     let max : to_z w32 (of_z w32 args.max_int) ≡ args.max_int = search rules in
     let steps : to_z w32 (of_z w32 args.steps) ≡ args.steps = search rules in
-    rw (parent, own, min, max, steps) (simp (c.type_number.ensures, c.unit_number.ensures))
+    rw (parent, own, min, max, steps) (simp (c.from.ensures, c.from-2.ensures))

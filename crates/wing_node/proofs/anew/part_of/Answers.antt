@@ -9,7 +9,7 @@ pub returns : goal.returns
 returns c =
     let args = c.args in
     let body = args.body.now in
-    let start = c.least-start.result in
-    let n = c.least.result in
+    let start = c.min-start.result in
+    let n = c.min.result in
     let e : start + n - start ≡ n = omega arith in
-    (omega arith, omega (arith, c.least.ensures, c.least-start.ensures), rw e (part-taken body args.from args.len start n c.least-start.ensures c.least.ensures))
+    (omega arith, omega (arith, c.min.ensures, c.min-start.ensures), rw e (part-taken body args.from args.len start n c.min-start.ensures c.min.ensures))

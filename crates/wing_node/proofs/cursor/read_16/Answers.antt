@@ -1,4 +1,4 @@
--- Each return is a case of `read_at` (`read-refused`, `read_short`, `read-there`), and the number is what `u16_at` says of a whole field.
+-- Each return is a case of `read_at` (`read-refused`, `read_short`, `read-there`), and the number is what `number_at` says of a whole field.
 use mathlib.Core.Path.{sym, refl, ◌∙◌, ap}
 use Prim.Native.Nat.{◌-◌, ◌≤◌}
 use native.Mathlib.Omega.{arith}
@@ -24,4 +24,4 @@ returns c =
     let k = c.args.c in
     let body = c.args.body.now in
     let here : 2 ≤ length body - k.at = omega arith in
-    simp (read-there (number 2) body k (sym c.is_err.ensures.value ∙ c.if-is_err.false) here refl, c.u16_at.ensures, field-whole 2 body k.at here)
+    simp (read-there (number 2) body k (sym c.is_err.ensures.value ∙ c.if-is_err.false) here refl, c.number_at.ensures, field-whole 2 body k.at here)

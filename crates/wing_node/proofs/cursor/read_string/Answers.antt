@@ -30,7 +30,7 @@ overflow_cast-good c =
 pub returns-then-good-len : goal.returns-then-good-len
 returns-then-good-len c =
     let k = c.args.c in
-    let e = c.least.result in
+    let e = c.min.result in
     let n : k.at + 1 + e - (k.at + 1) ≡ get_or c.args.body.now k.at 0 = omega arith in
     let open-yet = sym c.is_err.ensures.value ∙ c.if-is_err.false in
     c.refuse-then-good-len.ensures ∙ sym (string-wrong c.args.body.now k open-yet (omega arith) (omega arith) _ (rw n at c.good_len-good.ensures.value) c.if-good-len.true)
@@ -42,7 +42,7 @@ overflow_cast-result c =
 pub returns : goal.returns
 returns c =
     let k = c.args.c in
-    let e = c.least.result in
+    let e = c.min.result in
     let all : e ≡ get_or c.args.body.now k.at 0 = omega arith in
     let n : k.at + 1 + e - (k.at + 1) ≡ get_or c.args.body.now k.at 0 = omega (arith, all) in
     let open-yet = sym c.is_err.ensures.value ∙ c.if-is_err.false in

@@ -1,6 +1,6 @@
 -- `definition_of` opened is the code's reads one after the other: the contract of each call gives its field, and that of `finish` the refusal or the
 -- definition.
-use mathlib.Core.Path.{◌≡◌, ◌∙◌, ap, sym}
+use mathlib.Core.Path.{◌≡◌, refl, ◌∙◌, ap, sym}
 use mir.Syntax.{w32}
 use mir.Val.{to_z, of_z}
 use Prim.Native.Nat.{◌/◌, ◌%◌}
@@ -18,6 +18,7 @@ use Rattle.wing_node.specs.declared.definition.Definition.{Definition}
 use Rattle.wing_node.specs.declared.definition.DetailsRead.{DetailsRead}
 use Rattle.wing_node.proofs.Refusals.{handed-on}
 use borrow.Author.Rules.{rules}
+use Rattle.wing_node.proofs.Numerals.Signs.{reads as read}
 use Rattle.wing_node.proofs.definition.from_bytes.Goals as goal
 
 taken : (x : Fault) (u : Unit {0}) (d : Definition) → x ≡ Ok u → Ok d ≡ parsed_from x d
@@ -37,7 +38,7 @@ returns-in_err-next c =
     let name : c.read_string-name.result ≡ f Name = c.read_string-name.ensures ∙ ap (λ (r : ShortRead). read_at string body r.next) index in
     let long : c.read_string-long_name.result ≡ f LongName = c.read_string-long_name.ensures ∙ ap (λ (r : FieldRead). read_at string body r.next) name in
     let flags : c.read_16-flags.result ≡ short_of (f Flags) = c.read_16-flags.ensures ∙ ap (λ (r : FieldRead). short_of (read_at (number 2) body r.next)) long in
-    let kind : c.type_of-kind.result ≡ kind_from f = c.type_of-kind.ensures ∙ ap (λ (r : ShortRead). type_of (r.value / 16 % 16)) flags in
+    let kind : c.from-kind.result ≡ kind_from f = c.from-kind.ensures ∙ ap (λ (r : ShortRead). type_of (r.value / 16 % 16)) flags in
     let found : c.read_details-found.result ≡ details_at (kind_from f) body (past header body start) =
     c.read_details-found.ensures ∙ (λ j. details_at (kind j) body (flags j).next) in
     handed-on _ _ c.from_residual.ensures.1 ∙ stopped _ _ _ (ap (λ (r : DetailsRead). r.next.fault) (sym found) ∙ c.in_err-next.was)
@@ -53,16 +54,16 @@ returns c =
     let name : c.read_string-name.result ≡ f Name = c.read_string-name.ensures ∙ ap (λ (r : ShortRead). read_at string body r.next) index in
     let long : c.read_string-long_name.result ≡ f LongName = c.read_string-long_name.ensures ∙ ap (λ (r : FieldRead). read_at string body r.next) name in
     let flags : c.read_16-flags.result ≡ short_of (f Flags) = c.read_16-flags.ensures ∙ ap (λ (r : FieldRead). short_of (read_at (number 2) body r.next)) long in
-    let kind : c.type_of-kind.result ≡ kind_from f = c.type_of-kind.ensures ∙ ap (λ (r : ShortRead). type_of (r.value / 16 % 16)) flags in
+    let kind : c.from-kind.result ≡ kind_from f = c.from-kind.ensures ∙ ap (λ (r : ShortRead). type_of (r.value / 16 % 16)) flags in
     let found : c.read_details-found.result ≡ details_at (kind_from f) body (past header body start) =
     c.read_details-found.ensures ∙ (λ j. details_at (kind j) body (flags j).next) in
-    let back : to_z w32 (of_z w32 c.to_i32.result) ≡ c.to_i32.result = search rules in
-    let back2 : to_z w32 (of_z w32 c.to_i32-2.result) ≡ c.to_i32-2.result = search rules in
-    let parent-id : to_z w32 (of_z w32 c.to_i32.result) ≡ signed 31 (f ParentId).value = back ∙ c.to_i32.ensures ∙ ap (λ (r : FieldRead). signed 31 r.value) parent in
-    let own-id : to_z w32 (of_z w32 c.to_i32-2.result) ≡ signed 31 (f Id).value = back2 ∙ c.to_i32-2.ensures ∙ ap (λ (r : FieldRead). signed 31 r.value) id in
+    let back : to_z w32 (of_z w32 c.cast_signed.result) ≡ c.cast_signed.result = search rules in
+    let back2 : to_z w32 (of_z w32 c.cast_signed-2.result) ≡ c.cast_signed-2.result = search rules in
+    let parent-id : to_z w32 (of_z w32 c.cast_signed.result) ≡ signed 31 (f ParentId).value = back ∙ (c.cast_signed.ensures ∙ read w32 refl _) ∙ ap (λ (r : FieldRead). signed 31 r.value) parent in
+    let own-id : to_z w32 (of_z w32 c.cast_signed-2.result) ≡ signed 31 (f Id).value = back2 ∙ (c.cast_signed-2.ensures ∙ read w32 refl _) ∙ ap (λ (r : FieldRead). signed 31 r.value) id in
     let name-span : c.span_of.result ≡ span_of (f Name) = c.span_of.ensures ∙ ap span_of name in
     let long-span : c.span_of-2.result ≡ span_of (f LongName) = c.span_of-2.ensures ∙ ap span_of long in
-    let unit : c.unit_of.result ≡ unit_of ((f Flags).value % 16) = c.unit_of.ensures ∙ ap (λ (r : ShortRead). unit_of (r.value % 16)) flags in
+    let unit : c.from.result ≡ unit_of ((f Flags).value % 16) = c.from.ensures ∙ ap (λ (r : ShortRead). unit_of (r.value % 16)) flags in
     taken _ _ _ c.in_ok-next.was ∙ (λ j. parsed_from (found j).next.fault (record {
       parent_id = parent-id j;
       id = own-id j;

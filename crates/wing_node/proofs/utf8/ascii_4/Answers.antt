@@ -1,4 +1,4 @@
--- Fewer than four bytes begin no row of four (`begins-short`); else `u32_at` gives the number of the four bytes, and its high bits tell
+-- Fewer than four bytes begin no row of four (`begins-short`); else `number_at` gives the number of the four bytes, and its high bits tell
 -- (`ascii-word`).
 use Prim.Native.Nat.{ℕ}
 use mathlib.Core.Path.{sym, ◌∙◌, ap}
@@ -22,5 +22,5 @@ pub returns : goal.returns
 unfolding number_in number_from
 returns c =
     let a = c.args in
-    ap (λ (x : ℕ). eqb (bit_and x 0x80808080) 0) c.u32_at.ensures ∙
+    ap (λ (x : ℕ). eqb (bit_and x 0x80808080) 0) c.number_at.ensures ∙
     ascii-word 4 a.s.now a.i (omega arith) (λ k. omega (arith, c.type_inv.s k))

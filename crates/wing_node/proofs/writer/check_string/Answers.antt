@@ -18,13 +18,13 @@ pub text_fault-requires : goal.text_fault-requires
 text_fault-requires c =
     let args = c.args in
     let rest = drop (args.at + 1) args.items.now in
-    omega (arith, length-take (args.at + 1 + c.least.result - (args.at + 1)) rest, c.least.ensures, c.type_inv.items args.at)
+    omega (arith, length-take (args.at + 1 + c.min.result - (args.at + 1)) rest, c.min.ensures, c.type_inv.items args.at)
 
 pub returns : goal.returns
 returns c =
     let args = c.args in
-    let e = c.least.result in
+    let e = c.min.result in
     let k : args.at + 1 + e - (args.at + 1) ≡ e = omega arith in
     let there = c.left-there.ensures in
-    let both = string-there args.items.now args.at e (rw there at c.least.ensures) in
+    let both = string-there args.items.now args.at e (rw there at c.min.ensures) in
     (both.0, rw k at c.text_fault.ensures ∙ both.1)

@@ -15,14 +15,14 @@ returns-then-unit-gt7 c = simp (le-ltb _ _ c.if-node_type-gt7.false, lt-ltb _ _ 
 pub returns-then-has_items : goal.returns-then-has_items
 returns-then-has_items c =
     let args = c.args in
-    let k = c.type_of-kind.ensures in
+    let k = c.from-kind.ensures in
     let h : has_items (type_of args.node_type) ≡ true = rw k at (sym c.has_items.ensures ∙ c.if-has_items.true) in
     rw k at c.items_fault.ensures ∙ with_items args.node_type args.unit args.count args.items.now args.names c.if-node_type-gt7.false c.if-unit-gt7.false h
 
 pub returns-then-count-gt0 : goal.returns-then-count-gt0
 returns-then-count-gt0 c =
     let args = c.args in
-    let h : has_items (type_of args.node_type) ≡ false = rw c.type_of-kind.ensures at (sym c.has_items.ensures ∙ c.if-has_items.false) in
+    let h : has_items (type_of args.node_type) ≡ false = rw c.from-kind.ensures at (sym c.has_items.ensures ∙ c.if-has_items.false) in
     with-count args.node_type args.unit args.count args.items.now args.names c.if-node_type-gt7.false c.if-unit-gt7.false h c.if-count-gt0.true
 
 pub returns-then-items-gt0 : goal.returns-then-items-gt0
@@ -33,5 +33,5 @@ returns-then-items-gt0 c =
 pub returns-else-items-gt0 : goal.returns-else-items-gt0
 returns-else-items-gt0 c =
     let args = c.args in
-    let h : has_items (type_of args.node_type) ≡ false = rw c.type_of-kind.ensures at (sym c.has_items.ensures ∙ c.if-has_items.false) in
+    let h : has_items (type_of args.node_type) ≡ false = rw c.from-kind.ensures at (sym c.has_items.ensures ∙ c.if-has_items.false) in
     without-items args.node_type args.unit args.count args.items.now args.names c.if-node_type-gt7.false c.if-unit-gt7.false h c.if-count-gt0.false c.if-items-gt0.false

@@ -4,7 +4,7 @@ use Prim.Native.Nat.{◌+◌, ◌-◌}
 use native.Mathlib.Omega.{arith}
 use lib.ListN.{length}
 use borrow.Rule.Slice.PartMut.{put_mid}
-use Rattle.wing_node.proofs.Bodies.Lays.{part-sets}
+use Rattle.wing_node.proofs.Numerals.Placed.{part-sets}
 use Rattle.wing_node.proofs.writer.lay.Goals as goal
 
 pub returns : goal.returns

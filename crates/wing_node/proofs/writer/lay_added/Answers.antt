@@ -20,6 +20,7 @@ use Rattle.wing_node.proofs.Arms.{by_arm}
 use Rattle.wing_node.proofs.Numerals.Placed.{field-sets}
 use Rattle.wing_node.proofs.Bodies.Lays.{one-laid, limits-steps, limits-alone}
 use borrow.Author.Rules.{rules}
+use Rattle.wing_node.proofs.Numerals.Signs.{writes}
 use Rattle.wing_node.proofs.writer.lay_added.Goals as goal
 
 pub lay_limits-requires : goal.lay_limits-requires
@@ -41,11 +42,11 @@ returns-in-LinearFloat c =
     let d = args.d in
     let x₀ = args.out.now in
     let x₁ = c.lay_limits.new.out in
-    let x₂ = c.put_i32.new.out in
+    let x₂ = c.put_number.new.out in
     let back : to_z w32 (of_z w32 d.steps) ≡ d.steps = search rules in
     let room : args.at + 12 ≤ length x₀ = by_arm (λ t. args.at + extent (map form (added t)) [] ≤ length x₀ → args.at + 12 ≤ length x₀) (1 ∷ 2 ∷ []) args.kind c.in-LinearFloat.in-LinearFloat-own.keys1 (λ h. h, (λ h. h, tt)) c.requires.1 in
     let e₂ : x₂ ≡ sets x₁ (args.at + 8) (bytes_of 4 (unsigned 31 d.steps)) =
-    field-sets 4 _ _ x₁ x₂ _ (omega arith) (omega (arith, c.lay_limits.auto.out)) c.put_i32.ensures ∙ ap (λ x. sets x₁ (args.at + 8) (bytes_of 4 (unsigned 31 x))) back in
+    field-sets 4 _ _ x₁ x₂ _ (omega arith) (omega (arith, c.lay_limits.auto.out)) c.put_number.ensures ∙ ap (λ x. sets x₁ (args.at + 8) (bytes_of 4 (unsigned 31 x))) back in
     let all = limits-steps d.min_float d.max_float (unsigned 31 d.steps) args.at x₀ x₁ x₂ c.lay_limits.ensures e₂ in
     by_arm (λ t. t ≡ type_given d → x₂ ≡ sets x₀ args.at (laid_by (holds d (lent [] [] [])) (added t))) (1 ∷ 2 ∷ []) args.kind c.in-LinearFloat.in-LinearFloat-own.keys1
     (λ e. rw (← e) all, (λ e. rw (← e) all, tt)) c.requires.0
@@ -59,8 +60,8 @@ returns-in-Integer c =
     let x₁ = c.lay_limits-in-Integer.new.out in
     let back : to_z w32 (of_z w32 d.min_int) ≡ d.min_int = search rules in
     let back2 : to_z w32 (of_z w32 d.max_int) ≡ d.max_int = search rules in
-    let min : c.of_i32.result ≡ unsigned 31 d.min_int = c.of_i32.ensures ∙ ap (unsigned 31) back in
-    let max : c.of_i32-in-Integer.result ≡ unsigned 31 d.max_int = c.of_i32-in-Integer.ensures ∙ ap (unsigned 31) back2 in
+    let min : c.cast_unsigned.result ≡ unsigned 31 d.min_int = c.cast_unsigned.ensures ∙ ap (of_z w32) back ∙ writes w32 refl d.min_int in
+    let max : c.cast_unsigned-in-Integer.result ≡ unsigned 31 d.max_int = c.cast_unsigned-in-Integer.ensures ∙ ap (of_z w32) back2 ∙ writes w32 refl d.max_int in
     let both : x₁ ≡ sets x₀ args.at (bytes_of 4 (unsigned 31 d.min_int) ++ bytes_of 4 (unsigned 31 d.max_int)) =
     c.lay_limits-in-Integer.ensures ∙ (λ j. sets x₀ args.at (bytes_of 4 (min j) ++ bytes_of 4 (max j))) in
     let e : Integer ≡ type_given d = rw c.in-Integer.is at c.requires.0 in
@@ -72,9 +73,9 @@ returns-in-StringEnum c =
     let args = c.args in
     let d = args.d in
     let x₀ = args.out.now in
-    let x₁ = c.put_u16.new.out in
+    let x₁ = c.put_number-in-StringEnum.new.out in
     let room : args.at + 2 ≤ length x₀ = by_arm (λ t. args.at + extent (map form (added t)) [] ≤ length x₀ → args.at + 2 ≤ length x₀) (5 ∷ 6 ∷ []) args.kind c.in-StringEnum.in-StringEnum-own.keys3 (λ h. h, (λ h. h, tt)) c.requires.1 in
-    let all = one-laid x₀ x₁ args.at (bytes_of 2 d.count) (field-sets 2 _ _ x₀ x₁ _ (omega arith) (omega arith) c.put_u16.ensures) in
+    let all = one-laid x₀ x₁ args.at (bytes_of 2 d.count) (field-sets 2 _ _ x₀ x₁ _ (omega arith) (omega arith) c.put_number-in-StringEnum.ensures) in
     by_arm (λ t. x₁ ≡ sets x₀ args.at (laid_by (holds d (lent [] [] [])) (added t))) (5 ∷ 6 ∷ []) args.kind c.in-StringEnum.in-StringEnum-own.keys3 (all, (all, tt))
 
 pub returns-in-String : goal.returns-in-String
@@ -82,9 +83,9 @@ unfolding laid_all laid extent size
 returns-in-String c =
     let args = c.args in
     let x₀ = args.out.now in
-    let x₁ = c.put_u16-in-String.new.out in
+    let x₁ = c.put_number-in-String.new.out in
     let room = rw c.in-String.is at c.requires.1 in
-    rw c.in-String.is (one-laid x₀ x₁ args.at (bytes_of 2 args.d.max_len) (field-sets 2 _ _ x₀ x₁ _ (omega arith) (omega (arith, room)) c.put_u16-in-String.ensures))
+    rw c.in-String.is (one-laid x₀ x₁ args.at (bytes_of 2 args.d.max_len) (field-sets 2 _ _ x₀ x₁ _ (omega arith) (omega (arith, room)) c.put_number-in-String.ensures))
 
 pub returns-in-Node : goal.returns-in-Node
 unfolding laid_all

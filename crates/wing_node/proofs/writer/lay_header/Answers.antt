@@ -40,6 +40,6 @@ returns c =
     let e₁ : x₁ ≡ sets x₀ 0 (bytes_of 4 (unsigned 31 d.parent_id) ++ (bytes_of 4 (unsigned 31 d.id) ++ bytes_of 2 d.index)) =
     c.lay_ids.ensures ∙ (λ j. sets x₀ 0 (bytes_of 4 (unsigned 31 (parent j)) ++ (bytes_of 4 (unsigned 31 (own j)) ++ bytes_of 2 d.index))) in
     let room : 2 ≤ length x₃ - n = omega (arith, c.lay_string-end.ensures.0, c.lay_string-at.ensures.0, c.lay_string-end.auto.out, c.lay_string-at.auto.out, c.lay_ids.auto.out, c.requires) in
-    let e₄ : c.put_u16.new.out ≡ sets x₃ n (bytes_of 2 (flags_of d.node_type d.unit d.read_only)) =
-    field-sets 2 _ n x₃ _ _ (omega arith) room c.put_u16.ensures ∙ ap (λ f. sets x₃ n (bytes_of 2 f)) c.flags_of.ensures in
-    header-laid d args.name.now args.long_name.now x₀ x₁ c.lay_string-at.new.out x₃ c.put_u16.new.out c.lay_string-at.result n e₁ c.lay_string-at.ensures c.lay_string-end.ensures e₄
+    let e₄ : c.put_number.new.out ≡ sets x₃ n (bytes_of 2 (flags_of d.node_type d.unit d.read_only)) =
+    field-sets 2 _ n x₃ _ _ (omega arith) room c.put_number.ensures ∙ ap (λ f. sets x₃ n (bytes_of 2 f)) c.flags_of.ensures in
+    header-laid d args.name.now args.long_name.now x₀ x₁ c.lay_string-at.new.out x₃ c.put_number.new.out c.lay_string-at.result n e₁ c.lay_string-at.ensures c.lay_string-end.ensures e₄

@@ -21,19 +21,19 @@ overflow_add-len-2 c =
 pub overflow_add-len-3 : goal.overflow_add-len-3
 overflow_add-len-3 c =
     let args = c.args in
-    omega (arith, c.added_len.ensures, added-small c.type_of-kind.result, names-short args.d (lent args.name.now args.long_name.now args.items.now) args.out.now c.in_ok-lent_fault.ensures)
+    omega (arith, c.added_len.ensures, added-small c.from-kind.result, names-short args.d (lent args.name.now args.long_name.now args.items.now) args.out.now c.in_ok-lent_fault.ensures)
 
 pub overflow_add-len-4 : goal.overflow_add-len-4
 overflow_add-len-4 c =
     let args = c.args in
-    omega (arith, c.added_len.ensures, added-small c.type_of-kind.result, names-short args.d (lent args.name.now args.long_name.now args.items.now) args.out.now c.in_ok-lent_fault.ensures)
+    omega (arith, c.added_len.ensures, added-small c.from-kind.result, names-short args.d (lent args.name.now args.long_name.now args.items.now) args.out.now c.in_ok-lent_fault.ensures)
 
 pub returns-then-len-gt4096 : goal.returns-then-len-gt4096
 returns-then-len-gt4096 c =
     let args = c.args in
     let l = lent args.name.now args.long_name.now args.items.now in
     let none = c.in_ok-lent_fault.ensures in
-    let size = body-size args.d l c.type_of-kind.result c.added_len.result c.type_of-kind.ensures c.added_len.ensures in
+    let size = body-size args.d l c.from-kind.result c.added_len.result c.from-kind.ensures c.added_len.ensures in
     effect-large args.d l args.out.now none (omega (arith, size, c.if-len-gt4096.true))
 
 pub returns-then-out-len : goal.returns-then-out-len
@@ -41,7 +41,7 @@ returns-then-out-len c =
     let args = c.args in
     let l = lent args.name.now args.long_name.now args.items.now in
     let none = c.in_ok-lent_fault.ensures in
-    let size = body-size args.d l c.type_of-kind.result c.added_len.result c.type_of-kind.ensures c.added_len.ensures in
+    let size = body-size args.d l c.from-kind.result c.added_len.result c.from-kind.ensures c.added_len.ensures in
     effect-short args.d l args.out.now none (omega (arith, size, c.if-len-gt4096.false)) (omega (arith, size, c.if-out-len.true))
 
 pub lay_body-requires : goal.lay_body-requires
@@ -49,13 +49,13 @@ lay_body-requires c =
     let args = c.args in
     let l = lent args.name.now args.long_name.now args.items.now in
     let short = names-short args.d l args.out.now c.in_ok-lent_fault.ensures in
-    record { kind_value = (c.type_of-kind.ensures, short.0, short.1); in_bounds = omega (arith, c.added_len.ensures, c.if-out-len.false) }
+    record { kind_value = (c.from-kind.ensures, short.0, short.1); in_bounds = omega (arith, c.added_len.ensures, c.if-out-len.false) }
 
 pub returns : goal.returns
 returns c =
     let args = c.args in
     let l = lent args.name.now args.long_name.now args.items.now in
     let none = c.in_ok-lent_fault.ensures in
-    let size = body-size args.d l c.type_of-kind.result c.added_len.result c.type_of-kind.ensures c.added_len.ensures in
+    let size = body-size args.d l c.from-kind.result c.added_len.result c.from-kind.ensures c.added_len.ensures in
     (λ j. body_effect (Ok (size j)) (c.lay_body.ensures j)) ∙
     effect-written args.d l args.out.now none (omega (arith, size, c.if-len-gt4096.false)) (omega (arith, size, c.if-out-len.false))

@@ -1,7 +1,7 @@
--- The contract of `lay_escaped` on the four bytes that the contract of `bytes_32` gives.
-use Rattle.wing_node.proofs.Numerals.Numbers.{length-digits_in}
+-- The contract of `lay_escaped` on the four bytes of the number (`to_four`).
+use Rattle.wing_node.proofs.Numerals.BigEndian.{to_four}
 use Rattle.wing_wire.proofs.laying.lay_32.Goals as goal
 
-pub returns : goal.returns
-returns c =
-    rw (c.bytes_32-bytes.ensures, length-digits_in 256 4 _) at c.lay_escaped.ensures
+pub returns-clause-laid : goal.returns-clause-laid
+returns-clause-laid c =
+    rw (c.to_be_bytes-bytes.ensures, to_four) at c.lay_escaped.ensures.laid

@@ -1,4 +1,4 @@
--- Each return is a case of `packet_of` (`too_short`, `too_long`, `no_room`, `packet-whole`), and the contracts of `fill_readings` and `u16_at` give
+-- Each return is a case of `packet_of` (`too_short`, `too_long`, `no_room`, `packet-whole`), and the contracts of `fill_readings` and `number_at` give
 -- the readings and the id.
 use native.Mathlib.Omega.{arith}
 use Rattle.wing_wire.proofs.Writing.Packets.{too_short, too_long, no_room, packet-whole}
@@ -18,4 +18,4 @@ returns-then-out-count c =
 
 pub returns : goal.returns
 returns c =
-    rw c.fill_readings.ensures (packet-whole c.args.packet.now c.args.out.now c.u16_at.result c.u16_at.ensures (omega arith) (omega arith) (omega arith))
+    rw c.fill_readings.ensures (packet-whole c.args.packet.now c.args.out.now c.number_at.result c.number_at.ensures (omega arith) (omega arith) (omega arith))

@@ -1,8 +1,0 @@
--- The digits of n in base 256, computed from the definition, are the bytes of the array.
-use mathlib.Core.Path.{refl}
-use Rattle.wing_node.specs.Digits.{digits_in}
-use Rattle.wing_node.proofs.field.bytes_32.Goals as goal
-
-pub returns : goal.returns
-unfolding digits_in
-returns c = refl

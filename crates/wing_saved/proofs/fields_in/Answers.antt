@@ -1,7 +1,0 @@
--- Each field is what `u16_at` or `u32_at` says of its place.
-use Rattle.wing_saved.specs.Saved.{fields_in}
-use Rattle.wing_saved.proofs.fields_in.Goals as goal
-
-pub returns : goal.returns
-unfolding fields_in
-returns c = simp (c.u32_at.ensures, c.u32_at-2.ensures, c.u16_at.ensures, c.u32_at-3.ensures)
