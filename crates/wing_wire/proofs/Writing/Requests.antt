@@ -10,7 +10,6 @@ use lib.Dec.{ltb}
 use lib.Seq.{take-suc}
 use borrow.Author.Tests.{le-leb, lt-leb, eq-eqb, ne_eqb}
 use Rattle.wing_node.specs.Bool.{if}
-use Rattle.wing_node.specs.Refusal.{refusal_number}
 use Rattle.wing_wire.specs.declared.meter.Meter.{Meter}
 use Rattle.wing_wire.specs.declared.meter.Meter.TheVariants.{Channel}
 use Rattle.wing_wire.specs.declared.meter.Requested.{Requested}
