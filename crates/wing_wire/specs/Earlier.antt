@@ -2,7 +2,7 @@
 use Rattle.std.specs.Prelude.{ℕ, ◌-◌, Bool, true, false, List, ltb, ℤ, pos, negsuc, drop, replicate, None}
 use Rattle.wing_node.specs.Bool.{if, and}
 use Rattle.wing_node.specs.Result.{Result, ok, refused}
-use Rattle.wing_wire.specs.State.{body_limit, escape, control, state_of, fresh_state, zeros, sound_escape, sound_number, sound_string, sound_body}
+use Rattle.wing_wire.specs.State.{body_limit, escape, control, state_of, zeros, sound_escape, sound_number, sound_string, sound_body}
 use Rattle.wing_wire.specs.declared.token.Class.{Class}
 use Rattle.wing_wire.specs.declared.token.Class.TheVariants.{NoEvent, Integer, String as AString, Length, Int16, Int32, Float, Node, End, Count, LongCount}
 use Rattle.wing_wire.specs.declared.state.Escape.{Escape}

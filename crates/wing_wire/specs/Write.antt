@@ -20,6 +20,10 @@ pub record Laid (s : List ℕ) (at : ℕ) (d e : List ℕ) (r : ℕ) : Type 0 wh
   pub bytes : e ≡ sets d at s
   pub next : r ≡ at + length s
 
+-- whatever the buffer, these bytes are laid over its front: the buffer before, the place after them and the buffer after
+abbrev pub LaysAlways : (List ℕ → ℕ → List ℕ → Type 0) → List ℕ → Type 0
+LaysAlways lays s = (d : List ℕ) (r : ℕ) (e : List ℕ) → lays d r e → Laid s 0 d e r
+
 -- what a call leaves: its answer and the output
 pub record WriteEffect : Type 0 where
   pub answer : Result ℕ

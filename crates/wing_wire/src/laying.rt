@@ -1,9 +1,10 @@
 // Laying bytes into a lent buffer, plain or with every df followed by de. A byte past the buffer's end is counted and
 // not stored, so that laying a keep-alive into a scratch buffer of one byte tells its length.
 // Each says exactly what it leaves; where a second promise stands it bounds the place after, for the next one's `requires`.
-ghost use Rattle.std.specs.Prelude.{◌≡◌, ◌∷◌, [], ◌+◌, ◌*◌, ◌≤◌, length, take};
+ghost use Rattle.std.specs.Prelude.{◌≡◌, ℕ, List, ◌∷◌, [], ◌+◌, ◌*◌, ◌≤◌, length, take};
+ghost use Rattle.std.specs.Fn.{FnOnceReturnsAtMut};
 ghost use Rattle.wing_node.specs.Signed.{unsigned};
-ghost use Rattle.wing_wire.specs.Write.{escaped, field, Laid, write_effect, write_of};
+ghost use Rattle.wing_wire.specs.Write.{escaped, field, Laid, LaysAlways, write_effect, write_of};
 
 use crate::reader::copy_front;
 use wing_node::refusal::Refusal;
@@ -82,4 +83,23 @@ pub(crate) fn hand_over(out: &mut [u8], laid: &[u8], n: usize) -> Result<usize, 
     }
     copy_front(out, laid, n);
     Ok(n)
+}
+
+// A command by the function that lays it, and which lays at most N bytes: an output of that size has room for any; for a shorter one
+// the command is laid into a scratch buffer and handed over if it fits. Either way it is laid once.
+pub(crate) fn write_by<const N: usize, F: FnOnce(&mut [u8]) -> usize>(
+    out: &mut [u8],
+    lay: F,
+) -> Result<usize, Refusal>
+    requires callable { F.IsAlwaysCallable lay }
+    requires small { N ≤ 0x1000 }
+    requires bounded { (bytes : List ℕ) × LaysAlways (FnOnceReturnsAtMut F.FnOnce lay) bytes × (length bytes ≤ N) }
+    ensures { (bytes : List ℕ) → LaysAlways (FnOnceReturnsAtMut F.FnOnce lay) bytes → write_effect result out.new ≡ write_of bytes out.old }
+{
+    if N <= out.len() {
+        return Ok(lay(out));
+    }
+    let mut scratch = [0u8; N];
+    let n = lay(&mut scratch);
+    hand_over(out, &scratch, n)
 }

@@ -3,7 +3,7 @@ ghost use Rattle.std.specs.Prelude.{◌≡◌, ◌++◌, ◌∷◌, ◌+◌, ◌
 ghost use Rattle.wing_wire.specs.Write.{Laid, write_effect, write_of};
 ghost use Rattle.wing_wire.specs.Meter.{item_of, item_bytes, meters_bytes, request_head, meter_request, request_effect, request_meter, keep_alive, keep_alives, readings, packet_effect, packet_of};
 
-use crate::laying::{hand_over, lay, lay_8, lay_16};
+use crate::laying::{lay, lay_8, lay_16, write_by};
 use wing_node::field::number_at;
 use wing_node::refusal::Refusal;
 
@@ -147,13 +147,10 @@ pub fn request_meter(
         return Err(Refusal::MeterIdLast);
     }
     let id = last_id + 1;
-    if 212 <= out.len() {
-        let len = lay_meter_request(out, port, id, meters, count);
-        return Ok(Requested { len, id });
-    }
-    let mut scratch = [0u8; 212];
-    let n = lay_meter_request(&mut scratch, port, id, meters, count);
-    let len = hand_over(out, &scratch, n)?;
+    let len = write_by::<212, _>(
+        out,
+        |buffer| lay_meter_request(buffer, port, id, meters, count),
+    )?;
     Ok(Requested { len, id })
 }
 

@@ -3,7 +3,7 @@ ghost use Rattle.std.specs.Prelude.{◌≡◌};
 ghost use Rattle.wing_wire.specs.Write.{Laid, write_effect, write_of};
 ghost use Rattle.wing_wire.specs.Command.{request_bytes};
 
-use crate::laying::{hand_over, lay, lay_id};
+use crate::laying::{lay, lay_id, write_by};
 use wing_node::refusal::Refusal;
 
 // 01: da and the request for id 0, else d7, id and the request.
@@ -21,12 +21,7 @@ fn lay_request(out: &mut [u8], what: u8, id: i32) -> usize
 fn write_request(out: &mut [u8], what: u8, id: i32) -> Result<usize, Refusal>
     ensures { write_effect result out.new ≡ write_of (request_bytes what id) out.old }
 {
-    if 10 <= out.len() {
-        return Ok(lay_request(out, what, id));
-    }
-    let mut scratch = [0u8; 10];
-    let n = lay_request(&mut scratch, what, id);
-    hand_over(out, &scratch, n)
+    write_by::<10, _>(out, |buffer| lay_request(buffer, what, id))
 }
 
 // 01: definition request: da dd for id 0, else d7 id dd. 9.

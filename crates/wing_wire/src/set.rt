@@ -7,7 +7,7 @@ ghost use Rattle.wing_node.specs.Value.{integer, float, string};
 ghost use Rattle.wing_wire.specs.Write.{Laid, write_effect, write_of};
 ghost use Rattle.wing_wire.specs.Command.{from◌to◌, integer_bytes, length_bytes, id_bytes, suffix_bytes, set_bytes, set_string};
 
-use crate::laying::{hand_over, lay, lay_8, lay_16, lay_32, lay_escaped, lay_id};
+use crate::laying::{lay, lay_8, lay_16, lay_32, lay_escaped, lay_id, write_by};
 use wing_node::refusal::{Refusal, string_fault};
 
 fn lay_format(out: &mut [u8], id: i32, prefix: u8, suffix: Option<u8>) -> usize
@@ -24,12 +24,7 @@ fn lay_format(out: &mut [u8], id: i32, prefix: u8, suffix: Option<u8>) -> usize
 pub fn format_id(out: &mut [u8], id: i32, prefix: u8, suffix: Option<u8>) -> Result<usize, Refusal>
     ensures { write_effect result out.new ≡ write_of (id_bytes prefix id (suffix_bytes suffix)) out.old }
 {
-    if 10 <= out.len() {
-        return Ok(lay_format(out, id, prefix, suffix));
-    }
-    let mut scratch = [0u8; 10];
-    let n = lay_format(&mut scratch, id, prefix, suffix);
-    hand_over(out, &scratch, n)
+    write_by::<10, _>(out, |buffer| lay_format(buffer, id, prefix, suffix))
 }
 
 // Whether x is from low to high.
@@ -66,12 +61,7 @@ fn lay_set_int(out: &mut [u8], id: i32, value: i32) -> usize
 pub fn set_int(out: &mut [u8], id: i32, value: i32) -> Result<usize, Refusal>
     ensures { write_effect result out.new ≡ write_of (set_bytes id (integer value)) out.old }
 {
-    if 18 <= out.len() {
-        return Ok(lay_set_int(out, id, value));
-    }
-    let mut scratch = [0u8; 18];
-    let n = lay_set_int(&mut scratch, id, value);
-    hand_over(out, &scratch, n)
+    write_by::<18, _>(out, |buffer| lay_set_int(buffer, id, value))
 }
 
 fn lay_set_float(out: &mut [u8], id: i32, bits: u32) -> usize
@@ -86,12 +76,7 @@ fn lay_set_float(out: &mut [u8], id: i32, bits: u32) -> usize
 pub fn set_float(out: &mut [u8], id: i32, bits: u32) -> Result<usize, Refusal>
     ensures { write_effect result out.new ≡ write_of (set_bytes id (float bits)) out.old }
 {
-    if 18 <= out.len() {
-        return Ok(lay_set_float(out, id, bits));
-    }
-    let mut scratch = [0u8; 18];
-    let n = lay_set_float(&mut scratch, id, bits);
-    hand_over(out, &scratch, n)
+    write_by::<18, _>(out, |buffer| lay_set_float(buffer, id, bits))
 }
 
 // What stands before a string's bytes. 01: d0; 80 + length − 1 up to 64; d1 and length − 1 up to 256.
@@ -128,10 +113,5 @@ pub fn set_string(out: &mut [u8], id: i32, value: &[u8]) -> Result<usize, Refusa
         return Err(Refusal::StringLong);
     }
     string_fault(value, 256)?;
-    if 395 <= out.len() {
-        return Ok(lay_set_string(out, id, value));
-    }
-    let mut scratch = [0u8; 395];
-    let n = lay_set_string(&mut scratch, id, value);
-    hand_over(out, &scratch, n)
+    write_by::<395, _>(out, |buffer| lay_set_string(buffer, id, value))
 }

@@ -10,14 +10,11 @@ use lib.Dec.{ltb}
 use lib.Seq.{take-suc}
 use borrow.Author.Tests.{le-leb, lt-leb, eq-eqb, ne_eqb}
 use Rattle.wing_node.specs.Bool.{if}
-use Rattle.wing_node.specs.Refusal.{refusal_number}
 use Rattle.wing_wire.specs.declared.meter.Meter.{Meter}
 use Rattle.wing_wire.specs.declared.meter.Meter.TheVariants.{Channel}
 use Rattle.wing_wire.specs.declared.meter.Requested.{Requested}
-use Rattle.wing_wire.specs.Write.{Laid, WriteEffect, write_effect, write_of}
+use Rattle.wing_wire.specs.Write.{WriteEffect, write_effect, write_of}
 use Rattle.wing_wire.specs.Meter.{meter_bytes, meters_bytes, meter_request, RequestEffect, request_effect, write_request_of, request_meter, keep_alive, keep_alives}
-use Rattle.wing_wire.proofs.Writing.Lays.{written, handed-over}
-use Rattle.wing_wire.proofs.Writing.Sizes.{meter-request-le}
 use Rattle.wing_node.specs.declared.refusal.Refusal.TheVariants.{OutputShort, MeterIdLast, MetersOver}
 use Rattle.wing_node.specs.Result.{Result}
 use Rattle.std.specs.Prelude.{ℕ, Ok, Err}
@@ -47,18 +44,11 @@ module _ (port last : ℕ) (ms : List Meter) (count : ℕ) (out : List ℕ) wher
   unfolding request_meter
   spent h e = simp (le-leb count 64 h, eq-eqb last 65535 e)
 
-  request-answer : {w : WriteEffect} → count ≤ 64 → (last ≡ 65535 → ⊥) → w ≡ write_of (meter_request port (last + 1) (take count ms)) out → with_id (last + 1) w ≡ request_meter port last ms count out
+  -- and else it is the bytes written, with the id
+  pub request-answer : {w : WriteEffect} → count ≤ 64 → (last ≡ 65535 → ⊥) → w ≡ write_of (meter_request port (last + 1) (take count ms)) out → with_id (last + 1) w ≡ request_meter port last ms count out
   unfolding request_meter
   request-answer h ne e =
       ap (with_id (last + 1)) e ∙ write-request (last + 1) (meter_request port (last + 1) (take count ms)) out ∙ simp (le-leb count 64 h, ne_eqb last 65535 ne)
-
-  -- laid straight into the output
-  pub request-whole : {e : List ℕ} {n : ℕ} → count ≤ 64 → (last ≡ 65535 → ⊥) → 212 ≤ length out → Laid (meter_request port (last + 1) (take count ms)) 0 out e n → request_effect (Ok (record { len = n; id = (last + 1) })) e ≡ request_meter port last ms count out
-  request-whole h ne g a = request-answer h ne (written a (omega (arith, meter-request-le port (last + 1) ms count h)))
-
-  -- and into a scratch buffer, which is handed over
-  pub request-handed : {d e f : List ℕ} {n : ℕ} {r : (Result ℕ)} → count ≤ 64 → (last ≡ 65535 → ⊥) → 212 ≤ length d → Laid (meter_request port (last + 1) (take count ms)) 0 d e n → write_effect r f ≡ write_of (take n e) out → with_id (last + 1) (write_effect r f) ≡ request_meter port last ms count out
-  request-handed h ne g a e = request-answer h ne (e ∙ handed-over a (omega (arith, meter-request-le port (last + 1) ms count h)) out)
 
 meters-append : (ms ns : List Meter) → meters_bytes (ms ++ ns) ≡ meters_bytes ms ++ meters_bytes ns
 unfolding meters_bytes

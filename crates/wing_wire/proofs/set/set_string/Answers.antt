@@ -1,6 +1,5 @@
--- Each return is a case of `set_string` (`string-long`, `string-bad`, `string-good`); an order of UTF-8 is not over 395 bytes (`set-string-le`), so
--- it is laid straight into out (law `written`) or into a scratch buffer and handed over (law `handed-over`).
-use mir.Facts.{to_z-of_z}
+-- Each return is a case of `set_string` (`string-long`, `string-bad`, `string-good`); an order of UTF-8 is not over 395 bytes (`set-string-le`).
+use borrow.Author.Rules.{rules}
 use mathlib.Core.Path.{◌≡◌, ap, sym, ◌∙◌}
 use mathlib.Core.Bool.{true}
 use native.Mathlib.Omega.{arith}
@@ -10,7 +9,8 @@ use Rattle.wing_node.proofs.Refusals.{handed-on, string-right, string-wrong}
 use Rattle.wing_node.proofs.Characters.Grammar.{decides}
 use Rattle.wing_wire.specs.Write.{write_effect}
 use Rattle.wing_wire.proofs.Writing.Choices.{string-long, string-bad, string-good}
-use Rattle.wing_wire.proofs.Writing.Lays.{written, handed-over}
+use Rattle.wing_node.specs.Value.{string}
+use Rattle.wing_wire.specs.Command.{set_bytes}
 use Rattle.wing_wire.proofs.Writing.Sizes.{set-string-le}
 use Rattle.wing_wire.proofs.set.set_string.Goals as goal
 
@@ -24,26 +24,14 @@ returns-in_err-string_fault c =
     let w = string-wrong s _ (sym (rw (take_all 256 s c.if-value-gt256.false) at c.in_err-string_fault.ensures)) in
     ap (λ r. write_effect r c.args.out.now) (handed-on _ _ c.from_residual.ensures.1) ∙ rw w.1 (string-bad c.args.id s c.args.out.now (omega arith) w.0)
 
-pub returns-then-out-ge395 : goal.returns-then-out-ge395
-returns-then-out-ge395 c =
+pub write_by-requires-clause-bounded : goal.write_by-requires-clause-bounded
+write_by-requires-clause-bounded c =
     let s = c.args.value.now in
-    let z = to_z-of_z c.ranges.id in
     let u : utf8 s ≡ true = string-right s (sym (rw (take_all 256 s c.if-value-gt256.false) at c.in_ok-string_fault.ensures)) in
-    written (rw z at c.lay_set_string.ensures) (omega (arith, set-string-le c.args.id s ((decides s).right u) (omega arith)))
-    ∙ string-good c.args.id s c.args.out.now (omega arith) u
-
-pub hand_over-requires : goal.hand_over-requires
-hand_over-requires c =
-    let s = c.args.value.now in
-    let z = to_z-of_z c.ranges.id in
-    let u : utf8 s ≡ true = string-right s (sym (rw (take_all 256 s c.if-value-gt256.false) at c.in_ok-string_fault.ensures)) in
-    omega (arith, (rw z at c.lay_set_string-n.ensures).next, set-string-le c.args.id s ((decides s).right u) (omega arith))
+    (set_bytes c.args.id (string s), λ d r e p. search rules, set-string-le c.args.id s ((decides s).right u) (omega arith))
 
 pub returns : goal.returns
 returns c =
     let s = c.args.value.now in
-    let z = to_z-of_z c.ranges.id in
     let u : utf8 s ≡ true = string-right s (sym (rw (take_all 256 s c.if-value-gt256.false) at c.in_ok-string_fault.ensures)) in
-    c.hand_over.ensures
-    ∙ handed-over (rw z at c.lay_set_string-n.ensures) (set-string-le c.args.id s ((decides s).right u) (omega arith)) c.args.out.now
-    ∙ string-good c.args.id s c.args.out.now (omega arith) u
+    c.write_by.ensures (set_bytes c.args.id (string s)) (λ d r e p. search rules) ∙ string-good c.args.id s c.args.out.now (omega arith) u
