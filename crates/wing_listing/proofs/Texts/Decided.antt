@@ -29,7 +29,7 @@ use Rattle.wing_listing.specs.FirstBad.{Bytewise, Printable, TakenEntries, last_
 use Rattle.wing_listing.proofs.Texts.Numbers.{by-test}
 use Rattle.wing_listing.proofs.Texts.Parts.{parted-ended, front-text}
 use Rattle.wing_listing.proofs.Texts.Lines.{true-false}
-use Rattle.wing_listing.proofs.Texts.Scans.{ne-zero, lines_end, lines-unended, lines_next, header-none, header-next, faultless-line, faultless-id, faultless-value}
+use Rattle.wing_listing.proofs.Texts.Scans.{ne-zero, lines_end, lines-unended, lines_next, header-none, header-next, header-on, faultless-line, faultless-id, faultless-value}
 use Rattle.wing_listing.proofs.Texts.Said.{DigitBytes, line-again, line-id}
 use Rattle.wing_listing.proofs.Texts.Listed.{Rises, rises-all, rising-all, Listable, body, line-faultless, listing-read, listing-said}
 use Rattle.wing_listing.proofs.Texts.Shown.{digit-bytes, byte-digits, said-printable, said-listable}
@@ -221,15 +221,6 @@ module _ (x : List ℕ) where
   head-long : length (part newline 0 headed) < length headed
   head-long = omega (arith, ap length head-front, length-append (ended header) x)
 
-  head-rest : drop (length (part newline 0 headed) + 1) headed ≡ x
-  head-rest = ap₂ (λ (l t : List ℕ). drop (length l + 1) t) head-front (append_assoc header (newline ∷ []) x) ∙ drop-front header x newline
-
-  head-reads : reading_of headed ≡ lines_from 2 nothing (parted newline x)
-  head-reads =
-      header-next headed head-long ∙
-      ap₂ (λ (l r : List ℕ). if (same_bytes l header) (lines_from 2 nothing (parted newline r)) (bad LineWrong 1)) head-front head-rest ∙
-      ap (λ t. if t (lines_from 2 nothing (parted newline x)) (bad LineWrong 1)) (bytes-refl header)
-
 listed-text : (es : List Entry) (rest : List ℕ) → listing_of es ++ rest ≡ ended header ++ (body es ++ rest)
 unfolding listing_of
 listed-text es rest = append_assoc (ended header) (body es) rest
@@ -301,7 +292,7 @@ module _ (text : List ℕ) (why : Refusal) (line : ℕ) where
   lines-wrong es rest w t s e a b =
       let l = lines-on 2 nothing es rest w (2 + length es) (all-listable es t.valid t.bytes t.origins) (rises-all es t.rises) e in
       let c : 2 + length es ≡ line = omega arith in
-      ap reading_of (sym s ∙ listed-text es rest) ∙ head-reads (body es ++ rest) ∙ l ∙ ap₂ (λ x y. bad x y) (sym a) c
+      ap reading_of (sym s ∙ listed-text es rest) ∙ header-on (body es ++ rest) ∙ l ∙ ap₂ (λ x y. bad x y) (sym a) c
 
   wrong-left : FirstBad text why line → reading_of text ≡ bad why line
   wrong-left (inl f) = header-wrong f

@@ -23,7 +23,7 @@ use Rattle.wing_listing.specs.Parts.{newline, parted, part, ended}
 use Rattle.wing_listing.specs.Listing.{header, line_of, listing_of}
 use Rattle.wing_listing.specs.Reading.{id_said, entry_said, above, line_fault, Reading, good, bad, after, unless_bad, lines_from, after_header, reading_of}
 use Rattle.wing_listing.proofs.Texts.Parts.{parted-some, parted-ended, front-text}
-use Rattle.wing_listing.proofs.Texts.Scans.{faultless-line, faultless-id, faultless-value, Says, next-line, none_left, header-ended, header-said, header-rest}
+use Rattle.wing_listing.proofs.Texts.Scans.{faultless-line, faultless-id, faultless-value, Says, next-line, none_left, header-on, header-ended, header-said, header-rest}
 use Rattle.wing_listing.proofs.Texts.Said.{DigitBytes, text-faultless, line-formed, line-id, line-says, line_plain, line-again, line-valid, line-bytes}
 use Rattle.wing_node.specs.declared.refusal.Refusal.TheVariants.{LineWrong}
 
@@ -90,12 +90,8 @@ lines-read n before (e ∷ es) a r =
     unfold after in (ap (λ (x : Entry). good (x ∷ es)) (line-says e p.0.node p.0.typed p.1 ∙ console-own e p.2))
 
 pub listing-read : (es : List Entry) → All Listable es → Rises nothing es → reading_of (listing_of es) ≡ good es
-unfolding reading_of listing_of after_header every
-listing-read es a r =
-    ap (λ (t : List ℕ). after_header (parted newline t)) (append_assoc header (newline ∷ []) (body es)) ∙
-    ap after_header (parted-ended newline header (body es) refl ∙ ap (λ (ps : List (List ℕ)). header ∷ ps) (parted-some newline (body es))) ∙
-    ap (λ (ps : List (List ℕ)). if (same_bytes header header) (lines_from 2 nothing ps) (bad LineWrong 1)) (sym (parted-some newline (body es))) ∙
-    ap (λ t. if t (lines_from 2 nothing (parted newline (body es))) (bad LineWrong 1)) (bytes-refl header) ∙ lines-read 2 nothing es a r
+unfolding listing_of
+listing-read es a r = header-on (body es) ∙ lines-read 2 nothing es a r
 
 -- ---- what is read is printed
 

@@ -2,25 +2,26 @@
 use Prim.Native.Nat.{ℕ, zero, suc, ◌+◌, ◌≤◌, ◌<◌}
 use mathlib.Core.Bool.{Bool, true, false, true≢false}
 use mathlib.Core.Path.{◌≡◌, refl, sym, ap, ◌∙◌}
-use mathlib.Core.List.{List, [], ◌∷◌}
+use mathlib.Core.List.{List, [], ◌∷◌, ◌++◌, append_assoc}
 use native.Mathlib.Omega.{arith}
 use borrow.Author.Tests.{ltb-true, ltb-false, eqb-true, eqb-false, ne_eqb}
 use lib.Dec.{ltb, eqb}
 use lib.IntN.{ℤ}
-use lib.ListN.{length, drop}
+use lib.ListN.{length, take, drop, take-append-drop}
 use Rattle.wing_node.specs.declared.refusal.Refusal.{Refusal}
 use Rattle.wing_node.specs.Refusal.{no_fault, is_refused, Fault}
 use Rattle.wing_node.specs.Bool.{if}
 use Rattle.wing_mirror.specs.Rows.{Found, found, nothing}
 use Rattle.wing_mirror.specs.Entry.{Entry}
+use Rattle.wing_mirror.specs.Table.{every}
 use Rattle.wing_mirror.specs.Query.{same_bytes}
-use Rattle.wing_mirror.proofs.Records.Equals.{bytes-true}
-use Rattle.wing_listing.specs.Parts.{newline, parted, part}
+use Rattle.wing_mirror.proofs.Records.Equals.{bytes-true, bytes-refl}
+use Rattle.wing_listing.specs.Parts.{newline, parted, part, ended}
 use Rattle.wing_listing.specs.Listing.{header}
 use Rattle.wing_listing.specs.Reading.{is_line, id_said, entry_said, above, value_fault, line_fault, Reading, good, bad, after, unless_bad, lines_from, after_header, reading_of, entries_in}
 use Rattle.wing_listing.specs.Steps.{scanned_bad, scanned_as}
 use Rattle.wing_listing.proofs.Texts.Numbers.{by-test}
-use Rattle.wing_listing.proofs.Texts.Parts.{parted-some, parted-hit, parted-whole}
+use Rattle.wing_listing.proofs.Texts.Parts.{parted-some, parted-hit, parted-whole, parted-ended, front-text}
 use Rattle.wing_listing.proofs.Texts.Lines.{true-false}
 use Rattle.wing_node.specs.declared.refusal.Refusal.TheVariants.{LineWrong}
 use Rattle.std.specs.Prelude.{Ok, Err}
@@ -79,6 +80,35 @@ header-next text h =
     let r = drop (length p + 1) text in
     ap after_header (parted-hit newline text h ∙ ap (λ (ps : List (List ℕ)). p ∷ ps) (parted-some newline r)) ∙
     ap (λ (ps : List (List ℕ)). if (same_bytes p header) (lines_from 2 nothing ps) (bad LineWrong 1)) (sym (parted-some newline r))
+
+-- a text that begins with the header's line
+pub header-on : (rest : List ℕ) → reading_of (ended header ++ rest) ≡ lines_from 2 nothing (parted newline rest)
+unfolding reading_of after_header every
+header-on rest =
+    ap (λ (t : List ℕ). after_header (parted newline t)) (append_assoc header (newline ∷ []) rest) ∙
+    ap after_header (parted-ended newline header rest refl ∙ ap (λ (ps : List (List ℕ)). header ∷ ps) (parted-some newline rest)) ∙
+    ap (λ (ps : List (List ℕ)). if (same_bytes header header) (lines_from 2 nothing ps) (bad LineWrong 1)) (sym (parted-some newline rest)) ∙
+    ap (λ t. if t (lines_from 2 nothing (parted newline rest)) (bad LineWrong 1)) (bytes-refl header)
+
+module _ (text : List ℕ) where
+  pub headed : same_bytes (take 14 text) (ended header) ≡ true → reading_of text ≡ lines_from 2 nothing (parted newline (drop 14 text))
+  headed h =
+      ap reading_of (sym (take-append-drop 14 text) ∙ ap (λ (front : List ℕ). front ++ drop 14 text) (bytes-true (take 14 text) (ended header) h)) ∙ header-on (drop 14 text)
+
+  -- and one that does not
+  pub headless : same_bytes (take 14 text) (ended header) ≡ false → reading_of text ≡ bad LineWrong 1
+  headless h =
+      let front = part newline 0 text in
+      let rest = drop (length front + 1) text in
+      by-test (ltb (length front) (length text))
+      (λ t.
+      let k = ltb-true (length front) (length text) t in
+      by-test (same_bytes front header)
+      (λ u.
+      let s : text ≡ header ++ (newline ∷ rest) = front-text newline text k ∙ ap (λ (f : List ℕ). f ++ (newline ∷ rest)) (bytes-true front header u) in
+      absurd (true-false (sym (bytes-refl (ended header)) ∙ ap (λ (x : List ℕ). same_bytes (take 14 x) (ended header)) (sym s) ∙ h)))
+      (λ u. header-next text k ∙ ap (λ b. if b (lines_from 2 nothing (parted newline rest)) (bad LineWrong 1)) u))
+      (λ t. header-none text (ltb-false (length front) (length text) t))
 
 -- ---- what is counted
 

@@ -107,23 +107,3 @@ module _ (before : Found ℤ) (s line : List ℕ) (j : Result ℤ) (e : j ≡ ju
 
     pub judged-id : to_z w32 (of_z w32 x) ≡ id_said line
     judged-id = said-passed line x (faultless-line before line judged-good) (fault-ok (line_fault before line) (id_said line) x (sym judged ∙ z)).1
-
--- the header, by the place of the first newline
-module _ (text : List ℕ) (n : ℕ) (f : n ≡ length (part newline 0 text)) where
-  first-line : take n text ≡ part newline 0 text
-  first-line = ap (λ k. take k text) f ∙ sym (front-take newline text)
-
-  pub first-none : length text ≤ n → reading_of text ≡ bad LineWrong 1
-  first-none h = header-none text (omega arith)
-
-  module _ (h : n < length text) (t : Bool) (e : t ≡ same_bytes (take n text) header) where
-    read-on : reading_of text ≡ if t (lines_from 2 nothing (parted newline (drop (n + 1) text))) (bad LineWrong 1)
-    read-on =
-        header-next text (omega arith) ∙ ap (λ (p : List ℕ). if (same_bytes p header) (lines_from 2 nothing (parted newline (drop (length (part newline 0 text) + 1) text))) (bad LineWrong 1)) (sym first-line) ∙
-        ap₂ (λ (b : Bool) (k : ℕ). if b (lines_from 2 nothing (parted newline (drop (k + 1) text))) (bad LineWrong 1)) (sym e) (sym f)
-
-    pub first_good : t ≡ true → reading_of text ≡ lines_from 2 nothing (parted newline (take (length text - (n + 1)) (drop (n + 1) text)))
-    first_good y = read-on ∙ ap (λ b. if b (lines_from 2 nothing (parted newline (drop (n + 1) text))) (bad LineWrong 1)) y ∙ ap (λ (r : List ℕ). lines_from 2 nothing (parted newline r)) (sym (rest-whole text (n + 1)))
-
-    pub first-bad : t ≡ false → reading_of text ≡ bad LineWrong 1
-    first-bad y = read-on ∙ ap (λ b. if b (lines_from 2 nothing (parted newline (drop (n + 1) text))) (bad LineWrong 1)) y
