@@ -57,7 +57,9 @@ pub fn print(table: &[u8], count: usize, out: &mut [u8]) -> Result<usize, Refusa
     ensures { write_effect result out.new ≡ print_of (table_of table.now count) out.old }
 {
     if is_usable(table, count) {
-        if out.len() < HEADER.len() + LINE * count && out.len() < HEADER.len() + lines_len(table, count) {
+        if out.len() < HEADER.len() + LINE * count
+            && out.len() < HEADER.len() + lines_len(table, count)
+        {
             return Err(Refusal::OutputShort);
         }
         return Ok(lay_listing(out, table, count));

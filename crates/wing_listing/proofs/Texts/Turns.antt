@@ -1,6 +1,5 @@
 -- One turn over the lines of a text: where a line ends, and how the reading goes on after it.
 use Prim.Native.Nat.{ℕ, suc, ◌+◌, ◌-◌, ◌≤◌, ◌<◌}
-use mathlib.Core.Bool.{Bool, true, false}
 use mathlib.Core.Path.{◌≡◌, refl, sym, ap, ap₂, ◌∙◌}
 use mathlib.Core.List.{List}
 use native.Mathlib.Omega.{arith}
@@ -14,12 +13,9 @@ use lib.ListN.{length, take, drop, length-drop}
 use lib.Seq.{drop-drop}
 use Rattle.wing_node.specs.declared.refusal.Refusal.{Refusal}
 use Rattle.wing_node.specs.Refusal.{Fault, no_fault, because}
-use Rattle.wing_node.specs.Bool.{if}
-use Rattle.wing_mirror.specs.Rows.{Found, found, nothing}
-use Rattle.wing_mirror.specs.Query.{same_bytes}
-use Rattle.wing_listing.specs.Listing.{header}
+use Rattle.wing_mirror.specs.Rows.{Found, found}
 use Rattle.wing_listing.specs.Parts.{newline, parted, part}
-use Rattle.wing_listing.specs.Reading.{id_said, entry_said, line_fault, bad, after, unless_bad, lines_from, reading_of}
+use Rattle.wing_listing.specs.Reading.{id_said, entry_said, line_fault, bad, after, unless_bad, lines_from}
 use Rattle.wing_listing.specs.Steps.{id_before, unless_fault, judged_as}
 use Rattle.wing_node.specs.Result.{Result}
 use Rattle.std.specs.Prelude.{Ok, Err}
@@ -27,7 +23,7 @@ use Rattle.wing_listing.proofs.Texts.Drops.{rest-whole}
 use Rattle.wing_listing.proofs.Texts.Numbers.{by-test}
 use Rattle.wing_listing.proofs.Texts.Parts.{front-le, front-take}
 use Rattle.wing_listing.proofs.Texts.Reads.{said-passed}
-use Rattle.wing_listing.proofs.Texts.Scans.{faultless-line, lines-unended, lines_next, header-none, header-next, counted, counted_next}
+use Rattle.wing_listing.proofs.Texts.Scans.{faultless-line, lines-unended, lines_next, counted, counted_next}
 use Rattle.wing_node.specs.declared.refusal.Refusal.TheVariants.{LineWrong}
 use Rattle.wing_listing.specs.Answers.{Loaded}
 
