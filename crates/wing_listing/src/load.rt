@@ -9,13 +9,11 @@ ghost use Rattle.wing_listing.specs.Calls.{load_effect, load_of};
 use crate::answer::{LoadReply, Loaded};
 use crate::line::find;
 use crate::place::record_in;
+use crate::print::HEADER;
 use crate::scan::{bad, scan};
 use wing_mirror::table::{are_allowed, places};
 use wing_node::refusal::Refusal;
 use wing_wire::state::State;
-
-// The header's line.
-const HEADER: usize = 14;
 
 // How many entries a text has that may be loaded. 02: 7, 14, the first bad line, 6.
 #[tactic(auto, unfolding(crate::specs::Steps::checked_as, crate::specs::Steps::fitting))]
@@ -40,7 +38,7 @@ fn lay_lines(table: &mut [u8], text: &[u8], count: usize)
     requires { (count ≤ length (entries_in (reading_of text.now))) × (width * count ≤ length table.old) }
     ensures { table.new ≡ laid width (map record_of (take count (entries_in (reading_of text.now)))) table.old }
 {
-    let mut at = HEADER;
+    let mut at = HEADER.len();
     for number in 0..count {
         let end = at + find(&text[at..], 0x0a);
         let from = State::PLACE_WIDTH * number;

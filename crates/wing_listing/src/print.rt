@@ -13,8 +13,8 @@ use crate::row::print_record;
 use wing_mirror::table::is_usable;
 use wing_node::refusal::Refusal;
 
-// The header's line.
-const HEADER: usize = 14;
+// The header's line, with its end.
+pub(crate) const HEADER: &[u8; 14] = b"id,kind,value\n";
 
 // The longest line: an id of 11 characters, two commas, a letter, a string of 512 digits and the line's end.
 const LINE: usize = 527;
@@ -36,7 +36,7 @@ fn lay_header(out: &mut [u8])
     requires { length (ended header) ≤ length out.old }
     ensures { out.new ≡ sets out.old 0 (ended header) }
 {
-    out[..HEADER].copy_from_slice(b"id,kind,value\n");
+    out[..HEADER.len()].copy_from_slice(HEADER);
 }
 
 // The header and then each record's line after the last one.
@@ -45,7 +45,7 @@ fn lay_listing(out: &mut [u8], table: &[u8], count: usize) -> usize
     ensures { Laid (printed (table_of table.now count)) 0 out.old out.new result }
 {
     lay_header(out);
-    let mut at = HEADER;
+    let mut at = HEADER.len();
     for number in 0..count {
         at = print_record(out, at, table, number);
     }
@@ -57,7 +57,9 @@ pub fn print(table: &[u8], count: usize, out: &mut [u8]) -> Result<usize, Refusa
     ensures { write_effect result out.new ≡ print_of (table_of table.now count) out.old }
 {
     if is_usable(table, count) {
-        if out.len() < HEADER + LINE * count && out.len() < HEADER + lines_len(table, count) {
+        if out.len() < HEADER.len() + LINE * count
+            && out.len() < HEADER.len() + lines_len(table, count)
+        {
             return Err(Refusal::OutputShort);
         }
         return Ok(lay_listing(out, table, count));

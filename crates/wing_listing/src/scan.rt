@@ -7,6 +7,7 @@ ghost use Rattle.wing_listing.specs.Steps.{scanned_as, scanned_bad};
 
 use crate::answer::{BadLine, Loaded};
 use crate::line::{find, judge};
+use crate::print::HEADER;
 use wing_node::refusal::Refusal;
 
 pub(crate) fn bad(why: Refusal, line: usize) -> Loaded
@@ -41,9 +42,8 @@ fn scan_lines(text: &[u8]) -> Loaded
 pub(crate) fn scan(text: &[u8]) -> Loaded
     ensures { result ≡ scanned_as (reading_of text.now) }
 {
-    let n = find(text, 0x0a);
-    if n < text.len() && text[..n] == b"id,kind,value"[..] {
-        return scan_lines(&text[n + 1..]);
+    match text.strip_prefix(HEADER) {
+        Some(lines) => scan_lines(lines),
+        None => bad(Refusal::LineWrong, 1),
     }
-    bad(Refusal::LineWrong, 1)
 }

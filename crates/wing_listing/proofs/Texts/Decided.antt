@@ -8,28 +8,25 @@ use native.Mathlib.Omega.{arith}
 use borrow.Author.Tests.{ltb-true, ltb-false, eqb-true, eqb-false}
 use lib.Dec.{ltb, eqb}
 use lib.IntN.{ℤ}
-use lib.ListN.{length, get_or, drop, length-append, length-drop}
+use lib.ListN.{length, take, drop, length-drop}
 use Rattle.wing_node.proofs.Refusals.{reason_of}
 use Rattle.wing_node.specs.declared.refusal.Refusal.{Refusal}
 use Rattle.wing_node.specs.Refusal.{no_fault, because, Fault}
-use Rattle.wing_node.specs.Bool.{if}
 use Rattle.wing_node.specs.Bytes.{joined}
 use Rattle.wing_mirror.specs.Rows.{Found, found, nothing, All}
 use Rattle.wing_mirror.specs.Entry.{Entry}
 use Rattle.wing_mirror.specs.Layout.{ValidEntry}
 use Rattle.wing_mirror.specs.Record.{full}
-use Rattle.wing_mirror.specs.Table.{every}
 use Rattle.wing_mirror.specs.Query.{same_bytes}
 use Rattle.wing_mirror.specs.declared.origin.Origin.TheVariants.{Console}
-use Rattle.wing_mirror.proofs.Records.Equals.{bytes-true, bytes-refl}
 use Rattle.wing_listing.specs.Parts.{newline, parted, part, ended}
 use Rattle.wing_listing.specs.Listing.{header, line_of, listing_of}
 use Rattle.wing_listing.specs.Reading.{is_line, id_said, entry_said, above, line_fault, Reading, good, bad, after, unless_bad, lines_from, reading_of}
 use Rattle.wing_listing.specs.FirstBad.{Bytewise, Printable, TakenEntries, last_id, entry_fault, BadHeader, FirstBad}
 use Rattle.wing_listing.proofs.Texts.Numbers.{by-test}
-use Rattle.wing_listing.proofs.Texts.Parts.{parted-ended, front-text}
+use Rattle.wing_listing.proofs.Texts.Parts.{front-text}
 use Rattle.wing_listing.proofs.Texts.Lines.{true-false}
-use Rattle.wing_listing.proofs.Texts.Scans.{ne-zero, lines_end, lines-unended, lines_next, header-none, header-next, faultless-line, faultless-id, faultless-value}
+use Rattle.wing_listing.proofs.Texts.Scans.{ne-zero, lines_end, lines-unended, lines_next, header-on, headed-whole, headed, head-not, headless, faultless-line, faultless-id, faultless-value}
 use Rattle.wing_listing.proofs.Texts.Said.{DigitBytes, line-again, line-id}
 use Rattle.wing_listing.proofs.Texts.Listed.{Rises, rises-all, rising-all, Listable, body, line-faultless, listing-read, listing-said}
 use Rattle.wing_listing.proofs.Texts.Shown.{digit-bytes, byte-digits, said-printable, said-listable}
@@ -205,31 +202,6 @@ all-origins (e ∷ es) g = (g.0.2, all-origins es g.1)
 taken-entries : (es : List Entry) → All Listable es → Rises nothing es → TakenEntries es
 taken-entries es g u = record { valid = all_valid es g; bytes = all-bytes es g; rises = rising-all es u; origins = all-origins es g }
 
--- ---- the header
-
-module _ (x : List ℕ) where
-  abbrev headed : List ℕ
-  headed = ended header ++ x
-
-  head-parts : parted newline headed ≡ header ∷ parted newline x
-  unfolding every
-  head-parts = ap (parted newline) (append_assoc header (newline ∷ []) x) ∙ parted-ended newline header x refl
-
-  head-front : part newline 0 headed ≡ header
-  head-front = ap (λ (ps : List (List ℕ)). get_or ps 0 []) head-parts
-
-  head-long : length (part newline 0 headed) < length headed
-  head-long = omega (arith, ap length head-front, length-append (ended header) x)
-
-  head-rest : drop (length (part newline 0 headed) + 1) headed ≡ x
-  head-rest = ap₂ (λ (l t : List ℕ). drop (length l + 1) t) head-front (append_assoc header (newline ∷ []) x) ∙ drop-front header x newline
-
-  head-reads : reading_of headed ≡ lines_from 2 nothing (parted newline x)
-  head-reads =
-      header-next headed head-long ∙
-      ap₂ (λ (l r : List ℕ). if (same_bytes l header) (lines_from 2 nothing (parted newline r)) (bad LineWrong 1)) head-front head-rest ∙
-      ap (λ t. if t (lines_from 2 nothing (parted newline x)) (bad LineWrong 1)) (bytes-refl header)
-
 listed-text : (es : List Entry) (rest : List ℕ) → listing_of es ++ rest ≡ ended header ++ (body es ++ rest)
 unfolding listing_of
 listed-text es rest = append_assoc (ended header) (body es) rest
@@ -264,44 +236,24 @@ module _ (text : List ℕ) (why : Refusal) (line : ℕ) where
   no_header : ((rest : List ℕ) → ended header ++ rest ≡ text → ⊥) → bad LineWrong 1 ≡ bad why line → FirstBad text why line
   no_header none e = inl (record { none = none; number = sym (ap (why_in why) e); first = sym (ap line_in e) })
 
-  abbrev front : List ℕ
-  front = part newline 0 text
-
-  after_front : length front < length text → front ≡ header → ended header ++ drop (length front + 1) text ≡ text
-  after_front k h =
-      append_assoc header (newline ∷ []) (drop (length front + 1) text) ∙ ap (λ (l : List ℕ). l ++ (newline ∷ drop (length front + 1) text)) (sym h) ∙ sym (front-text newline text k)
-
   wrong-right : reading_of text ≡ bad why line → FirstBad text why line
   wrong-right e =
-      by-test (ltb (length front) (length text))
-      (λ t.
-      let k = ltb-true (length front) (length text) t in
-      let r = drop (length front + 1) text in
-      let n = sym (header-next text k) ∙ e in
-      by-test (same_bytes front header)
-      (λ u. from-lines r (after_front k (bytes-true front header u)) (bad-from (length r) 2 nothing r why line (omega arith) (rw u at n)))
-      (λ u. no_header (λ rest s. true-false (sym (subst (λ (y : List ℕ). same_bytes (part newline 0 y) header ≡ true) s (ap (λ (y : List ℕ). same_bytes y header) (head-front rest) ∙ bytes-refl header)) ∙ u)) (rw u at n)))
-      (λ t.
-      let k = ltb-false (length front) (length text) t in
-      no_header (λ rest s. let l = subst (λ (y : List ℕ). length (part newline 0 y) < length y) s (head-long rest) in omega arith) (sym (header-none text k) ∙ e))
+      by-test (same_bytes (take 14 text) (ended header))
+      (λ u. from-lines (drop 14 text) (headed-whole text u) (bad-from (length (drop 14 text)) 2 nothing (drop 14 text) why line (omega arith) (sym (headed text u) ∙ e)))
+      (λ u. no_header (λ rest s. head-not text rest s u) (sym (headless text u) ∙ e))
 
   header-wrong : BadHeader text why line → reading_of text ≡ bad why line
   header-wrong f =
-      let q : bad LineWrong 1 ≡ bad why line = ap₂ (λ a b. bad a b) (sym f.number) (sym f.first) in
-      by-test (ltb (length front) (length text))
-      (λ t.
-      let k = ltb-true (length front) (length text) t in
-      by-test (same_bytes front header)
-      (λ u. absurd (f.none (drop (length front + 1) text) (after_front k (bytes-true front header u))))
-      (λ u. header-next text k ∙ ap (λ b. if b (lines_from 2 nothing (parted newline (drop (length front + 1) text))) (bad LineWrong 1)) u ∙ q))
-      (λ t. header-none text (ltb-false (length front) (length text) t) ∙ q)
+      by-test (same_bytes (take 14 text) (ended header))
+      (λ u. absurd (f.none (drop 14 text) (headed-whole text u)))
+      (λ u. headless text u ∙ ap₂ (λ a b. bad a b) (sym f.number) (sym f.first))
 
   lines-wrong : (es : List Entry) (rest : List ℕ) (w : Refusal) → TakenEntries es → listing_of es ++ rest ≡ text → lines_from (2 + length es) (last_id nothing es) (parted newline rest) ≡ bad w (2 + length es) → why ≡ w → line ≡ length es + 2 →
       reading_of text ≡ bad why line
   lines-wrong es rest w t s e a b =
       let l = lines-on 2 nothing es rest w (2 + length es) (all-listable es t.valid t.bytes t.origins) (rises-all es t.rises) e in
       let c : 2 + length es ≡ line = omega arith in
-      ap reading_of (sym s ∙ listed-text es rest) ∙ head-reads (body es ++ rest) ∙ l ∙ ap₂ (λ x y. bad x y) (sym a) c
+      ap reading_of (sym s ∙ listed-text es rest) ∙ header-on (body es ++ rest) ∙ l ∙ ap₂ (λ x y. bad x y) (sym a) c
 
   wrong-left : FirstBad text why line → reading_of text ≡ bad why line
   wrong-left (inl f) = header-wrong f

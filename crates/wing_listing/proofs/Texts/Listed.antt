@@ -8,24 +8,19 @@ use lib.IntN.{ℤ}
 use lib.Signed.{lt_z}
 use lib.ListN.{length, get_or, drop}
 use Rattle.wing_node.specs.Refusal.{no_fault}
-use Rattle.wing_node.specs.Bool.{if}
 use Rattle.wing_node.specs.Bytes.{joined}
 use Rattle.wing_node.proofs.Branches.{if-both}
 use Rattle.wing_mirror.specs.Rows.{Found, found, nothing, All}
 use Rattle.wing_mirror.specs.Entry.{Entry, entry, from_console, ids, rising_ids}
 use Rattle.wing_mirror.specs.Layout.{ValidEntry}
 use Rattle.wing_mirror.specs.Record.{full}
-use Rattle.wing_mirror.specs.Table.{every}
-use Rattle.wing_mirror.specs.Query.{same_bytes}
 use Rattle.wing_mirror.specs.declared.origin.Origin.TheVariants.{Console}
-use Rattle.wing_mirror.proofs.Records.Equals.{bytes-refl}
 use Rattle.wing_listing.specs.Parts.{newline, parted, part, ended}
 use Rattle.wing_listing.specs.Listing.{header, line_of, listing_of}
-use Rattle.wing_listing.specs.Reading.{id_said, entry_said, above, line_fault, Reading, good, bad, after, unless_bad, lines_from, after_header, reading_of}
+use Rattle.wing_listing.specs.Reading.{id_said, entry_said, above, line_fault, Reading, good, after, unless_bad, lines_from, reading_of}
 use Rattle.wing_listing.proofs.Texts.Parts.{parted-some, parted-ended, front-text}
-use Rattle.wing_listing.proofs.Texts.Scans.{faultless-line, faultless-id, faultless-value, Says, next-line, none_left, header-ended, header-said, header-rest}
+use Rattle.wing_listing.proofs.Texts.Scans.{faultless-line, faultless-id, faultless-value, Says, next-line, none_left, header-on, headed-whole, header-begins, header-rest}
 use Rattle.wing_listing.proofs.Texts.Said.{DigitBytes, text-faultless, line-formed, line-id, line-says, line_plain, line-again, line-valid, line-bytes}
-use Rattle.wing_node.specs.declared.refusal.Refusal.TheVariants.{LineWrong}
 
 -- 02: each id above the one before, if there is one
 abbrev pub Rises : Found ℤ → List Entry → Type 0
@@ -90,12 +85,8 @@ lines-read n before (e ∷ es) a r =
     unfold after in (ap (λ (x : Entry). good (x ∷ es)) (line-says e p.0.node p.0.typed p.1 ∙ console-own e p.2))
 
 pub listing-read : (es : List Entry) → All Listable es → Rises nothing es → reading_of (listing_of es) ≡ good es
-unfolding reading_of listing_of after_header every
-listing-read es a r =
-    ap (λ (t : List ℕ). after_header (parted newline t)) (append_assoc header (newline ∷ []) (body es)) ∙
-    ap after_header (parted-ended newline header (body es) refl ∙ ap (λ (ps : List (List ℕ)). header ∷ ps) (parted-some newline (body es))) ∙
-    ap (λ (ps : List (List ℕ)). if (same_bytes header header) (lines_from 2 nothing ps) (bad LineWrong 1)) (sym (parted-some newline (body es))) ∙
-    ap (λ t. if t (lines_from 2 nothing (parted newline (body es))) (bad LineWrong 1)) (bytes-refl header) ∙ lines-read 2 nothing es a r
+unfolding listing_of
+listing-read es a r = header-on (body es) ∙ lines-read 2 nothing es a r
 
 -- ---- what is read is printed
 
@@ -140,8 +131,5 @@ pub listing-said : (text : List ℕ) (es : List Entry) → reading_of text ≡ g
     All (λ (e : Entry). e.origin ≡ Console) es
 unfolding listing_of
 listing-said text es g =
-    let p = part newline 0 text in
-    let h = header-said text es g in
     let l = lines-said 2 nothing (drop 14 text) es (header-rest text es g) in
-    let t : text ≡ header ++ (newline ∷ drop 14 text) = front-text newline text (header-ended text es g) ∙ ap (λ (q : List ℕ). q ++ (newline ∷ drop (length q + 1) text)) h in
-    (append_assoc header (newline ∷ []) (body es) ∙ ap (λ (b : List ℕ). header ++ (newline ∷ b)) l.spells ∙ sym t, l.valid, l.rises, l.bytes, l.origins)
+    (ap (λ (b : List ℕ). ended header ++ b) l.spells ∙ headed-whole text (header-begins text es g), l.valid, l.rises, l.bytes, l.origins)

@@ -2,25 +2,26 @@
 use Prim.Native.Nat.{ℕ, zero, suc, ◌+◌, ◌≤◌, ◌<◌}
 use mathlib.Core.Bool.{Bool, true, false, true≢false}
 use mathlib.Core.Path.{◌≡◌, refl, sym, ap, ◌∙◌}
-use mathlib.Core.List.{List, [], ◌∷◌}
+use mathlib.Core.List.{List, [], ◌∷◌, ◌++◌, append_assoc}
 use native.Mathlib.Omega.{arith}
 use borrow.Author.Tests.{ltb-true, ltb-false, eqb-true, eqb-false, ne_eqb}
 use lib.Dec.{ltb, eqb}
 use lib.IntN.{ℤ}
-use lib.ListN.{length, drop}
+use lib.ListN.{length, take, drop, take-append-drop}
 use Rattle.wing_node.specs.declared.refusal.Refusal.{Refusal}
 use Rattle.wing_node.specs.Refusal.{no_fault, is_refused, Fault}
 use Rattle.wing_node.specs.Bool.{if}
 use Rattle.wing_mirror.specs.Rows.{Found, found, nothing}
 use Rattle.wing_mirror.specs.Entry.{Entry}
+use Rattle.wing_mirror.specs.Table.{every}
 use Rattle.wing_mirror.specs.Query.{same_bytes}
-use Rattle.wing_mirror.proofs.Records.Equals.{bytes-true}
-use Rattle.wing_listing.specs.Parts.{newline, parted, part}
+use Rattle.wing_mirror.proofs.Records.Equals.{bytes-true, bytes-refl}
+use Rattle.wing_listing.specs.Parts.{newline, parted, part, ended}
 use Rattle.wing_listing.specs.Listing.{header}
 use Rattle.wing_listing.specs.Reading.{is_line, id_said, entry_said, above, value_fault, line_fault, Reading, good, bad, after, unless_bad, lines_from, after_header, reading_of, entries_in}
 use Rattle.wing_listing.specs.Steps.{scanned_bad, scanned_as}
 use Rattle.wing_listing.proofs.Texts.Numbers.{by-test}
-use Rattle.wing_listing.proofs.Texts.Parts.{parted-some, parted-hit, parted-whole}
+use Rattle.wing_listing.proofs.Texts.Parts.{parted-some, parted-hit, parted-whole, parted-ended, front-text}
 use Rattle.wing_listing.proofs.Texts.Lines.{true-false}
 use Rattle.wing_node.specs.declared.refusal.Refusal.TheVariants.{LineWrong}
 use Rattle.std.specs.Prelude.{Ok, Err}
@@ -67,11 +68,11 @@ module _ (n : ℕ) (before : Found ℤ) where
       ap (lines_from n before) (parted-hit newline text h ∙ ap (λ (ps : List (List ℕ)). p ∷ ps) (parted-some newline r)) ∙
       ap (λ (ps : List (List ℕ)). unless_bad (line_fault before p) n (after (entry_said p) (lines_from (suc n) (found (id_said p)) ps))) (sym (parted-some newline r))
 
-pub header-none : (text : List ℕ) → length text ≤ length (part newline 0 text) → reading_of text ≡ bad LineWrong 1
+header-none : (text : List ℕ) → length text ≤ length (part newline 0 text) → reading_of text ≡ bad LineWrong 1
 unfolding reading_of after_header
 header-none text h = ap after_header (parted-whole newline text h)
 
-pub header-next : (text : List ℕ) → length (part newline 0 text) < length text →
+header-next : (text : List ℕ) → length (part newline 0 text) < length text →
     reading_of text ≡ if (same_bytes (part newline 0 text) header) (lines_from 2 nothing (parted newline (drop (length (part newline 0 text) + 1) text))) (bad LineWrong 1)
 unfolding reading_of after_header
 header-next text h =
@@ -79,6 +80,38 @@ header-next text h =
     let r = drop (length p + 1) text in
     ap after_header (parted-hit newline text h ∙ ap (λ (ps : List (List ℕ)). p ∷ ps) (parted-some newline r)) ∙
     ap (λ (ps : List (List ℕ)). if (same_bytes p header) (lines_from 2 nothing ps) (bad LineWrong 1)) (sym (parted-some newline r))
+
+-- a text that begins with the header's line
+pub header-on : (rest : List ℕ) → reading_of (ended header ++ rest) ≡ lines_from 2 nothing (parted newline rest)
+unfolding reading_of after_header every
+header-on rest =
+    ap (λ (t : List ℕ). after_header (parted newline t)) (append_assoc header (newline ∷ []) rest) ∙
+    ap after_header (parted-ended newline header rest refl ∙ ap (λ (ps : List (List ℕ)). header ∷ ps) (parted-some newline rest)) ∙
+    ap (λ (ps : List (List ℕ)). if (same_bytes header header) (lines_from 2 nothing ps) (bad LineWrong 1)) (sym (parted-some newline rest)) ∙
+    ap (λ t. if t (lines_from 2 nothing (parted newline rest)) (bad LineWrong 1)) (bytes-refl header)
+
+module _ (text : List ℕ) where
+  pub headed-whole : same_bytes (take 14 text) (ended header) ≡ true → ended header ++ drop 14 text ≡ text
+  headed-whole h = ap (λ (front : List ℕ). front ++ drop 14 text) (sym (bytes-true (take 14 text) (ended header) h)) ∙ take-append-drop 14 text
+
+  pub headed : same_bytes (take 14 text) (ended header) ≡ true → reading_of text ≡ lines_from 2 nothing (parted newline (drop 14 text))
+  headed h = ap reading_of (sym (headed-whole h)) ∙ header-on (drop 14 text)
+
+  pub head-not : (rest : List ℕ) → ended header ++ rest ≡ text → same_bytes (take 14 text) (ended header) ≡ false → ⊥
+  head-not rest s h = true-false (sym (bytes-refl (ended header)) ∙ ap (λ (x : List ℕ). same_bytes (take 14 x) (ended header)) s ∙ h)
+
+  -- and one that does not
+  pub headless : same_bytes (take 14 text) (ended header) ≡ false → reading_of text ≡ bad LineWrong 1
+  headless h =
+      let front = part newline 0 text in
+      let rest = drop (length front + 1) text in
+      by-test (ltb (length front) (length text))
+      (λ t.
+      let k = ltb-true (length front) (length text) t in
+      by-test (same_bytes front header)
+      (λ u. absurd (head-not rest (append_assoc header (newline ∷ []) rest ∙ ap (λ (f : List ℕ). f ++ (newline ∷ rest)) (sym (bytes-true front header u)) ∙ sym (front-text newline text k)) h))
+      (λ u. header-next text k ∙ ap (λ b. if b (lines_from 2 nothing (parted newline rest)) (bad LineWrong 1)) u))
+      (λ t. header-none text (ltb-false (length front) (length text) t))
 
 -- ---- what is counted
 
@@ -167,23 +200,11 @@ none_left n before text l =
 -- ---- the header
 
 module _ (text : List ℕ) (es : List Entry) (g : reading_of text ≡ good es) where
-  pub header-ended : length (part newline 0 text) < length text
-  header-ended =
-      by-test (ltb (length (part newline 0 text)) (length text)) (ltb-true (length (part newline 0 text)) (length text))
-      (λ t. good-not (sym (header-none text (ltb-false (length (part newline 0 text)) (length text) t)) ∙ g))
-
-  header_read : if (same_bytes (part newline 0 text) header) (lines_from 2 nothing (parted newline (drop (length (part newline 0 text) + 1) text))) (bad LineWrong 1) ≡ good es
-  header_read = sym (header-next text header-ended) ∙ g
-
-  pub header-said : part newline 0 text ≡ header
-  header-said = by-test (same_bytes (part newline 0 text) header) (bytes-true (part newline 0 text) header) (λ u. good-not (rw u at header_read))
+  pub header-begins : same_bytes (take 14 text) (ended header) ≡ true
+  header-begins = by-test (same_bytes (take 14 text) (ended header)) (λ u. u) (λ u. good-not (sym (headless text u) ∙ g))
 
   pub header-rest : Says 2 nothing (drop 14 text) es
-  header-rest =
-      let e : length (part newline 0 text) ≡ 13 = ap length header-said in
-      by-test (same_bytes (part newline 0 text) header)
-      (λ u. ap (λ j. lines_from 2 nothing (parted newline (drop (j + 1) text))) (sym e) ∙ rw u at header_read)
-      (λ u. good-not (rw u at header_read))
+  header-rest = sym (headed text header-begins) ∙ g
 
 some_good : (r : Reading) → 0 < length (entries_in r) → r ≡ good (entries_in r)
 unfolding entries_in

@@ -1,6 +1,5 @@
 -- One turn over the lines of a text: where a line ends, and how the reading goes on after it.
 use Prim.Native.Nat.{ℕ, suc, ◌+◌, ◌-◌, ◌≤◌, ◌<◌}
-use mathlib.Core.Bool.{Bool, true, false}
 use mathlib.Core.Path.{◌≡◌, refl, sym, ap, ap₂, ◌∙◌}
 use mathlib.Core.List.{List}
 use native.Mathlib.Omega.{arith}
@@ -14,12 +13,9 @@ use lib.ListN.{length, take, drop, length-drop}
 use lib.Seq.{drop-drop}
 use Rattle.wing_node.specs.declared.refusal.Refusal.{Refusal}
 use Rattle.wing_node.specs.Refusal.{Fault, no_fault, because}
-use Rattle.wing_node.specs.Bool.{if}
-use Rattle.wing_mirror.specs.Rows.{Found, found, nothing}
-use Rattle.wing_mirror.specs.Query.{same_bytes}
-use Rattle.wing_listing.specs.Listing.{header}
+use Rattle.wing_mirror.specs.Rows.{Found, found}
 use Rattle.wing_listing.specs.Parts.{newline, parted, part}
-use Rattle.wing_listing.specs.Reading.{id_said, entry_said, line_fault, bad, after, unless_bad, lines_from, reading_of}
+use Rattle.wing_listing.specs.Reading.{id_said, entry_said, line_fault, bad, after, unless_bad, lines_from}
 use Rattle.wing_listing.specs.Steps.{id_before, unless_fault, judged_as}
 use Rattle.wing_node.specs.Result.{Result}
 use Rattle.std.specs.Prelude.{Ok, Err}
@@ -27,7 +23,7 @@ use Rattle.wing_listing.proofs.Texts.Drops.{rest-whole}
 use Rattle.wing_listing.proofs.Texts.Numbers.{by-test}
 use Rattle.wing_listing.proofs.Texts.Parts.{front-le, front-take}
 use Rattle.wing_listing.proofs.Texts.Reads.{said-passed}
-use Rattle.wing_listing.proofs.Texts.Scans.{faultless-line, lines-unended, lines_next, header-none, header-next, counted, counted_next}
+use Rattle.wing_listing.proofs.Texts.Scans.{faultless-line, lines-unended, lines_next, counted, counted_next}
 use Rattle.wing_node.specs.declared.refusal.Refusal.TheVariants.{LineWrong}
 use Rattle.wing_listing.specs.Answers.{Loaded}
 
@@ -107,23 +103,3 @@ module _ (before : Found ℤ) (s line : List ℕ) (j : Result ℤ) (e : j ≡ ju
 
     pub judged-id : to_z w32 (of_z w32 x) ≡ id_said line
     judged-id = said-passed line x (faultless-line before line judged-good) (fault-ok (line_fault before line) (id_said line) x (sym judged ∙ z)).1
-
--- the header, by the place of the first newline
-module _ (text : List ℕ) (n : ℕ) (f : n ≡ length (part newline 0 text)) where
-  first-line : take n text ≡ part newline 0 text
-  first-line = ap (λ k. take k text) f ∙ sym (front-take newline text)
-
-  pub first-none : length text ≤ n → reading_of text ≡ bad LineWrong 1
-  first-none h = header-none text (omega arith)
-
-  module _ (h : n < length text) (t : Bool) (e : t ≡ same_bytes (take n text) header) where
-    read-on : reading_of text ≡ if t (lines_from 2 nothing (parted newline (drop (n + 1) text))) (bad LineWrong 1)
-    read-on =
-        header-next text (omega arith) ∙ ap (λ (p : List ℕ). if (same_bytes p header) (lines_from 2 nothing (parted newline (drop (length (part newline 0 text) + 1) text))) (bad LineWrong 1)) (sym first-line) ∙
-        ap₂ (λ (b : Bool) (k : ℕ). if b (lines_from 2 nothing (parted newline (drop (k + 1) text))) (bad LineWrong 1)) (sym e) (sym f)
-
-    pub first_good : t ≡ true → reading_of text ≡ lines_from 2 nothing (parted newline (take (length text - (n + 1)) (drop (n + 1) text)))
-    first_good y = read-on ∙ ap (λ b. if b (lines_from 2 nothing (parted newline (drop (n + 1) text))) (bad LineWrong 1)) y ∙ ap (λ (r : List ℕ). lines_from 2 nothing (parted newline r)) (sym (rest-whole text (n + 1)))
-
-    pub first-bad : t ≡ false → reading_of text ≡ bad LineWrong 1
-    first-bad y = read-on ∙ ap (λ b. if b (lines_from 2 nothing (parted newline (drop (n + 1) text))) (bad LineWrong 1)) y
