@@ -8,7 +8,6 @@ ghost use Rattle.wing_listing.specs.Listing.{value_text, line_of};
 ghost use Rattle.wing_listing.specs.Steps.{letter_in};
 
 use crate::hex::lay_pairs;
-use wing_mirror::table::row;
 use wing_node::field::number_at;
 use wing_node::value::put_decimal;
 use wing_wire::state::State;
@@ -59,5 +58,5 @@ pub(crate) fn print_record(out: &mut [u8], at: usize, table: &[u8], number: usiz
     requires { (width * number + width ≤ length table.now) × (well_formed (row_at number table.now) ≡ true) × (at + length (ended (line_of (entry_in (row_at number table.now)))) ≤ length out.old) }
     ensures { Laid (ended (line_of (entry_in (row_at number table.now)))) at out.old out.new result }
 {
-    lay_entry(out, at, row(table, number))
+    lay_entry(out, at, &table.as_chunks().0[number])
 }

@@ -16,7 +16,7 @@ pub fn places(table: &[u8]) -> usize
 }
 
 // The record of a number.
-pub fn row(table: &[u8], number: usize) -> &[u8; State::PLACE_WIDTH]
+pub(crate) fn row(table: &[u8], number: usize) -> &[u8; State::PLACE_WIDTH]
     requires { width * number + width ≤ length table.now }
     ensures { result.now ≡ row_of width number table.now }
 {

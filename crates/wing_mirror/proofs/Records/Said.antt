@@ -22,6 +22,8 @@ use Rattle.wing_mirror.specs.Record.{id_in, value_in, origin_byte, entry_in}
 use Rattle.wing_mirror.specs.Query.{value_of, bytes_beside, beside_zeros, read_of}
 use Rattle.wing_mirror.specs.declared.origin.Origin.{Origin}
 use Rattle.wing_mirror.proofs.Tables.Laying.{take-least, sets_over}
+use Rattle.wing_mirror.proofs.Tables.Chunks.{chunks-records}
+use Rattle.std.specs.Simd.{first_chunks}
 use Rattle.wing_mirror.specs.declared.answer.RecordRead.{RecordRead}
 
 -- the row of a number
@@ -32,6 +34,10 @@ row_of w (suc n) zero b h = rw (mul-zero w)
 row_of w (suc n) (suc i) b h =
     let y : w * suc i ≡ w + w * i = omega (arith, mul-suc w i) in
     rw (y, ← drop-drop (w * i) w b) (row_of w n i (drop w b) (omega arith))
+
+-- and as the library cuts them
+pub chunk-row : (w n i : ℕ) (b : List ℕ) → i < n → {rs : List (List ℕ)} → rs ≡ first_chunks w n b → get_or rs i [] ≡ take w (drop (w * i) b)
+chunk-row w n i b h e = ap (λ (rs : List (List ℕ)). get_or rs i []) (e ∙ chunks-records w n b) ∙ row_of w n i b h
 
 pub string-said : (id : ℤ) (o : Origin) (n len : ℕ) (p out : List ℕ) → length p ≡ 256 → len ≡ min n 256 → out ≡ sets (replicate 256 0) 0 (take len p) →
     ◌≡◌ {A = RecordRead} (record { id = id; value = String len; origin = o; string = out }) (read_of (entry id (string (take n p)) o))
