@@ -58,8 +58,8 @@ fn negative_in(s: &[u8]) -> Option<i32>
 pub(crate) fn integer_in(s: &[u8]) -> Option<i32>
     ensures { result ≡ integer_read s.now }
 {
-    if s.len() > 0 && s[0] == b'-' {
-        return negative_in(&s[1..]);
+    match s.strip_prefix(b"-") {
+        Some(digits) => negative_in(digits),
+        None => natural_in(s),
     }
-    natural_in(s)
 }

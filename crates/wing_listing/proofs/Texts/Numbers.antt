@@ -9,7 +9,8 @@ use Rattle.std.specs.Char.{is_ascii_digit}
 use lib.Dec.{ltb, leb, eqb}
 use lib.IntN.{ℤ, pos, negsuc, neg_ℤ}
 use lib.Signed.{mag}
-use lib.ListN.{length, drop}
+use lib.ListN.{length, take, drop}
+use lib.Pointwise.{pointwise}
 use Rattle.wing_node.specs.Bool.{if, and, or}
 use Rattle.wing_node.specs.Digits.{number_from, number_in}
 use Rattle.wing_node.specs.Decimal.{ascii, digits_up_to, digits, decimal, number_spelled, integer_of}
@@ -222,9 +223,14 @@ unfolding fits32
 fits_neg zero = refl
 fits_neg (suc m) = refl
 
-first-none : (s : List ℕ) → length s ≡ 0 → first s ≡ 0
-first-none [] e = refl
-first-none (a ∷ s) e = absurd (omega arith)
+-- whether a minus comes first, as the library tests it
+pub minus-first : (s : List ℕ) → pointwise eqb (take 1 s) (0x2d ∷ []) ≡ eqb (first s) 0x2d
+minus-first [] = refl
+minus-first (a ∷ s) = go (eqb a 0x2d)
+  where
+    go : (t : Bool) → (t && true) ≡ t
+    go true = refl
+    go false = refl
 
 module _ (s : List ℕ) where
   pub int-minus : first s ≡ 0x2d → negative_read (drop 1 s) ≡ integer_read s
@@ -234,9 +240,6 @@ module _ (s : List ℕ) where
   pub int-plain : (first s ≡ 0x2d → ⊥) → natural_read s ≡ integer_read s
   unfolding natural_read integer_read is_integer is_signed integer_of
   int-plain e = let t = ne_eqb (first s) 0x2d e in rw (t, fits-pos (number_spelled s))
-
-  pub int-none : length s ≡ 0 → natural_read s ≡ integer_read s
-  int-none e = int-plain (λ h. omega (arith, first-none s e))
 
 -- ---- a text in form is the decimal of its integer
 

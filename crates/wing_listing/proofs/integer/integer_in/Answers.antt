@@ -1,20 +1,18 @@
 -- After a minus sign what `negative_in` says (`int-minus`), else what `natural_in` does (`int-plain`).
-use Prim.Native.Nat.{◌-◌}
-use mathlib.Core.Path.{ap, ◌∙◌}
-use native.Mathlib.Omega.{arith}
-use lib.ListN.{length, drop, length-drop}
-use lib.Seq.{take_all}
+use mathlib.Core.Path.{sym, ap, ◌∙◌}
+use borrow.Author.Tests.{eqb-true, eqb-false}
+use Rattle.wing_listing.specs.Integers.{first}
 use Rattle.wing_listing.specs.Steps.{negative_read}
-use Rattle.wing_listing.proofs.Texts.Numbers.{int-minus, int-plain, int-none}
+use Rattle.wing_listing.proofs.Texts.Numbers.{minus-first, int-minus, int-plain}
 use Rattle.wing_listing.proofs.integer.integer_in.Goals as goal
-use Rattle.wing_listing.proofs.integer.integer_in.Goals.{else-s-gt0-via-then-s-gt0+else-s-eq45, else-s-gt0-via-else-s-gt0}
 
-pub returns-then-s-eq45 : goal.returns-then-s-eq45
-returns-then-s-eq45 c =
+pub returns-in-Some : goal.returns-in-Some
+returns-in-Some c =
     let s = c.args.s.now in
-    c.negative_in.ensures ∙ ap negative_read (take_all (length s - 1) (drop 1 s) (omega (arith, length-drop 1 s))) ∙ int-minus s c.if-s-eq45.true
+    let e = c.in-Some.ensures.cases in
+    c.negative_in.ensures ∙ ap negative_read e.1 ∙ int-minus s (eqb-true (first s) 0x2d (sym (minus-first s) ∙ e.0))
 
-pub returns : goal.returns
-returns c =
+pub returns-in-None : goal.returns-in-None
+returns-in-None c =
     let s = c.args.s.now in
-    c.natural_in.ensures ∙ elim c.else-s-gt0.branch [ else-s-gt0-via-then-s-gt0+else-s-eq45 w ↦ int-plain s w.if-s-eq45.false | else-s-gt0-via-else-s-gt0 w ↦ int-none s (omega arith) ]
+    c.natural_in.ensures ∙ int-plain s (eqb-false (first s) 0x2d (sym (minus-first s) ∙ c.in-None.ensures.cases))
