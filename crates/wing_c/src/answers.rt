@@ -145,7 +145,7 @@ fn written_as(o: Outcome, len: usize) -> WingWritten
     WingWritten {
         status: o.status,
         good: o.good,
-        len: len,
+        len,
     }
 }
 
@@ -164,8 +164,8 @@ fn set_as(o: Outcome, len: usize, count: usize) -> WingSet
     WingSet {
         status: o.status,
         good: o.good,
-        len: len,
-        count: count,
+        len,
+        count,
     }
 }
 
@@ -248,30 +248,30 @@ fn record_of(id: i32, value: Value, origin: u8, string: [u8; 256]) -> WingRecord
     match value {
         Value::Integer(x) => WingRecord {
             status: 0,
-            id: id,
+            id,
             value: x.cast_unsigned(),
             len: 0,
             kind: 0,
-            origin: origin,
-            string: string,
+            origin,
+            string,
         },
         Value::Float(bits) => WingRecord {
             status: 0,
-            id: id,
+            id,
             value: bits,
             len: 0,
             kind: 1,
-            origin: origin,
-            string: string,
+            origin,
+            string,
         },
         Value::String(n) => WingRecord {
             status: 0,
-            id: id,
+            id,
             value: 0,
             len: n,
             kind: 2,
-            origin: origin,
-            string: string,
+            origin,
+            string,
         },
     }
 }
@@ -300,11 +300,11 @@ fn event_of(kind: u8, value: u32, len: u16, node: i32, taken: usize) -> WingEven
     WingEvent {
         status: 1,
         good: 0,
-        node: node,
-        value: value,
-        len: len,
-        kind: kind,
-        taken: taken,
+        node,
+        value,
+        len,
+        kind,
+        taken,
     }
 }
 
@@ -315,11 +315,11 @@ fn without_event(o: Outcome, node: i32, taken: usize) -> WingEvent
     WingEvent {
         status: o.status,
         good: o.good,
-        node: node,
+        node,
         value: 0,
         len: 0,
         kind: 0,
-        taken: taken,
+        taken,
     }
 }
 
@@ -377,8 +377,8 @@ fn loaded_as(o: Outcome, count: usize, line: usize) -> WingLoaded
     WingLoaded {
         status: o.status,
         good: o.good,
-        count: count,
-        line: line,
+        count,
+        line,
     }
 }
 

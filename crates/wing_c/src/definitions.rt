@@ -85,9 +85,9 @@ fn limits(min: u32, max: u32, steps: i32) -> DetailFields
     ensures { result ≡ limits_as min max steps }
 {
     DetailFields {
-        min: min,
-        max: max,
-        steps: steps,
+        min,
+        max,
+        steps,
         count: 0,
         first: 0,
         max_len: 0,
@@ -101,9 +101,9 @@ fn listed(count: u16, first: usize, max_len: u16) -> DetailFields
         min: 0,
         max: 0,
         steps: 0,
-        count: count,
-        first: first,
-        max_len: max_len,
+        count,
+        first,
+        max_len,
     }
 }
 
@@ -193,9 +193,9 @@ fn walk(o: Outcome, at: usize, left: u16, node_type: u8) -> WingWalk
     WingWalk {
         status: o.status,
         good: o.good,
-        left: left,
-        node_type: node_type,
-        at: at,
+        left,
+        node_type,
+        at,
     }
 }
 

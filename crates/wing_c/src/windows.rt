@@ -73,7 +73,7 @@ fn given(w: WingWindow) -> Window
             top: w.top,
             sum: w.sum,
         },
-        levels: levels,
+        levels,
     }
 }
 
@@ -88,7 +88,7 @@ fn kept(w: Window) -> WingWindow
         next: c.next,
         top: c.top,
         sum: c.sum,
-        levels: levels,
+        levels,
     }
 }
 
@@ -97,7 +97,7 @@ fn without_figures(status: i32) -> WingFigures
     ensures { result ≡ no_figures status }
 {
     WingFigures {
-        status: status,
+        status,
         held: 0,
         sum: 0,
         mean: 0,
@@ -159,8 +159,8 @@ fn followed_as(status: i32, rows: usize, w: Window) -> WingFollowed
     ensures { result ≡ followed_as status rows w }
 {
     WingFollowed {
-        status: status,
-        rows: rows,
+        status,
+        rows,
         window: kept(w),
     }
 }

@@ -3,7 +3,6 @@ ghost use Rattle.std.specs.Prelude.{◌≡◌};
 ghost use Rattle.wing_listing.specs.Integers.{no_leading_zero};
 ghost use Rattle.wing_listing.specs.Steps.{number_up_to, natural_read, negative_read, integer_read};
 
-
 // More than any number that fits.
 const TOO_MUCH: u64 = 0x1_0000_0000;
 

@@ -30,7 +30,7 @@ fn fresh(width: u16) -> Window
 {
     Window {
         control: Control {
-            width: width,
+            width,
             held: 0,
             next: 0,
             top: 0,

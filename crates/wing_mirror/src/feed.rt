@@ -25,7 +25,7 @@ fn feed_on(
     ensures { lent_effect result store.new table.new ≡ taken_feed (fed_all full (state_of c store.old) (table_of table.old count) bytes.now) }
 {
     let mut t = Tally {
-        count: count,
+        count,
         counts: zero_counts(),
     };
     let mut i = 0;
@@ -84,7 +84,7 @@ pub fn feed_lent(
         Err(why) => LentFeedReply {
             answer: Err(why),
             control: c,
-            count: count,
+            count,
         },
     }
 }
@@ -100,7 +100,7 @@ pub fn feed(state: State, table: &mut [u8], count: usize, bytes: &[u8]) -> FeedR
         answer: r.answer,
         state: State {
             control: r.control,
-            store: store,
+            store,
         },
         count: r.count,
     }

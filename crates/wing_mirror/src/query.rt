@@ -50,7 +50,7 @@ fn string_read(id: i32, n: u16, payload: &[u8; 256], origin: Origin) -> RecordRe
         id,
         value,
         origin,
-        string: string,
+        string,
     }
 }
 

@@ -23,7 +23,7 @@ fn refused(why: Refusal, count: usize) -> SetReply
 {
     SetReply {
         answer: Err(why),
-        count: count,
+        count,
     }
 }
 

@@ -22,7 +22,7 @@ fn part_of(body: &[u8], from: usize, len: usize) -> Part
 {
     let start = from.min(body.len());
     Part {
-        start: start,
+        start,
         end: start + len.min(body.len() - start),
     }
 }
@@ -75,13 +75,13 @@ fn fields_with(
         node_type: u8::from(node_type),
         unit: u8::from(unit),
         read_only: d.read_only,
-        min_float: min_float,
-        max_float: max_float,
-        min_int: min_int,
-        max_int: max_int,
-        steps: steps,
-        count: count,
-        max_len: max_len,
+        min_float,
+        max_float,
+        min_int,
+        max_int,
+        steps,
+        count,
+        max_len,
     }
 }
 

@@ -77,7 +77,7 @@ fn string_item(body: &[u8], c: Cursor) -> ItemRead
             item: span_of(item),
             long_item: span_of(long_item),
         }),
-        next: next,
+        next,
     }
 }
 
@@ -92,7 +92,7 @@ fn float_item(body: &[u8], c: Cursor) -> ItemRead
             item: item.value,
             long_item: span_of(long_item),
         }),
-        next: next,
+        next,
     }
 }
 
@@ -138,7 +138,7 @@ fn floats(body: &[u8], c: Cursor) -> DetailsRead
             max: max.value,
             steps: steps.value.cast_signed(),
         },
-        next: next,
+        next,
     }
 }
 
@@ -153,7 +153,7 @@ fn integers(body: &[u8], c: Cursor) -> DetailsRead
             min: min.value.cast_signed(),
             max: max.value.cast_signed(),
         },
-        next: next,
+        next,
     }
 }
 
@@ -184,7 +184,7 @@ fn read_details(body: &[u8], kind: NodeType, c: Cursor) -> DetailsRead
             let next = max.next;
             DetailsRead {
                 details: Details::String { max_len: max.value },
-                next: next,
+                next,
             }
         }
         NodeType::Node | NodeType::FaderLevel => DetailsRead {
@@ -223,7 +223,7 @@ pub fn from_bytes(body: &[u8]) -> Result<Definition, Refusal>
         node_type: kind,
         unit: NodeUnit::from(bits % 16),
         read_only: bits / 512 % 2 == 1,
-        details: details,
+        details,
     };
     let next = found.next;
     next.fault?;

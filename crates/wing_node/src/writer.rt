@@ -97,10 +97,7 @@ fn check_item(items: &[u8], kind: NodeType, at: usize) -> Checked
             }
         }
         NodeType::FloatEnum => check_string(items, at + 4),
-        _ => Checked {
-            at: at,
-            fault: Ok(()),
-        },
+        _ => Checked { at, fault: Ok(()) },
     }
 }
 

@@ -31,19 +31,12 @@ fn narrow(token: Token) -> earlier::Token
 {
     match token {
         Token::Between => earlier::Token::Between,
-        Token::Number { class, left, value } => earlier::Token::Number {
-            class: class,
-            left: left,
-            value: value,
-        },
-        Token::String { want, left } => earlier::Token::String {
-            want: want,
-            left: left,
-        },
+        Token::Number { class, left, value } => earlier::Token::Number { class, left, value },
+        Token::String { want, left } => earlier::Token::String { want, left },
         Token::Body { want, left, stored } => earlier::Token::Body {
             want: low_16(want),
             left: low_16(left),
-            stored: stored,
+            stored,
         },
     }
 }
@@ -60,11 +53,11 @@ fn carry(c: Control, bytes: &[u8]) -> Result<State, Refusal>
     lay(&mut store, 0, bytes);
     let s = earlier::State {
         control: earlier::Control {
-            escape: escape,
+            escape,
             node: c.node,
             token: was,
         },
-        store: store,
+        store,
     };
     earlier::carry_over(s)
 }

@@ -63,7 +63,7 @@ fn fields_of(token: Token) -> TokenFields
             kind: 1,
             class: u8::from(class),
             left: u32::from(left),
-            value: value,
+            value,
             ..TokenFields::default()
         },
         Token::String { want, left } => TokenFields {
@@ -74,9 +74,9 @@ fn fields_of(token: Token) -> TokenFields
         },
         Token::Body { want, left, stored } => TokenFields {
             kind: 3,
-            want: want,
-            left: left,
-            stored: stored,
+            want,
+            left,
+            stored,
             ..TokenFields::default()
         },
     }
@@ -221,10 +221,10 @@ fn control_in(s: &[u8]) -> Control
         escape: Escape {
             escaped: s[1] == 1,
             channel: s[2].cast_signed(),
-            pending: pending,
+            pending,
         },
         node: number_at::<i32>(s, 5),
-        token: token,
+        token,
     }
 }
 
@@ -256,10 +256,7 @@ fn load_sound(c: Control, bytes: &[u8]) -> Result<State, Refusal>
 {
     let mut store = [0u8; State::BODY_LIMIT];
     lay(&mut store, 0, bytes);
-    let s = State {
-        control: c,
-        store: store,
-    };
+    let s = State { control: c, store };
     if is_sound(s) {
         return Ok(s);
     }

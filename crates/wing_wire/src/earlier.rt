@@ -46,19 +46,12 @@ fn carried_token(token: Token) -> state::Token
 {
     match token {
         Token::Between => state::Token::Between,
-        Token::Number { class, left, value } => state::Token::Number {
-            class: class,
-            left: left,
-            value: value,
-        },
-        Token::String { want, left } => state::Token::String {
-            want: want,
-            left: left,
-        },
+        Token::Number { class, left, value } => state::Token::Number { class, left, value },
+        Token::String { want, left } => state::Token::String { want, left },
         Token::Body { want, left, stored } => state::Token::Body {
             want: want as u32,
             left: left as u32,
-            stored: stored,
+            stored,
         },
     }
 }
@@ -75,7 +68,7 @@ fn carried_state(s: State) -> state::State
             node: c.node,
             token: carried_token(c.token),
         },
-        store: store,
+        store,
     }
 }
 

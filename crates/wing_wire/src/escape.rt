@@ -32,9 +32,9 @@ fn escape_of(escaped: bool, channel: i8, pending: Option<u8>) -> Escape
     ensures { result ≡ escape escaped channel pending }
 {
     Escape {
-        escaped: escaped,
-        channel: channel,
-        pending: pending,
+        escaped,
+        channel,
+        pending,
     }
 }
 
@@ -68,10 +68,7 @@ fn other(e: Escape, b: u8) -> Decoded
 fn decoded_of(e: Escape, unit: Unit) -> Decoded
     ensures { result ≡ decoded e unit }
 {
-    Decoded {
-        escape: e,
-        unit: unit,
-    }
+    Decoded { escape: e, unit }
 }
 
 #[tactic(auto, unfolding(crate::specs::Escape::escaped_of))]
@@ -136,7 +133,7 @@ pub fn decode_next(e: Escape, bytes: &[u8], at: usize) -> NextUnit
             NextUnit {
                 escape: e,
                 unit: Unit::Nothing,
-                at: at,
+                at,
             }
         }
         Some(u) => {
@@ -144,7 +141,7 @@ pub fn decode_next(e: Escape, bytes: &[u8], at: usize) -> NextUnit
             NextUnit {
                 escape: after,
                 unit: Unit::Appended(u),
-                at: at,
+                at,
             }
         }
     }

@@ -34,15 +34,12 @@ fn next_parted(s: State, bytes: &[u8]) -> Parted
     let string = r.string;
     let body = r.body;
     let reply = LentReply {
-        answer: answer,
+        answer,
         taken: r.taken,
-        string: string,
-        body: body,
+        string,
+        body,
     };
-    Parted {
-        state: state,
-        reply: reply,
-    }
+    Parted { state, reply }
 }
 
 // Refused calls (8, 14) leave the state as it was: next_of says so of the state at exit.
@@ -60,8 +57,5 @@ pub fn next_over(s: State, bytes: &[u8]) -> Parted
 {
     let mut state = s;
     let reply = next_lent(&mut state, bytes);
-    Parted {
-        state: state,
-        reply: reply,
-    }
+    Parted { state, reply }
 }

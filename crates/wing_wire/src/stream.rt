@@ -125,7 +125,7 @@ fn number_ahead(class: Class, left: u16, value: u32, bytes: &[u8], at: usize) ->
     }
     TokenAt {
         token: Token::Number {
-            class: class,
+            class,
             left: l,
             value: v,
         },
@@ -145,10 +145,7 @@ fn string_ahead(want: u16, left: u16, store: &mut [u8], bytes: &[u8], at: usize)
         i += 1;
     }
     TokenAt {
-        token: Token::String {
-            want: want,
-            left: l,
-        },
+        token: Token::String { want, left: l },
         at: i,
     }
 }
@@ -160,10 +157,7 @@ fn token_ahead(token: Token, store: &mut [u8], bytes: &[u8], at: usize) -> Token
     match token {
         Token::Number { class, left, value } => number_ahead(class, left, value, bytes, at),
         Token::String { want, left } => string_ahead(want, left, store, bytes, at),
-        _ => TokenAt {
-            token: token,
-            at: at,
-        },
+        _ => TokenAt { token, at },
     }
 }
 

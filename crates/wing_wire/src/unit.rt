@@ -31,9 +31,9 @@ fn taken_of(answer: Answer, node: i32, token: Token) -> Taken
     ensures { result ≡ taken answer node token }
 {
     Taken {
-        answer: answer,
-        node: node,
-        token: token,
+        answer,
+        node,
+        token,
     }
 }
 
@@ -76,7 +76,7 @@ fn token_of(class: Class, wants: u16) -> Token
         };
     }
     Token::Number {
-        class: class,
+        class,
         left: wants,
         value: 0,
     }
@@ -183,9 +183,9 @@ fn number_unit(node: i32, class: Class, left: u16, v: u32, u: u8) -> Taken
         Answer::More,
         node,
         Token::Number {
-            class: class,
+            class,
             left: left - 1,
-            value: value,
+            value,
         },
     )
 }
@@ -231,7 +231,7 @@ fn string_unit(node: i32, want: u16, left: u16, store: &mut [u8], u: u8) -> Take
         Answer::More,
         node,
         Token::String {
-            want: want,
+            want,
             left: left - 1,
         },
     )
@@ -265,9 +265,9 @@ fn body_next(node: i32, want: u32, left: u32, stored: u16) -> Taken
         Answer::More,
         node,
         Token::Body {
-            want: want,
+            want,
             left: left - 1,
-            stored: stored,
+            stored,
         },
     )
 }
