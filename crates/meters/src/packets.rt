@@ -94,6 +94,7 @@ pub fn by_id(alloc: Global, input: &[u8]) -> Result<Vec<Row>, Complaint> {
     let mut readings = [0i16; STRIPS];
     let mut rest = input;
     let mut packet = 0usize;
+    // A while, since a for over the most packets would bound what the input alone bounds.
     while !rest.is_empty() {
         packet = packet.saturating_add(1);
         let (bytes, after) = split(rest, packet)?;

@@ -13,6 +13,7 @@ pub struct BadLine {
 pub type Loaded = Result<usize, BadLine>;
 
 // The answer with a fresh decoder state, to go on with if the table was loaded; beside a refusal the mirror's own is as it was.
+// The state stands beside the Result, as what a load says of it on a refusal too may not change.
 #[derive(Clone, Copy)]
 pub struct LoadReply {
     pub answer: Loaded,

@@ -75,6 +75,7 @@ fn good_from(s: &[u8], from: usize) -> usize
     ensures { result ≡ from + good (drop from s.now) }
 {
     let mut i = from;
+    // A while, as a turn goes on by a whole character.
     while i < s.len() {
         // ASCII is passed without a call.
         if s[i] < 0x80 {
@@ -107,6 +108,7 @@ pub fn good_len(s: &[u8]) -> usize
 {
     // ASCII at the front, often the whole, is passed four bytes at a time.
     let mut i = 0;
+    // A while, as a turn goes on by four bytes.
     while ascii_4(s, i) {
         i += 4;
     }

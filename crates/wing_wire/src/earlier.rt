@@ -8,7 +8,7 @@ use crate::state::{Escape, is_sound};
 use crate::token::Class;
 use wing_node::refusal::Refusal;
 
-// The token in progress, as it was.
+// The token in progress, as it was: a type of its own, since version 1's form may not change with today's.
 #[derive(Clone, Copy)]
 pub enum Token {
     Between,

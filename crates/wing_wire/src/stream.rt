@@ -118,6 +118,7 @@ fn number_ahead(class: Class, left: u16, value: u32, bytes: &[u8], at: usize) ->
     let mut l = left;
     let mut v = value;
     let mut i = at;
+    // A while, since the place is handed in and handed back.
     while i < bytes.len() && is_inner(l, bytes[i]) {
         v = shift_in(v, bytes[i]);
         l -= 1;
@@ -139,6 +140,7 @@ fn string_ahead(want: u16, left: u16, store: &mut [u8], bytes: &[u8], at: usize)
 {
     let mut l = left;
     let mut i = at;
+    // A while, since the place is handed in and handed back.
     while i < bytes.len() && is_inner(l, bytes[i]) {
         put(store, collected(want, l), bytes[i]);
         l -= 1;
@@ -224,6 +226,7 @@ pub fn advance(c: Control, store: &mut [u8], bytes: &[u8]) -> Advanced
         control: c,
     };
     let mut i = 0;
+    // A while, since a turn may take one byte or many, or none at the end.
     while is_on(t, i, bytes.len()) {
         let g = step(t.control, store, bytes, i);
         t = g.answered;

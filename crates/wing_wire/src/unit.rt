@@ -8,6 +8,7 @@ use wing_node::refusal::{Refusal, string_fault};
 
 // What reading gives: 01's events, a refusal, or that more bytes are wanted.
 // A string's or a body's bytes stand at the front of the store, or of the array beside the answer.
+// One enum and no Result of an Option, since a reader goes on after each of them, a refusal too: 1 to 3 are answers, not failures.
 #[derive(Clone, Copy)]
 pub enum Answer {
     More,
