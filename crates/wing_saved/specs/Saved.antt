@@ -6,7 +6,7 @@ use Rattle.wing_node.specs.Result.{Result, ok, refused}
 use Rattle.wing_node.specs.Field.{bytes_of, field_at}
 use Rattle.wing_node.specs.Signed.{signed, unsigned}
 use Rattle.wing_wire.specs.Token.{classes, class_number}
-use Rattle.wing_wire.specs.State.{body_limit, escape, control, state_of, sound_state, fresh_control, fresh_state}
+use Rattle.wing_wire.specs.State.{body_limit, escape, control, state_of, sound_state}
 use Rattle.wing_wire.specs.Write.{WriteEffect, write_effect, write_of}
 use Rattle.wing_wire.specs.Range.{AreBytes, InRange}
 use Rattle.wing_wire.specs.declared.token.Class.{Class}

@@ -28,7 +28,7 @@ answered s out k e f = rw (e, f)
 
 -- an i32 has at most ten digits
 pub few : (x : ℤ) → SFits w32 x → (n k : ℕ) → n ≡ nat_abs x → k ≡ length (digits n) → k ≤ 10
-few x f n k e l = omega (arith, magnitude-fits w32 refl x f, length_digits 9 n (omega (arith, magnitude-fits w32 refl x f)))
+few x f n k e l = omega (arith, magnitude-fits w32 x f, length_digits 9 n (omega (arith, magnitude-fits w32 x f)))
 
 -- the decimal of x, by the last k digits of its magnitude n, which has as many
 at_least : (x : ℤ) → lt_z x (pos 0) ≡ false → digits (nat_abs x) ≡ decimal x

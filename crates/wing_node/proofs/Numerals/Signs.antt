@@ -1,13 +1,13 @@
 -- Two's complement, at any width: what the conversions need, and that they undo each other.
-use mathlib.Core.Path.{◌≡◌, refl, ◌∙◌, ap, subst}
+use mathlib.Core.Path.{◌≡◌, refl, ◌∙◌, ap}
 use mathlib.Core.Bool.{Bool, true, false}
 use Prim.Native.Nat.{ℕ, suc, ◌+◌, ◌-◌, ◌≤◌, ◌<◌, ◌^◌}
 use native.Mathlib.Omega.{arith}
 use native.Mathlib.Nat.{pow-suc}
 use native.Mathlib.Numerals.{add-one}
-use lib.Dec.{T, ltb}
+use lib.Dec.{ltb}
 use lib.IntN.{ℤ, pos, negsuc, nat_abs}
-use lib.Signed.{mag, lt_z, non_neg}
+use lib.Signed.{mag}
 use borrow.Author.Tests.{lt-ltb, le-ltb, ltb-true, ltb-false}
 use mir.Syntax.{Width}
 use mir.Val.{bits, hbits, to_z, of_z, sel, SFits}
@@ -32,45 +32,13 @@ module _ (w : Width) (wide : bits w ≡ hbits w + 1) where
   writes (pos n) = refl
   writes (negsuc n) = ap (λ (m : ℕ). 2 ^ m - suc n) wide
 
-module _ (w : Width) (double : 2 ^ bits w ≡ 2 ^ hbits w + 2 ^ hbits w) (x : ℤ) (fits : SFits w x) where
-  -- the bits of a number below 0, turned over, are those of its magnitude
-  pub complement : lt_z x (pos 0) ≡ true → to_z w (2 ^ bits w - 1 - of_z w x) ≡ pos (mag x)
-  complement t = go x fits.sfits t
-    where
-      go : (y : ℤ) → mag y < 2 ^ hbits w → lt_z y (pos 0) ≡ true → to_z w (2 ^ bits w - 1 - of_z w y) ≡ pos (mag y)
-      go (pos n) f t = let h : n < 0 = ltb-true n 0 t in absurd (omega arith)
-      go (negsuc n) f t =
-          let e : 2 ^ bits w - 1 - (2 ^ bits w - suc n) ≡ n = omega arith in
-          rw e (simp (lt-ltb n (2 ^ hbits w) f))
-
-  pub bits_below : bits w ≡ hbits w + 1 → lt_z x (pos 0) ≡ true → 2 ^ bits w - 1 - mag x ≡ unsigned (hbits w) x
-  bits_below wide t = go x fits.sfits t
-    where
-      go : (y : ℤ) → mag y < 2 ^ hbits w → lt_z y (pos 0) ≡ true → 2 ^ bits w - 1 - mag y ≡ unsigned (hbits w) y
-      go (pos n) f t = let h : n < 0 = ltb-true n 0 t in absurd (omega arith)
-      go (negsuc n) f t = rw (← wide) (omega arith)
-
-  pub bits_above : lt_z x (pos 0) ≡ false → T (non_neg x) × (nat_abs x ≡ unsigned (hbits w) x) × (nat_abs x < 2 ^ bits w)
-  bits_above t = go x fits.sfits t
-    where
-      go : (y : ℤ) → mag y < 2 ^ hbits w → lt_z y (pos 0) ≡ false → T (non_neg y) × (nat_abs y ≡ unsigned (hbits w) y) × (nat_abs y < 2 ^ bits w)
-      go (pos n) f t = (tt, refl, omega arith)
-      go (negsuc n) f t = absurd (subst T t tt)
-
-  -- the magnitude of a number, by its bits
-  pub below-zero : lt_z x (pos 0) ≡ true → mag x + 1 ≡ nat_abs x
-  below-zero t = go x t
-    where
-      go : (y : ℤ) → lt_z y (pos 0) ≡ true → mag y + 1 ≡ nat_abs y
-      go (pos n) t = let h : n < 0 = ltb-true n 0 t in absurd (omega arith)
-      go (negsuc n) t = omega arith
-
-  pub magnitude-fits : nat_abs x ≤ 2 ^ hbits w
-  magnitude-fits = go x fits.sfits
-    where
-      go : (y : ℤ) → mag y < 2 ^ hbits w → nat_abs y ≤ 2 ^ hbits w
-      go (pos n) f = omega arith
-      go (negsuc n) f = omega arith
+-- the magnitude of a number is within its bits
+pub magnitude-fits : (w : Width) (x : ℤ) → SFits w x → nat_abs x ≤ 2 ^ hbits w
+magnitude-fits w x fits = go x fits.sfits
+  where
+    go : (y : ℤ) → mag y < 2 ^ hbits w → nat_abs y ≤ 2 ^ hbits w
+    go (pos n) f = omega arith
+    go (negsuc n) f = omega arith
 
 doubled : (k : ℕ) → 2 ^ (k + 1) ≡ 2 ^ k + 2 ^ k
 doubled k = rw (add-one k, pow-suc) (omega arith)

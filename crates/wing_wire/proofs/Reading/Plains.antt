@@ -14,7 +14,7 @@ use Rattle.wing_wire.specs.State.{escape, control}
 use Rattle.wing_wire.specs.Escape.{decode_of, plain_of, byte_next, pending_next, decode_next_of}
 use Rattle.wing_wire.specs.Unit.{unit_effect, awaits, shift_in, number_unit, string_unit, unit_of}
 use Rattle.wing_wire.specs.Stream.{answered, StepEffect, step_effect, no_answer, is_more, after_unit, settle_of, given_of, first_of, follow_of, step_of, Run, run_of}
-use Rattle.wing_wire.specs.Plain.{is_pending, is_nothing, is_appended, value_of, is_inner, token_at, number_ahead, AheadEffect, ahead_effect, string_ahead, token_ahead, is_plain, is_free, SteppedEffect, stepped_effect, ahead_of, on_ahead, once_of, is_on}
+use Rattle.wing_wire.specs.Plain.{is_pending, is_inner, token_at, number_ahead, AheadEffect, ahead_effect, string_ahead, token_ahead, is_plain, is_free, SteppedEffect, stepped_effect, ahead_of, on_ahead, once_of, is_on}
 use Rattle.wing_wire.specs.Units.{pending_count}
 use Rattle.wing_wire.specs.declared.token.Class.{Class}
 use Rattle.wing_wire.specs.declared.state.Escape.{Escape}
@@ -33,16 +33,6 @@ use Rattle.wing_wire.proofs.Reading.Inners.{inner-left, inner-byte}
 use Rattle.std.specs.Prelude.{Option, ℕ, None, Some}
 
 -- ---- a unit, if there is one
-
-pub given_nothing : (u : Unit) (e : Escape) (c : Control) (s : List ℕ) → is_nothing u ≡ true → given_of u e c s ≡ no_answer (control e c.node c.token) s
-given_nothing Nothing e c s p = refl
-given_nothing (Bare u) e c s p = absurd (clash p refl)
-given_nothing (Appended u) e c s p = absurd (clash p refl)
-
-pub given-some : (u : Unit) (e : Escape) (c : Control) (s : List ℕ) → is_nothing u ≡ false → given_of u e c s ≡ after_unit e (unit_of c.node c.token s (value_of u) (is_appended u))
-given-some Nothing e c s p = absurd (clash refl p)
-given-some (Bare u) e c s p = refl
-given-some (Appended u) e c s p = refl
 
 -- a unit leaves the escapes that come with it
 given-escape : (u : Unit) (e : Escape) (c : Control) (s : List ℕ) → (given_of u e c s).answered.control.escape ≡ e

@@ -3,7 +3,7 @@ use mathlib.Core.Path.{sym, refl, ◌∙◌, ap}
 use Prim.Native.Nat.{◌-◌, ◌≤◌}
 use native.Mathlib.Omega.{arith}
 use lib.ListN.{length}
-use Rattle.wing_node.specs.Cursor.{stopped, nothing, number, size, right, value_of, content_at, short_of}
+use Rattle.wing_node.specs.Cursor.{number, size, right, value_of, content_at, short_of}
 use Rattle.wing_node.proofs.Numerals.Placed.{field-whole}
 use Rattle.wing_node.proofs.Bodies.Cases.{read-refused, read_short, read-there}
 use Rattle.wing_node.proofs.cursor.read_16.Goals as goal

@@ -1,9 +1,9 @@
 -- Each return is a case of `read_at` (`read-refused`, `read_short`, `read-there`), and the number is what `number_at` says of a whole field.
-use mathlib.Core.Path.{sym, refl, ap, ◌∙◌}
+use mathlib.Core.Path.{sym, refl, ◌∙◌}
 use Prim.Native.Nat.{◌-◌, ◌≤◌}
 use native.Mathlib.Omega.{arith}
 use lib.ListN.{length}
-use Rattle.wing_node.specs.Cursor.{stopped, nothing, number, size, right, value_of, content_at}
+use Rattle.wing_node.specs.Cursor.{number, size, right, value_of, content_at}
 use Rattle.wing_node.proofs.Numerals.Placed.{field-whole}
 use Rattle.wing_node.proofs.Bodies.Cases.{read-refused, read_short, read-there}
 use Rattle.wing_node.proofs.cursor.read_32.Goals as goal

@@ -1,10 +1,10 @@
 -- Each return is a case of `read_at`: refused before (`read-refused`), no length byte or too few bytes (`string-short`), not all good
 -- (`string-wrong`), or all good (`string-right`).
-use mathlib.Core.Path.{◌≡◌, sym, ap, ◌∙◌}
+use mathlib.Core.Path.{◌≡◌, sym, ◌∙◌}
 use Prim.Native.Nat.{◌-◌, ◌+◌}
 use native.Mathlib.Omega.{arith}
 use lib.ListN.{get_or}
-use Rattle.wing_node.specs.Cursor.{stopped, nothing, string}
+use Rattle.wing_node.specs.Cursor.{string}
 use Rattle.wing_node.proofs.Bodies.Cases.{read-refused, string-short, string-wrong, string-right}
 use Rattle.wing_node.proofs.cursor.read_string.Goals as goal
 

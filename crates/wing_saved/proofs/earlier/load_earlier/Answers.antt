@@ -1,12 +1,11 @@
 -- The bytes have a control under version 1 where `head_under` gives one (`begun`), and no old state where it gives none; then the state is that of `carry`.
 use Prim.Native.Nat.{◌-◌}
-use mathlib.Core.Bool.{true, false}
-use mathlib.Core.Path.{◌≡◌, sym, ap, ◌∙◌}
+use mathlib.Core.Path.{◌≡◌, sym, ◌∙◌}
 use native.Mathlib.Omega.{arith}
 use lib.ListN.{length, drop, length-drop}
 use lib.Seq.{take_all}
 use Rattle.wing_node.proofs.Refusals.{handed-on}
-use Rattle.wing_saved.specs.Earlier.{is_narrow, earlier_with, earlier_from, carried_from, load_earlier_of}
+use Rattle.wing_saved.specs.Earlier.{earlier_with, earlier_from, carried_from, load_earlier_of}
 use Rattle.wing_saved.proofs.Saving.Trips.{begun}
 use borrow.Author.Rules.{rules}
 use Rattle.wing_saved.proofs.earlier.load_earlier.Goals as goal
