@@ -1,5 +1,5 @@
 -- 01's number and values for each case of the mirror's answers.
-use Rattle.std.specs.Prelude.{ℕ, Bool, true, false, List, Ok, Some, Option, None, Err}
+use Rattle.std.specs.Prelude.{ℕ, Ok, Some, Option, None, Err}
 use Rattle.wing_node.specs.Result.{Result}
 use Rattle.wing_node.specs.Value.{node_value}
 use Rattle.wing_mirror.specs.Rows.{Found, found, nothing}

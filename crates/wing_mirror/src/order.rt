@@ -1,14 +1,13 @@
-// Where a key stands in a table whose keys rise: the id is the first four bytes of a record.
+// Where a key stands in a table whose keys rise. Records of any width, the id their first four bytes.
 ghost use Rattle.std.specs.Prelude.{◌≡◌, ◌+◌, ◌*◌, ◌/◌, ◌≤◌, ◌<◌, length};
 ghost use Rattle.wing_mirror.specs.Rows.{row as row_of, records, next_above};
-ghost use Rattle.wing_mirror.specs.Record.{width, key_of};
+ghost use Rattle.wing_mirror.specs.Record.{key_of};
 ghost use Rattle.wing_mirror.specs.Table.{table as table_of};
 ghost use Rattle.wing_mirror.specs.Order.{position_of, InOrder};
 ghost use Rattle.wing_mirror.specs.HighEnd.{counted_of};
 
 use crate::record;
 use crate::table::row;
-use wing_wire::state::State;
 
 // Where a key is, or where it belongs: how many records have a lower one. And how many keys were read to find it.
 #[derive(Clone, Copy)]
@@ -17,28 +16,29 @@ pub struct Counted {
     pub reads: usize,
 }
 
-// The places of a buffer.
-pub(crate) fn places_of(table: &[u8]) -> usize
-    ensures { result ≡ length table.now / width }
+// The places of a buffer for records of a width.
+pub(crate) fn places_of<const W: usize>(table: &[u8]) -> usize
+    requires { 1 ≤ W }
+    ensures { result ≡ length table.now / W }
 {
-    table.len() / State::PLACE_WIDTH
+    table.len() / W
 }
 
 // Where the record of a number stands in the order.
-fn key_at(table: &[u8], number: usize) -> u32
-    requires { width * number + width ≤ length table.now }
-    ensures { result ≡ key_of (row_of width number table.now) }
+fn key_at<const W: usize>(table: &[u8], number: usize) -> u32
+    requires { (4 ≤ W) × (W * number + W ≤ length table.now) }
+    ensures { result ≡ key_of (row_of W number table.now) }
 {
-    record::key(row(table, number))
+    record::key::<W>(row(table, number))
 }
 
 // 02: from the high end, down to the first key that is not above `key`, and how many keys are read: where ids come in rising order, at most one.
-fn search_down(table: &[u8], count: usize, key: u32) -> Counted
-    requires { InOrder width (table_of table.now count) }
-    ensures { result ≡ counted_of key_of key (records width count table.now) }
+fn search_down<const W: usize>(table: &[u8], count: usize, key: u32) -> Counted
+    requires { InOrder W (table_of table.now count) }
+    ensures { result ≡ counted_of key_of key (records W count table.now) }
 {
     for number in (0..count).rev() {
-        let last = key_at(table, number);
+        let last = key_at::<W>(table, number);
         if last == key {
             return Counted {
                 position: Ok(number),
@@ -58,18 +58,18 @@ fn search_down(table: &[u8], count: usize, key: u32) -> Counted
 }
 
 // Where a key stands; callers have no use for the count.
-pub(crate) fn search(table: &[u8], count: usize, key: u32) -> Result<usize, usize>
-    requires { InOrder width (table_of table.now count) }
-    ensures { result ≡ position_of key_of key (records width count table.now) }
+pub(crate) fn search<const W: usize>(table: &[u8], count: usize, key: u32) -> Result<usize, usize>
+    requires { InOrder W (table_of table.now count) }
+    ensures { result ≡ position_of key_of key (records W count table.now) }
 {
-    search_down(table, count, key).position
+    search_down::<W>(table, count, key).position
 }
 
 // The record after that of a number, if there is one, has a higher key.
 #[tactic(auto, unfolding(crate::specs::Rows::next_above))]
-pub(crate) fn is_below_next(table: &[u8], count: usize, number: usize) -> bool
-    requires { (width * count ≤ length table.now) × (number < count) }
-    ensures { result ≡ next_above width key_of table.now count number }
+pub(crate) fn is_below_next<const W: usize>(table: &[u8], count: usize, number: usize) -> bool
+    requires { (4 ≤ W) × (W * count ≤ length table.now) × (number < count) }
+    ensures { result ≡ next_above W key_of table.now count number }
 {
-    count <= number + 1 || key_at(table, number) < key_at(table, number + 1)
+    count <= number + 1 || key_at::<W>(table, number) < key_at::<W>(table, number + 1)
 }

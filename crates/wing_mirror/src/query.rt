@@ -18,11 +18,11 @@ use wing_node::refusal::Refusal;
 use wing_node::value::Value;
 use wing_wire::state::State;
 
-fn number_of(table: &[u8], count: usize, key: u32) -> Result<Option<usize>, Refusal>
-    requires { InOrder width (table_of table.now count) }
-    ensures { result ≡ answer_of (number_of key_of key (records width count table.now)) }
+fn number_of<const W: usize>(table: &[u8], count: usize, key: u32) -> Result<Option<usize>, Refusal>
+    requires { InOrder W (table_of table.now count) }
+    ensures { result ≡ answer_of (number_of key_of key (records W count table.now)) }
 {
-    match search(table, count, key) {
+    match search::<W>(table, count, key) {
         Ok(number) => Ok(Some(number)),
         Err(_) => Ok(None),
     }
@@ -33,7 +33,7 @@ pub fn lookup(table: &[u8], count: usize, id: i32) -> Result<Option<usize>, Refu
     ensures { result ≡ lookup_answer full (table_of table.now count) id }
 {
     if is_usable(table, count) {
-        return number_of(table, count, rank(id));
+        return number_of::<{ State::PLACE_WIDTH }>(table, count, rank(id));
     }
     Err(Refusal::TableUnsound)
 }

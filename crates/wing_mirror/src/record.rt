@@ -32,7 +32,8 @@ pub(crate) fn rank(id: i32) -> u32
 }
 
 // Where a record stands in the order: its id is its first four bytes.
-pub(crate) fn key(rec: &Record) -> u32
+pub(crate) fn key<const W: usize>(rec: &[u8; W]) -> u32
+    requires { 4 ≤ W }
     ensures { result ≡ key_of rec.now }
 {
     flip(number_at::<u32>(rec, 0))

@@ -12,13 +12,13 @@ use wing_wire::state::State;
 pub fn places(table: &[u8]) -> usize
     ensures { result ≡ length table.now / width }
 {
-    places_of(table)
+    places_of::<{ State::PLACE_WIDTH }>(table)
 }
 
 // The record of a number.
-pub(crate) fn row(table: &[u8], number: usize) -> &[u8; State::PLACE_WIDTH]
-    requires { width * number + width ≤ length table.now }
-    ensures { result.now ≡ row_of width number table.now }
+pub(crate) fn row<const W: usize>(table: &[u8], number: usize) -> &[u8; W]
+    requires { (1 ≤ W) × (W * number + W ≤ length table.now) }
+    ensures { result.now ≡ row_of W number table.now }
 {
     &table.as_chunks().0[number]
 }
@@ -37,7 +37,8 @@ fn passes(table: &[u8], count: usize, number: usize) -> bool
     requires { (width * count ≤ length table.now) × (number < count) }
     ensures { result ≡ passes_at width key_of well_formed table.now count number }
 {
-    record::well_formed(row(table, number)) && is_below_next(table, count, number)
+    record::well_formed(row(table, number))
+        && is_below_next::<{ State::PLACE_WIDTH }>(table, count, number)
 }
 
 // The records have their form and order.

@@ -2,6 +2,7 @@
 -- (`put-kept`).
 use mathlib.Core.Path.{refl, ◌∙◌, ap}
 use mathlib.Core.Bool.{true, false}
+use native.Mathlib.Omega.{arith}
 use lib.IntN.{ℤ}
 use mir.Facts.{to_z-of_z}
 use Rattle.wing_node.specs.Value.{node_value}
@@ -17,7 +18,7 @@ use Rattle.wing_mirror.proofs.keep.keep_value.Goals as goal
 
 pub put-requires : goal.put-requires
 put-requires c =
-    in_order_lem (table c.args.table.now c.args.t.now.count) c.requires.0
+    (omega arith, in_order_lem (table c.args.table.now c.args.t.now.count) c.requires.0)
 
 pub returns-in-Some : goal.returns-in-Some
 returns-in-Some c =

@@ -4,4 +4,4 @@ use Rattle.wing_mirror.specs.Record.{key_of}
 use Rattle.wing_mirror.proofs.order.key_at.Goals as goal
 
 pub returns : goal.returns
-returns c = c.key.ensures ∙ ap key_of c.row.ensures
+returns g c = c.key.ensures ∙ ap key_of c.row.ensures

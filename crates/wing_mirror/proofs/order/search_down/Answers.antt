@@ -13,46 +13,46 @@ use Rattle.wing_mirror.proofs.Tables.HighEnd.{counted_from, from-none, goes_down
 use Rattle.wing_mirror.proofs.order.search_down.Goals as goal
 
 pub loop-number-init : goal.loop-number-init
-loop-number-init c =
+loop-number-init g c =
     let z : c.args.count - c.args.count ≡ 0 = omega arith in
-    (from-none key_of c.args.key (records 264 c.args.count c.args.table.now) ∙ ap (λ (n : ℕ). counted_from n key_of c.args.key (records 264 c.args.count c.args.table.now)) (sym z), c.requires.up)
+    (from-none key_of c.args.key (records g.row.W c.args.count c.args.table.now) ∙ ap (λ (n : ℕ). counted_from n key_of c.args.key (records g.row.W c.args.count c.args.table.now)) (sym z), c.requires.up)
 
 pub key_at-last-requires : goal.key_at-last-requires
-key_at-last-requires c =
+key_at-last-requires g c =
     let a = c.args in
-    row_fits 264 _ a.count _ (omega arith) c.requires.room
+    (c.requires.wide, row_fits g.row.W _ a.count _ (omega arith) c.requires.room)
 
 pub returns-then-last-key : goal.returns-then-last-key
-returns-then-last-key c =
+returns-then-last-key g c =
     let a = c.args in
     let l = c.loop-number in
     let n : a.count - (l.number - 1) ≡ a.count - l.number + 1 = omega arith in
-    rw n (sym (l.invariant.0 ∙ stops-there 264 key_of a.key l.number (a.count - l.number) a.table.now c.loop-number-test.true l.invariant.1 (sym c.key_at-last.ensures ∙ c.if-last-key.true)))
+    rw n (sym (l.invariant.0 ∙ stops-there g.row.W key_of a.key l.number (a.count - l.number) a.table.now c.loop-number-test.true l.invariant.1 (sym c.key_at-last.ensures ∙ c.if-last-key.true)))
 
 pub returns-then-last-key-2 : goal.returns-then-last-key-2
-returns-then-last-key-2 c =
+returns-then-last-key-2 g c =
     let a = c.args in
     let l = c.loop-number in
     let h : c.key_at-last.result < a.key = omega arith in
     let e : l.number - 1 + 1 ≡ l.number = omega arith in
     let n : a.count - (l.number - 1) ≡ a.count - l.number + 1 = omega arith in
-    rw (e, n) (sym (l.invariant.0 ∙ stops-below 264 key_of a.key l.number (a.count - l.number) a.table.now c.loop-number-test.true l.invariant.1 (rw c.key_at-last.ensures at h)))
+    rw (e, n) (sym (l.invariant.0 ∙ stops-below g.row.W key_of a.key l.number (a.count - l.number) a.table.now c.loop-number-test.true l.invariant.1 (rw c.key_at-last.ensures at h)))
 
 pub loop-number-preserved : goal.loop-number-preserved
-loop-number-preserved c =
+loop-number-preserved g c =
     let a = c.args in
     let l = c.loop-number in
     let some = c.loop-number-test.true in
     let h : a.key < c.key_at-last.result = grind (arith, c.if-last-key.false) in
     let n : a.count - (l.number - 1) ≡ a.count - l.number + 1 = omega arith in (
-      rw n (l.invariant.0 ∙ goes_down 264 key_of a.key l.number (a.count - l.number) a.table.now some (rw c.key_at-last.ensures at h)),
-      fewer 264 key_of a.key l.number a.table.now some l.invariant.1,
+      rw n (l.invariant.0 ∙ goes_down g.row.W key_of a.key l.number (a.count - l.number) a.table.now some (rw c.key_at-last.ensures at h)),
+      fewer g.row.W key_of a.key l.number a.table.now some l.invariant.1,
     )
 
 pub returns : goal.returns
-returns c =
+returns g c =
     let a = c.args in
     let l = c.loop-number in
     let z : 0 ≡ l.number = omega arith in
     let n : a.count ≡ a.count - l.number = omega arith in
-    ap₂ {C = Counted} (λ (m : ℕ) (reads : ℕ). record { position = Err m; reads = reads }) z n ∙ sym (l.invariant.0 ∙ stops-under 264 key_of a.key l.number (a.count - l.number) a.table.now c.loop-number-test.false)
+    ap₂ {C = Counted} (λ (m : ℕ) (reads : ℕ). record { position = Err m; reads = reads }) z n ∙ sym (l.invariant.0 ∙ stops-under g.row.W key_of a.key l.number (a.count - l.number) a.table.now c.loop-number-test.false)

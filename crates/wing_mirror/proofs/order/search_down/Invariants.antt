@@ -8,6 +8,6 @@ use Rattle.wing_mirror.proofs.Tables.HighEnd.{counted_from}
 use Rattle.wing_mirror.proofs.order.search_down.Given as goal
 
 abbrev pub invariant-loop-number : goal.invariant-loop-number
-invariant-loop-number l =
-    (counted_of key_of l.key (records 264 l.count l.table) ≡ counted_from (l.count - l.number) key_of l.key (records 264 l.number l.table)) ×
-    (rising key_of (records 264 l.number l.table) ≡ true)
+invariant-loop-number g l =
+    (counted_of key_of l.key (records g.row.W l.count l.table) ≡ counted_from (l.count - l.number) key_of l.key (records g.row.W l.number l.table)) ×
+    (rising key_of (records g.row.W l.number l.table) ≡ true)

@@ -6,8 +6,8 @@ use Rattle.wing_mirror.proofs.query.number_of.Goals as goal
 
 pub returns-in-Ok : goal.returns-in-Ok
 unfolding number_of answer_of
-returns-in-Ok c = let p = position-ok _ _ _ c.in-Ok.ensures in rw (p.1, p.0)
+returns-in-Ok g c = let p = position-ok _ _ _ c.in-Ok.ensures in rw (p.1, p.0)
 
 pub returns-in-Err : goal.returns-in-Err
 unfolding number_of answer_of
-returns-in-Err c = let p = position-err _ _ _ c.in-Err.ensures in rw p.1
+returns-in-Err g c = let p = position-err _ _ _ c.in-Err.ensures in rw p.1

@@ -8,4 +8,4 @@ use Rattle.wing_mirror.proofs.record.key.Goals as goal
 
 pub returns : goal.returns
 unfolding key_of
-returns c = c.flip.ensures ∙ ap flipped (c.number_at.ensures ∙ field-whole 4 c.args.rec.now 0 (omega arith))
+returns g c = c.flip.ensures ∙ ap flipped (c.number_at.ensures ∙ field-whole 4 c.args.rec.now 0 (omega arith))

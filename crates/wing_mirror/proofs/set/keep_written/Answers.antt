@@ -4,6 +4,7 @@ use Rattle.wing_mirror.specs.Puts.{PutEffect}
 use Rattle.wing_mirror.specs.Table.{table}
 use Rattle.wing_mirror.proofs.Records.Ready.{in_order_lem, put_is, effect-count}
 use mathlib.Core.Path.{◌≡◌, ◌∙◌, ap}
+use native.Mathlib.Omega.{arith}
 use borrow.Author.Rules.{rules}
 use Rattle.std.specs.Option.{unwrap_or}
 use Rattle.wing_mirror.specs.Rows.{Table}
@@ -12,7 +13,7 @@ use Rattle.std.specs.Prelude.{Ok}
 
 pub put-requires : goal.put-requires
 put-requires c =
-    in_order_lem (table c.args.table.now c.args.count) c.requires
+    (omega arith, in_order_lem (table c.args.table.now c.args.count) c.requires)
 
 pub returns-in-Ok : goal.returns-in-Ok
 unfolding kept_of

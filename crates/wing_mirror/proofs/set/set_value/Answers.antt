@@ -1,6 +1,7 @@
 -- The returns are the cases of `mirror_set` by what `is_usable` and `has_room` tell: `record_of`, `send` and `keep_written` make what
 -- it writes and stores (`kept-so`), or there is no place (`no_room`), or the table is not usable (`unusable`).
 use mathlib.Core.Path.{refl, sym, ◌∙◌}
+use native.Mathlib.Omega.{arith}
 use mir.Facts.{to_z-of_z}
 use Rattle.wing_node.specs.Value.{node_value}
 use Rattle.wing_mirror.specs.Record.{full}
@@ -15,7 +16,7 @@ record_of-rec-requires c =
 
 pub has_room-requires : goal.has_room-requires
 has_room-requires c =
-    in_order_lem (table c.args.table.now c.args.count) (sym c.is_usable.ensures ∙ c.if-is_usable.true)
+    (omega arith, in_order_lem (table c.args.table.now c.args.count) (sym c.is_usable.ensures ∙ c.if-is_usable.true))
 
 pub keep_written-requires : goal.keep_written-requires
 keep_written-requires c =

@@ -8,13 +8,13 @@ use Rattle.wing_mirror.proofs.Tables.Placing.{takes-is}
 use Rattle.wing_mirror.proofs.store.has_room.Goals as goal
 
 pub returns-then-is_ok : goal.returns-then-is_ok
-returns-then-is_ok c =
+returns-then-is_ok g c =
     let a = c.args in
     let o : is_ok c.search.result ≡ true = search rules in
-    c.if-is_ok.true ∙ sym (takes-is 264 a.table.now a.rec.now a.count c.requires c.told-rec c.key.result c.key.ensures c.search.result c.search.ensures ∙ rw o)
+    c.if-is_ok.true ∙ sym (takes-is g.row.W a.table.now a.rec.now a.count c.requires c.told-rec c.key.result c.key.ensures c.search.result c.search.ensures ∙ rw o)
 
 pub returns-else-is_ok : goal.returns-else-is_ok
-returns-else-is_ok c =
+returns-else-is_ok g c =
     let a = c.args in
     let o : is_ok c.search.result ≡ false = search rules in
-    ap (ltb a.count) c.places_of.ensures ∙ sym (takes-is 264 a.table.now a.rec.now a.count c.requires c.told-rec c.key.result c.key.ensures c.search.result c.search.ensures ∙ rw o)
+    ap (ltb a.count) c.places_of.ensures ∙ sym (takes-is g.row.W a.table.now a.rec.now a.count c.requires c.told-rec c.key.result c.key.ensures c.search.result c.search.ensures ∙ rw o)

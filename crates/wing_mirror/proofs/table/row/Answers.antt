@@ -6,8 +6,8 @@ use Rattle.wing_mirror.proofs.Records.Said.{chunk-row}
 use Rattle.wing_mirror.proofs.table.row.Goals as goal
 
 pub returns : goal.returns
-returns c =
+returns g c =
     let t = c.args.table.now in
     let n = c.args.number in
-    let below : n < length t / 264 = search rules in
-    chunk-row 264 (length t / 264) n t below c.as_chunks.ensures.front
+    let below : n < length t / g.row.W = search rules in
+    chunk-row g.row.W (length t / g.row.W) n t below c.as_chunks.ensures.front
