@@ -10,8 +10,7 @@ use borrow.Author.Tests.{ltb-true, leb-true, eq-eqb, ne_eqb}
 use lib.Dec.{ltb, leb}
 use lib.IntN.{ℤ}
 use lib.ListN.{length, drop, get_or, replicate, length-replicate}
-use Rattle.wing_node.proofs.Refusals.{reason}
-use Rattle.wing_node.specs.Refusal.{refusal_number, string_not_utf8}
+use Rattle.wing_node.specs.Refusal.{string_not_utf8}
 use Rattle.wing_node.specs.Bool.{if}
 use Rattle.wing_node.specs.Result.{Result, ok, refused}
 use Rattle.wing_node.specs.Signed.{InBits}
@@ -37,7 +36,7 @@ use Rattle.wing_mirror.specs.Query.{answer_of, lookup_answer, value_of, bytes_be
 use Rattle.wing_mirror.specs.Answers.{lookup_result, record_result}
 use Rattle.wing_mirror.specs.Call.{text_in, too_long, not_text}
 use Rattle.wing_mirror.specs.Lookups.{RecordOf}
-use Rattle.wing_mirror.specs.Counts.{zero_counts, counts_in, total}
+use Rattle.wing_mirror.specs.Counts.{counts_in, total}
 use Rattle.wing_mirror.specs.Mirror.{FeedEffect, fed_all, taken_feed, mirror_feed, lent_feed, SetEffect, refused_set, mirror_set}
 use Rattle.wing_mirror.specs.Recall.{recall_bytes, recall_of}
 use Rattle.wing_mirror.specs.History.{Equal, mirror_step}

@@ -5,10 +5,9 @@ use mathlib.Core.Path.{◌≡◌, refl, sym, ◌∙◌, ap, subst}
 use mathlib.Core.List.{[], ◌∷◌}
 use native.Mathlib.Omega.{arith}
 use borrow.Author.Tests.{lt-ltb, le-ltb}
-use Rattle.wing_node.specs.declared.refusal.Refusal.{Refusal}
 use Rattle.wing_node.specs.Bool.{if}
-use Rattle.wing_node.specs.Result.{Result, ok, refused}
-use Rattle.wing_wire.specs.State.{sound_state, fresh_state}
+use Rattle.wing_node.specs.Result.{ok, refused}
+use Rattle.wing_wire.specs.State.{sound_state}
 use Rattle.wing_wire.specs.Earlier.{earlier_sound, is_long_count, is_started, carried, carry_of}
 use Rattle.wing_wire.specs.declared.state.State.{State}
 use Rattle.wing_wire.specs.declared.earlier.State.{State as EarlierState}

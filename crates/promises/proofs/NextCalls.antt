@@ -8,7 +8,6 @@ use borrow.Author.Tests.{leb-true}
 use lib.Dec.{leb}
 use lib.ListN.{length, take, drop, replicate, length-take}
 use Rattle.wing_node.proofs.Refusals.{reason}
-use Rattle.wing_node.specs.Refusal.{refusal_number}
 use Rattle.wing_node.specs.Bool.{if}
 use Rattle.wing_node.specs.Result.{ok, refused}
 use Rattle.wing_node.proofs.Branches.{branch}

@@ -7,16 +7,15 @@ use native.Mathlib.Omega.{arith}
 use lib.Dec.{ltb}
 use lib.ListN.{length, take, drop}
 use Rattle.wing_node.specs.declared.refusal.Refusal.{Refusal}
-use Rattle.wing_node.specs.Result.{Result, ok, refused}
 use Rattle.wing_node.proofs.Branches.{branch}
-use Rattle.wing_wire.specs.State.{sound_state, fresh_state}
+use Rattle.wing_wire.specs.State.{sound_state}
 use Rattle.wing_wire.specs.Range.{AreBytes}
 use Rattle.wing_wire.specs.Write.{WriteEffect, write_effect, write_of}
 use Rattle.wing_wire.specs.Answers.{written_result}
 use Rattle.wing_wire.specs.declared.state.State.{State}
 use Rattle.wing_saved.specs.Saved.{state_bytes, state_from, save_of, Typed, Saves}
 use Rattle.wing_saved.proofs.Saving.Trips.{saved-laws}
-use Rattle.wing_saved.specs.Earlier.{earlier_from, carried_from, load_earlier_of}
+use Rattle.wing_saved.specs.Earlier.{load_earlier_of}
 use Rattle.wing_saved.proofs.Saving.Before.{earlier-laws}
 use Rattle.promises.specs.Saved.{SaveCall, LoadCall, LoadEarlierCall}
 use Rattle.promises.proofs.Lines.{unless}

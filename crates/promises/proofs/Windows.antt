@@ -16,7 +16,7 @@ use Rattle.wing_node.specs.declared.refusal.Refusal.{Refusal}
 use Rattle.wing_node.specs.Result.{Result, ok, refused}
 use Rattle.wing_node.proofs.Branches.{branch}
 use Rattle.wing_meters.specs.Afresh.{last_of, figures_of}
-use Rattle.wing_meters.specs.Window.{fresh_window, taking, leaves, kept_in, sound_control, sound_window}
+use Rattle.wing_meters.specs.Window.{fresh_window, taking, leaves, kept_in, sound_window}
 use Rattle.wing_meters.specs.Kept.{figures_kept}
 use Rattle.wing_meters.specs.Calls.{made_of, figures_answer, reading_of, after_all, answers, row_of, row_told, rows, RowsEffect, rows_effect, followed, readings_of}
 use Rattle.wing_meters.specs.Moving.{Readings, no_readings, reading_then, Width, Leaves, Left, Typed, afresh_rows}

@@ -2,7 +2,7 @@
 use Rattle.std.specs.Prelude.{ℕ, not, ◌≡◌, List, ◌∷◌, take, Ok}
 use Rattle.wing_node.specs.declared.refusal.Refusal.{Refusal}
 use Rattle.wing_node.specs.Result.{ok, refused, Result}
-use Rattle.wing_wire.specs.State.{sound_state, fresh_state}
+use Rattle.wing_wire.specs.State.{sound_state}
 use Rattle.wing_wire.specs.Earlier.{carried, carry_of}
 use Rattle.wing_wire.specs.declared.state.State.{State}
 use Rattle.wing_wire.specs.declared.earlier.State.{State as EarlierState}

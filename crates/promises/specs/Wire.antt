@@ -7,7 +7,7 @@ use Rattle.wing_node.specs.Result.{ok, refused, Result}
 use Rattle.wing_node.specs.Signed.{signed}
 use Rattle.wing_node.specs.Utf8.{good, utf8}
 use Rattle.wing_node.specs.Value.{NodeValue, string}
-use Rattle.wing_wire.specs.State.{body_limit, sound_escape, sound_state, fresh_state}
+use Rattle.wing_wire.specs.State.{body_limit, sound_escape, sound_state}
 use Rattle.wing_wire.specs.Earlier.{earlier_sound, is_started, carried}
 use Rattle.wing_wire.specs.Escape.{decode_of, next_unit}
 use Rattle.wing_wire.specs.Stream.{Fed, run}

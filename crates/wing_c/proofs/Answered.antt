@@ -1,20 +1,14 @@
 -- What the parser, the item calls and the writers answer is such an answer: a refusal is a number alone that is neither 1 nor 5, or 5 with its good; details are
 -- those of the type, and an integer of a body has 32 bits.
-use Prim.Native.Nat.{ℕ, zero, suc, ◌-◌, ◌≤◌, ◌<◌, ◌^◌}
+use Prim.Native.Nat.{ℕ, zero, suc, ◌≤◌, ◌<◌, ◌^◌}
 use mathlib.Core.List.{List, [], ◌∷◌}
 use native.Mathlib.Omega.{arith}
 use native.Mathlib.Nat.{pow-le-pow_right}
-use lib.Dec.{eqb, leb, ltb}
-use lib.ListN.{take, drop, length, length-take}
-use Rattle.wing_node.specs.Utf8.{utf8}
-use Rattle.wing_node.specs.Refusal.{no_fault, is_refused, first_fault, text_fault, Fault}
+use lib.ListN.{take, length, length-take}
+use Rattle.wing_node.specs.Refusal.{is_refused, Fault}
 use Rattle.wing_node.specs.Field.{big}
-use Rattle.wing_node.specs.Cursor.{Field, number, size, from, right, held_fault, fault, value_of, read_at, reads, start, cursor, after}
-use Rattle.wing_node.specs.Types.{has_items}
-use Rattle.wing_node.specs.Definition.{Count, header, added, named, past, item_of, items_of, item_from, item_at, kind_from, details_from, details_at, definition_from, parsed_from, definition_of}
-use Rattle.wing_node.specs.Items.{begin_from, begin_of, step_by, step_at, numbered_from, numbered_in, item_numbered}
-use Rattle.wing_node.specs.Writer.{Lent, too_long, unfit, type_given, texts_fault, lent_fault, room_fault, body_given, body_put, fault_of, body_of_fields}
-use Rattle.wing_node.specs.Anew.{anew_from, anew_of}
+use Rattle.wing_node.specs.Cursor.{number, from, fault, value_of, read_at, reads, start}
+use Rattle.wing_node.specs.Definition.{header, added, named, past, kind_from, details_from, details_at, definition_from, parsed_from, definition_of}
 use Rattle.wing_node.proofs.Branches.{branch}
 use Rattle.wing_node.proofs.Numerals.Numbers.{Digits, digits-take, digits-drop, number-below}
 use Rattle.wing_node.proofs.Numerals.Signs.{signed-in}
@@ -23,15 +17,10 @@ use Rattle.wing_node.specs.declared.cursor.FieldRead.{FieldRead}
 use Rattle.wing_node.specs.declared.node_type.NodeType.{NodeType}
 use Rattle.wing_node.specs.declared.node_type.NodeType.TheVariants.{Node, LinearFloat, LogarithmicFloat, FaderLevel, Integer, StringEnum, FloatEnum, String}
 use Rattle.wing_node.specs.declared.definition.Definition.{Definition}
-use Rattle.wing_node.specs.declared.definition.ItemRead.{ItemRead}
-use Rattle.wing_node.specs.declared.items.Step.{Step}
-use Rattle.wing_node.specs.declared.writer.Fields.{Fields}
 use Rattle.wing_wire.specs.Range.{AreBytes, no_bytes, byte_then}
 use Rattle.wing_c.specs.DefinitionMeanings.{OfType, OfParsed}
 use Rattle.wing_c.specs.DefinitionMeanings.OfType.{node, linear, logarithmic, fader, integers, strings, floats, text}
 use Rattle.std.specs.Prelude.{Ok, Err}
-use Rattle.wing_node.specs.Result.{Result}
-use Rattle.wing_node.specs.declared.items.Walk.{Walk}
 
 bytes-at : (s : List ℕ) → AreBytes s → Digits 256 s
 bytes-at [] no_bytes i = omega arith

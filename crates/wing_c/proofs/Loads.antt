@@ -1,12 +1,10 @@
 -- What a next call on a sound state gives.
 use Prim.Native.Nat.{ℕ, ◌≤◌}
 use mathlib.Core.Bool.{true}
-use mathlib.Core.Path.{◌≡◌, refl, sym, ◌∙◌, ap}
+use mathlib.Core.Path.{◌≡◌, refl}
 use mathlib.Core.List.{List}
 use borrow.Author.Tests.{le-leb}
 use lib.ListN.{length, take}
-use Rattle.wing_node.specs.Result.{Result, ok, refused}
-use Rattle.wing_node.specs.declared.refusal.Refusal.{Refusal}
 use Rattle.wing_wire.specs.State.{sound_state}
 use Rattle.wing_wire.specs.Stream.{run, advance_of, released}
 use Rattle.wing_wire.specs.Reader.{over, event_of, next_from, next_of, next_event}

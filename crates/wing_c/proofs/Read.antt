@@ -1,12 +1,8 @@
 -- What a next call answers is such an answer: an integer has 32 bits, and a refusal is 8, 14, 2 or 3, or 1 with its good.
 use Prim.Native.Nat.{ℕ}
-use mathlib.Core.Path.{◌≡◌, refl, sym, subst}
-use mathlib.Core.Logic.{inl, inr}
 use mathlib.Core.List.{List}
-use native.Mathlib.Omega.{arith}
 use lib.Dec.{leb}
 use lib.ListN.{length}
-use Rattle.wing_node.specs.declared.refusal.Refusal.{Refusal}
 use Rattle.wing_node.proofs.Branches.{branch}
 use Rattle.wing_wire.specs.State.{sound_state}
 use Rattle.wing_wire.specs.Range.{AreBytes, InRange, AnswerIn}

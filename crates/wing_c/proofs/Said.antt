@@ -1,11 +1,9 @@
 -- Every answer is what its numbers mean: each case is computed, and an integer's 32 bits read as the integer.
-use Prim.Native.Nat.{ℕ, suc, ◌-◌, ◌≤◌}
+use Prim.Native.Nat.{ℕ}
 use mathlib.Core.Path.{◌≡◌, refl, ap, subst}
 use mathlib.Core.List.{List}
-use native.Mathlib.Omega.{arith}
 use lib.Dec.{eqb}
-use lib.IntN.{ℤ, negsuc}
-use borrow.Author.Tests.{ne_eqb}
+use lib.IntN.{ℤ}
 use Rattle.wing_node.specs.Bool.{if}
 use Rattle.wing_node.specs.declared.refusal.Refusal.{Refusal}
 use Rattle.wing_node.specs.declared.refusal.Refusal.TheVariants.{StringNotUtf8, DefinitionNotUtf8, BodyLong, BodyEmpty, DefinitionShort, NoPlace, TableUnsound, StateUnsound, OutputShort, StringLong, MetersOver, MeterIdLast, PacketSize, NumberOver, NameLong, FieldsUnfit, LineWrong, IdNotAbove, WidthWrong}

@@ -2,7 +2,6 @@
 use Prim.Native.Nat.{ℕ, ◌*◌}
 use mathlib.Core.Path.{◌≡◌, refl, ap}
 use mathlib.Core.List.{List, [], ◌∷◌}
-use native.Mathlib.Omega.{arith}
 use lib.Dec.{ltb}
 use lib.IntN.{ℤ}
 use lib.ListN.{length}
@@ -12,7 +11,6 @@ use Rattle.wing_meters.specs.Window.{taking, kept_in, sound_window, sound_contro
 use Rattle.wing_meters.specs.Calls.{made_of, figures_answer, reading_of, followed, RowsEffect, readings_of}
 use Rattle.wing_meters.specs.declared.window.Window.{Window}
 use Rattle.wing_meters.specs.declared.reading.Taken.{Taken}
-use Rattle.wing_c.specs.Meanings.{by_status}
 use Rattle.wing_c.specs.Windows.{told_numbers, made_numbers, reading_numbers, followed_by, window_given}
 use Rattle.wing_c.specs.WindowMeanings.{figures_in, told_in, made_in, reading_in, followed_in, WindowsSay}
 use Rattle.wing_c.specs.Meanings.{NoGood}

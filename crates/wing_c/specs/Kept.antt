@@ -17,7 +17,6 @@ use Rattle.wing_wire.specs.Write.{WriteEffect, write_effect}
 use Rattle.wing_saved.specs.Saved.{state_bytes, state_from, save_of}
 use Rattle.wing_mirror.specs.Rows.{Table}
 use Rattle.wing_mirror.specs.Record.{full}
-use Rattle.wing_mirror.specs.Counts.{zero_counts}
 use Rattle.wing_mirror.specs.Mirror.{FeedEffect, mirror_feed}
 use Rattle.wing_c.specs.Numbers.{minus, sent_back, fed_numbers, no_event, event_numbers}
 use Rattle.wing_c.specs.declared.answers.WingFed.{WingFed}

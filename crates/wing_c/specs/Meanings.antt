@@ -1,5 +1,5 @@
 -- What the numbers mean, by the header's words, and that every answer is the meaning of its numbers: none is dropped and no two are alike.
-use Rattle.std.specs.Prelude.{ℕ, suc, ◌≤◌, ◌≡◌, List, eqb, ℤ, pos, negsuc, Ok, Err, Some, Option, None, Bool, replicate, get_or, [], ◌∷◌, ◌-◌}
+use Rattle.std.specs.Prelude.{ℕ, suc, ◌≡◌, List, eqb, ℤ, pos, negsuc, Ok, Err, Some, Option, None, Bool, replicate, get_or, [], ◌∷◌, ◌-◌}
 use Rattle.wing_node.specs.Bool.{if}
 use Rattle.wing_node.specs.Refusal.{good_beside}
 use Rattle.wing_node.specs.Signed.{signed, InBits}

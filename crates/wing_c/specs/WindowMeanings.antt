@@ -1,5 +1,5 @@
 -- What the numbers of a window mean, by the header's words, and that each answer is the meaning of its numbers.
-use Rattle.std.specs.Prelude.{ℕ, ◌≤◌, ◌≡◌, List, eqb, ℤ, pos, Ok, Some, Option, None, Err, false}
+use Rattle.std.specs.Prelude.{ℕ, ◌≡◌, List, eqb, ℤ, pos, Ok, Some, Option, None, Err, false}
 use Rattle.wing_node.specs.Bool.{if}
 use Rattle.wing_meters.specs.Afresh.{figures}
 use Rattle.wing_meters.specs.Calls.{made_of, figures_answer, taken, reading_of, followed, readings_of}

@@ -1,5 +1,5 @@
 -- A feed that is taken keeps its state, whose bytes read as it (`saved-laws`); a refused one writes nothing.
-use mathlib.Core.Path.{sym, refl, ap, ◌∙◌}
+use mathlib.Core.Path.{sym, refl, ap}
 use Rattle.std.specs.Prelude.{is_ok}
 use Rattle.wing_saved.proofs.Saving.Trips.{saved-laws}
 use Rattle.wing_c.proofs.mirror.keep_state.Goals as goal
