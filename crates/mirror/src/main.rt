@@ -83,7 +83,7 @@ impl Mirror {
     }
 }
 
-// The first n bytes, which are there.
+// The first n bytes, which are there. recall has the same; a library for it would be no plainer.
 fn write_front(to: &impl Print, bytes: &[u8], n: usize) -> Result<(), Failure> {
     let front = bytes.get(..n).ok_or(Failure::Unwritten)?;
     to.write_all(front).map_err(|_| Failure::Unwritten)

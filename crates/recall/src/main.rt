@@ -30,7 +30,7 @@ fn take_all(alloc: Global, input: impl Read + Drop) -> Result<Vec<u8>, Complaint
     }
 }
 
-// The first n bytes, which are there.
+// The first n bytes, which are there. mirror has the same; a library for it would be no plainer.
 fn write_front(to: &impl Print, bytes: &[u8], n: usize) -> Result<(), Complaint> {
     let front = bytes.get(..n).ok_or(Complaint::Unwritten)?;
     to.write_all(front).map_err(|_| Complaint::Unwritten)

@@ -12,7 +12,7 @@ fn hex_digit(d: u8) -> u8
     if d < 10 { b'0' + d } else { b'a' + (d - 10) }
 }
 
-// The hex pairs of bytes, from a place on.
+// The hex pairs of bytes, from a place on. By hand and not by Display: they go into a lent buffer, without a heap.
 pub(crate) fn lay_pairs(out: &mut [u8], at: usize, s: &[u8])
     requires { at + 2 * length s.now ≤ length out.old }
     ensures { out.new ≡ sets out.old at (pairs_of s.now) }

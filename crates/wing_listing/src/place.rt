@@ -19,7 +19,7 @@ fn kind_of(letter: u8) -> u8
     if letter == 0x66 { 1 } else { 2 }
 }
 
-// Kind, length and payload.
+// Kind, length and payload. As wing_mirror lays them, whose own function asks that the value fit, which no public one may.
 fn lay_said(out: &mut [u8; State::PLACE_WIDTH], kind: u8, s: &[u8])
     requires { (is_value kind s.now ≡ true) × (value_fault (value_said kind s.now) ≡ no_fault) }
     ensures { out.new ≡ laid_from out.old (kind_of (value_said kind s.now)) (payload_of (value_said kind s.now)) }

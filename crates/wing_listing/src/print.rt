@@ -20,6 +20,7 @@ pub(crate) const HEADER: &[u8; 14] = b"id,kind,value\n";
 const LINE: usize = 527;
 
 // How many bytes the lines take. The scratch buffer has room for any of them.
+// As recall counts its orders: one generic function for both would need a trait with a ghost text and its greatest length, and more lines.
 fn lines_len(table: &[u8], count: usize) -> usize
     requires { usable full (table_of table.now count) ≡ true }
     ensures { result ≡ length (lines_of (rows full (table_of table.now count))) }

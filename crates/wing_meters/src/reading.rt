@@ -12,7 +12,7 @@ use crate::sound::{greatest, kept_up};
 use crate::window::{Control, Window};
 use wing_node::refusal::Refusal;
 
-// The answer, and the window with the reading in it; after a refusal the window as it was.
+// The answer, and the window with the reading in it; after a refusal the window as it was, so that it stands beside the Result.
 #[derive(Clone, Copy)]
 pub struct Taken {
     pub answer: Result<Option<Figures>, Refusal>,

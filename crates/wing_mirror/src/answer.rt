@@ -32,7 +32,7 @@ pub struct LentFeedReply {
     pub count: usize,
 }
 
-// The same with the whole state after it. A refused feed changes and counts nothing.
+// The same with the whole state after it. A refused feed changes and counts nothing; state and number are told of it too.
 #[derive(Clone, Copy)]
 pub struct FeedReply {
     pub answer: Result<Counts, Refusal>,
@@ -40,7 +40,7 @@ pub struct FeedReply {
     pub count: usize,
 }
 
-// How many bytes a set wrote or the refusal, with the number of records.
+// How many bytes a set wrote or the refusal, with the number of records: beside the Result, since it is told of a refusal too.
 #[derive(Clone, Copy)]
 pub struct SetReply {
     pub answer: Result<usize, Refusal>,

@@ -55,6 +55,7 @@ fn string_kept(n: u16, payload: &[u8; 256]) -> bool
     len <= 256 && zeros_from(payload, len) && is_utf8(&payload[..len])
 }
 
+// Kinds are 01's bytes here, read once in this match and once in value_in, where Value is the enum of them.
 #[tactic(auto, unfolding(crate::specs::Record::well_kept))]
 fn well_kept(kind: u8, n: u16, payload: &[u8; 256]) -> bool
     ensures { result ≡ well_kept kind n payload.now }

@@ -68,6 +68,7 @@ fn decimal(x: i32) -> StringRead
 }
 
 // How many bytes the decimal of x has: they stand in out from a place on, and out is as it was where fewer are left there.
+// By hand and not by Display: it goes into a lent buffer, since the libraries have fixed memory and no heap.
 pub fn put_decimal(out: &mut [u8], at: usize, x: i32) -> usize
     ensures { (result ≡ length (decimal_of x)) × (out.new ≡ (put_at (decimal_of x) at out.old).bytes) }
 {
