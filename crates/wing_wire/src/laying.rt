@@ -7,6 +7,7 @@ ghost use Rattle.wing_node.specs.Signed.{unsigned};
 ghost use Rattle.wing_wire.specs.Write.{escaped, field, Laid, LaysAlways, write_effect, write_of};
 
 use crate::reader::copy_front;
+use wing_node::field::BigEndian;
 use wing_node::refusal::Refusal;
 
 // One byte as it is.
@@ -36,31 +37,17 @@ pub(crate) fn lay_escaped(out: &mut [u8], at: usize, bytes: &[u8]) -> usize
     next
 }
 
-pub(crate) fn lay_8(out: &mut [u8], at: usize, n: u8) -> usize
-    requires { at ≤ 0x10000 }
-    ensures laid { Laid (escaped (n ∷ [])) at out.old out.new result }
-    ensures upper_bound { result ≤ at + 2 }
+// A number's bytes, escaped: at most four of them.
+pub(crate) fn lay_number<T: BigEndian>(out: &mut [u8], at: usize, n: T) -> usize
+    requires narrow { T.WIDTH ≤ 4 }
+    requires near { at ≤ 0x10000 }
+    ensures laid { Laid (field T.WIDTH (T.bits n)) at out.old out.new result }
+    ensures upper_bound { result ≤ at + 2 * T.WIDTH }
 {
-    let bytes = [n];
-    lay_escaped(out, at, &bytes)
-}
-
-pub(crate) fn lay_16(out: &mut [u8], at: usize, n: u16) -> usize
-    requires { at ≤ 0x10000 }
-    ensures laid { Laid (field 2 n) at out.old out.new result }
-    ensures upper_bound { result ≤ at + 4 }
-{
-    let bytes = n.to_be_bytes();
-    lay_escaped(out, at, &bytes)
-}
-
-pub(crate) fn lay_32(out: &mut [u8], at: usize, n: u32) -> usize
-    requires { at ≤ 0x10000 }
-    ensures laid { Laid (field 4 n) at out.old out.new result }
-    ensures upper_bound { result ≤ at + 8 }
-{
-    let bytes = n.to_be_bytes();
-    lay_escaped(out, at, &bytes)
+    let mut bytes = [0u8; 4];
+    let number = &mut bytes[..T::WIDTH];
+    n.lay_over(number);
+    lay_escaped(out, at, number)
 }
 
 // A prefix and an id, with which most commands begin.
@@ -69,7 +56,7 @@ pub(crate) fn lay_id(out: &mut [u8], prefix: u8, id: i32) -> usize
     ensures upper_bound { result ≤ 9 }
 {
     let at = lay(out, 0, prefix);
-    lay_32(out, at, id.cast_unsigned())
+    lay_number(out, at, id)
 }
 
 // The first n bytes laid, to the front of out. 01: output too short for the whole is 9, as it was.

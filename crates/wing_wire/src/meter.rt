@@ -3,7 +3,7 @@ ghost use Rattle.std.specs.Prelude.{◌≡◌, ◌++◌, ◌∷◌, ◌+◌, ◌
 ghost use Rattle.wing_wire.specs.Write.{Laid, write_effect, write_of};
 ghost use Rattle.wing_wire.specs.Meter.{item_of, item_bytes, meters_bytes, request_head, meter_request, request_effect, request_meter, keep_alive, keep_alives, readings, packet_effect, packet_of};
 
-use crate::laying::{lay, lay_8, lay_16, write_by};
+use crate::laying::{lay, lay_escaped, lay_number, write_by};
 use wing_node::field::number_at;
 use wing_node::refusal::Refusal;
 
@@ -84,7 +84,7 @@ fn lay_meter(out: &mut [u8], at: usize, m: Meter) -> usize
         MeterItem::Alone(kind) => lay(out, at, kind),
         MeterItem::Indexed(kind, index) => {
             let next = lay(out, at, kind);
-            lay_8(out, next, index)
+            lay_escaped(out, next, &[index])
         }
     }
 }
@@ -110,10 +110,10 @@ fn lay_request_head(out: &mut [u8], port: u16, id: u16) -> usize
     let mut at = lay(out, 0, 0xdf);
     at = lay(out, at, 0xd3);
     at = lay(out, at, 0xd3);
-    at = lay_16(out, at, port);
+    at = lay_number(out, at, port);
     at = lay(out, at, 0xd4);
-    at = lay_16(out, at, id);
-    at = lay_16(out, at, port);
+    at = lay_number(out, at, id);
+    at = lay_number(out, at, port);
     lay(out, at, 0xdc)
 }
 
@@ -162,8 +162,8 @@ fn lay_keep_alive(out: &mut [u8], port: u16, id: u16) -> usize
     let mut at = lay(out, 0, 0xdf);
     at = lay(out, at, 0xd3);
     at = lay(out, at, 0xd4);
-    at = lay_16(out, at, id);
-    at = lay_16(out, at, port);
+    at = lay_number(out, at, id);
+    at = lay_number(out, at, port);
     at = lay(out, at, 0xdf);
     lay(out, at, 0xd1)
 }

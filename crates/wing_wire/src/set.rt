@@ -7,7 +7,7 @@ ghost use Rattle.wing_node.specs.Value.{integer, float, string};
 ghost use Rattle.wing_wire.specs.Write.{Laid, write_effect, write_of};
 ghost use Rattle.wing_wire.specs.Command.{from◌to◌, integer_bytes, length_bytes, id_bytes, suffix_bytes, set_bytes, set_string};
 
-use crate::laying::{lay, lay_8, lay_16, lay_32, lay_escaped, lay_id, write_by};
+use crate::laying::{lay, lay_escaped, lay_id, lay_number, write_by};
 use wing_node::refusal::{Refusal, string_fault};
 
 fn lay_format(out: &mut [u8], id: i32, prefix: u8, suffix: Option<u8>) -> usize
@@ -44,10 +44,10 @@ fn lay_integer(out: &mut [u8], at: usize, value: i32) -> usize
     }
     if is_from(-32768, 32767, value) {
         let next = lay(out, at, 0xd3);
-        return lay_16(out, next, (value as i16).cast_unsigned());
+        return lay_number(out, next, (value as i16).cast_unsigned());
     }
     let next = lay(out, at, 0xd4);
-    lay_32(out, next, value.cast_unsigned())
+    lay_number(out, next, value)
 }
 
 fn lay_set_int(out: &mut [u8], id: i32, value: i32) -> usize
@@ -69,7 +69,7 @@ fn lay_set_float(out: &mut [u8], id: i32, bits: u32) -> usize
 {
     let at = lay_id(out, 0xd7, id);
     let next = lay(out, at, 0xd5);
-    lay_32(out, next, bits)
+    lay_number(out, next, bits)
 }
 
 // The same for a float, by its 32 bits.
@@ -93,7 +93,7 @@ fn lay_length(out: &mut [u8], at: usize, len: usize) -> usize
         return lay(out, at, (0x80 + (len - 1)) as u8);
     }
     let next = lay(out, at, 0xd1);
-    lay_8(out, next, (len - 1) as u8)
+    lay_escaped(out, next, &[(len - 1) as u8])
 }
 
 fn lay_set_string(out: &mut [u8], id: i32, value: &[u8]) -> usize

@@ -9,6 +9,6 @@ unfolding keep_alive
 returns c =
     record {
       laid = then c.lay-at.ensures (then c.lay-at-2.ensures (then c.lay-at-3.ensures
-          (then c.lay_16-at.ensures.laid (then c.lay_16-at-2.ensures.laid (then c.lay-at-4.ensures c.lay.ensures)))));
+          (then c.lay_number-at.ensures.laid (then c.lay_number-at-2.ensures.laid (then c.lay-at-4.ensures c.lay.ensures)))));
       upper_bound = omega arith;
     }

@@ -8,7 +8,7 @@ pub returns : goal.returns
 unfolding request_head
 returns c =
     record {
-      laid = then c.lay-at.ensures (then c.lay-at-2.ensures (then c.lay-at-3.ensures (then c.lay_16-at.ensures.laid
-          (then c.lay-at-4.ensures (then c.lay_16-at-2.ensures.laid (then c.lay_16-at-3.ensures.laid c.lay.ensures))))));
+      laid = then c.lay-at.ensures (then c.lay-at-2.ensures (then c.lay-at-3.ensures (then c.lay_number-at.ensures.laid
+          (then c.lay-at-4.ensures (then c.lay_number-at-2.ensures.laid (then c.lay_number-at-3.ensures.laid c.lay.ensures))))));
       upper_bound = omega (arith, c.lay-at.ensures.next);
     }

@@ -29,11 +29,11 @@ returns-then-is_from-2 c =
     let f = rw z at (sym c.is_from.ensures ∙ c.if-is_from.false) in
     let t = rw z at (sym c.is_from-2.ensures ∙ c.if-is_from-2.true) in
     let y = to_z-of_z {w = w16} {z = c.args.value} (record { sfits = half c.args.value t }) in
-    rw (two_bytes c.args.value f t) (then c.lay-next.ensures (rw (c.cast_unsigned.ensures, z, y, writes w16 refl c.args.value) at c.lay_16.ensures.laid))
+    rw (two_bytes c.args.value f t) (then c.lay-next.ensures (rw (c.cast_unsigned.ensures, z, y, writes w16 refl c.args.value) at c.lay_number.ensures.laid))
 
 pub returns : goal.returns
 returns c =
     let z = to_z-of_z c.ranges.value in
     let f = rw z at (sym c.is_from.ensures ∙ c.if-is_from.false) in
     let t = rw z at (sym c.is_from-2.ensures ∙ c.if-is_from-2.false) in
-    rw (four_bytes c.args.value f t) (then c.lay-next-2.ensures (rw (c.cast_unsigned-2.ensures, z, writes w32 refl c.args.value) at c.lay_32.ensures.laid))
+    rw (four_bytes c.args.value f t) (then c.lay-next-2.ensures (rw (z, writes w32 refl c.args.value) at c.lay_number-2.ensures.laid))

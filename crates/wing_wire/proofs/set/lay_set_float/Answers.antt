@@ -8,4 +8,4 @@ pub returns : goal.returns
 unfolding set_bytes id_bytes value_bytes float_bytes
 returns c =
     let z = to_z-of_z c.ranges.id in
-    then (rw z at c.lay_id-at.ensures.laid) (then c.lay-next.ensures c.lay_32.ensures.laid)
+    then (rw z at c.lay_id-at.ensures.laid) (then c.lay-next.ensures c.lay_number.ensures.laid)
