@@ -6,7 +6,7 @@ ghost use Rattle.wing_listing.specs.Reading.{lines_from, reading_of};
 ghost use Rattle.wing_listing.specs.Steps.{scanned_as, scanned_bad};
 
 use crate::answer::{BadLine, Loaded};
-use crate::line::{find, judge};
+use crate::line::judge;
 use crate::print::HEADER;
 use wing_node::refusal::Refusal;
 
@@ -20,19 +20,17 @@ pub(crate) fn bad(why: Refusal, line: usize) -> Loaded
 fn scan_lines(text: &[u8]) -> Loaded
     ensures { result ≡ scanned_as (lines_from 2 nothing (parted newline text.now)) }
 {
-    let mut at = 0;
     let mut number = 2;
     let mut before = None;
-    while at < text.len() {
-        let end = at + find(&text[at..], 0x0a);
-        if end == text.len() {
-            return bad(Refusal::LineWrong, number);
-        }
-        match judge(&text[at..end], before) {
+    for ended in text.split_inclusive(|b| *b == b'\n') {
+        let line = match ended.strip_suffix(b"\n") {
+            Some(line) => line,
+            None => return bad(Refusal::LineWrong, number),
+        };
+        match judge(line, before) {
             Ok(id) => before = Some(id),
             Err(why) => return bad(why, number),
         }
-        at = end + 1;
         number += 1;
     }
     Ok(number - 2)

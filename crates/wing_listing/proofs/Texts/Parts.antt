@@ -48,7 +48,7 @@ module _ (b : ℕ) where
       (λ t. omega (arith, ap length (front-on a s (eqb-false a b t)), front-le s))
 
   -- as the library finds it
-  front-place : (s : List ℕ) → length (part b 0 s) ≡ position_or_len (λ (a : ℕ). eqb a b) s
+  pub front-place : (s : List ℕ) → length (part b 0 s) ≡ position_or_len (λ (a : ℕ). eqb a b) s
   front-place = is_position_or_len (λ (s : List ℕ). length (part b 0 s)) (λ (a : ℕ). eqb a b) (ap length front-nil) step
     where
       step : (a : ℕ) (s : List ℕ) → length (part b 0 (a ∷ s)) ≡ cond (eqb a b) 0 (1 + length (part b 0 s))

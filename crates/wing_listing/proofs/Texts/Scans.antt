@@ -161,7 +161,7 @@ no-entries : (es : List Entry) → good [] ≡ good es → length es ≡ 0
 unfolding entries_in
 no-entries es h = ap (λ (r : Reading). length (entries_in r)) (sym h)
 
-some-text : (text : List ℕ) → length text ≡ 0 → text ≡ []
+pub some-text : (text : List ℕ) → length text ≡ 0 → text ≡ []
 some-text [] e = refl
 some-text (a ∷ text) e = absurd (omega arith)
 
