@@ -7,13 +7,11 @@ use native.Mathlib.Nat.{pow-le-pow_right}
 use lib.ListN.{take, length, length-take}
 use Rattle.wing_node.specs.Refusal.{is_refused, Fault}
 use Rattle.wing_node.specs.Field.{big}
-use Rattle.wing_node.specs.Cursor.{number, from, fault, value_of, read_at, reads, start}
+use Rattle.wing_node.specs.Cursor.{Cursor, Reading, number, from, fault, value_of, read_at, reads, start}
 use Rattle.wing_node.specs.Definition.{header, added, named, past, kind_from, details_from, details_at, definition_from, parsed_from, definition_of}
 use Rattle.wing_node.proofs.Branches.{branch}
 use Rattle.wing_node.proofs.Numerals.Numbers.{Digits, digits-take, digits-drop, number-below}
 use Rattle.wing_node.proofs.Numerals.Signs.{signed-in}
-use Rattle.wing_node.specs.declared.cursor.Cursor.{Cursor}
-use Rattle.wing_node.specs.declared.cursor.FieldRead.{FieldRead}
 use Rattle.wing_node.specs.declared.node_type.NodeType.{NodeType}
 use Rattle.wing_node.specs.declared.node_type.NodeType.TheVariants.{Node, LinearFloat, LogarithmicFloat, FaderLevel, Integer, StringEnum, FloatEnum, String}
 use Rattle.wing_node.specs.declared.definition.Definition.{Definition}
@@ -37,9 +35,9 @@ four_bytes s b =
 number_fits : (body : List ℕ) (c : Cursor) → Digits 256 body → (read_at (number 4) body c).value < 2 ^ 32
 unfolding read_at value_of
 number_fits body c b =
-    branch (λ (r : FieldRead). r.value < 2 ^ 32) (is_refused c.fault) _ _ (λ _. omega arith)
+    branch (λ (r : Reading). r.value < 2 ^ 32) (is_refused c.fault) _ _ (λ _. omega arith)
     (λ _.
-    branch (λ (r : FieldRead). r.value < 2 ^ 32) (is_refused (fault (number 4) (from body c))) _ _ (λ _. omega arith)
+    branch (λ (r : Reading). r.value < 2 ^ 32) (is_refused (fault (number 4) (from body c))) _ _ (λ _. omega arith)
     (λ _. four_bytes (from body c) (digits-drop 256 c.at body b)))
 
 of-type : (t : NodeType) (body : List ℕ) (c : Cursor) (first : ℕ) → Digits 256 body → OfType t (details_from t (named (added t) body c) first)

@@ -1,6 +1,7 @@
 -- Definitions: fields in a row, read and written anew.
 pub mod Cases
 pub mod Fields
+pub mod Fails
 pub mod Standing
 pub mod InBody
 pub mod Parsing

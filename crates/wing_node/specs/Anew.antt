@@ -1,5 +1,5 @@
 -- A body that was read and is written anew (02): the parser's answer as the writer's fields, and what the body lends.
-use Rattle.std.specs.Prelude.{ℕ, ◌-◌, ℤ, pos, List, [], take, drop, Ok, Err}
+use Rattle.std.specs.Prelude.{ℕ, ◌≡◌, ◌-◌, ℤ, pos, List, [], take, drop, Ok, Err}
 use Rattle.wing_node.specs.Refusal.{no_fault}
 use Rattle.wing_node.specs.Cursor.{cursor, after}
 use Rattle.wing_node.specs.Types.{type_number, unit_number}
@@ -51,6 +51,14 @@ item_bytes body t (Floats min max steps) = []
 item_bytes body t (Integers min max) = []
 item_bytes body t (Items count first) = take ((after (items_of t count) body (cursor first no_fault)).at - first) (drop first body)
 item_bytes body t (max_len n) = []
+
+-- the items of a definition that was read are not refused
+abbrev pub items_read : List ℕ → NodeType → Details → Type 0
+items_read body t None = Unit
+items_read body t (Floats min max steps) = Unit
+items_read body t (Integers min max) = Unit
+items_read body t (Items count first) = (after (items_of t count) body (cursor first no_fault)).fault ≡ no_fault
+items_read body t (max_len n) = Unit
 
 -- what a body that was read lends to the writer
 abbrev pub lent_from : List ℕ → Definition → Lent

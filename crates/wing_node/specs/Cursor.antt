@@ -1,11 +1,11 @@
 -- Reading field by field: a field is a number of so many bytes, or a string, a length byte and then so many bytes of UTF-8.
 -- In the first part `s` is a list of bytes that begins with the field.
-use Rattle.std.specs.Prelude.{ℕ, ◌+◌, Bool, true, List, [], ◌∷◌, ltb, length, take, drop, get_or}
+use Rattle.std.specs.Prelude.{ℕ, ◌+◌, Bool, true, Ok, Err, List, [], ◌∷◌, ltb, length, take, drop, get_or}
 use Rattle.wing_node.specs.Bool.{if}
 use Rattle.wing_node.specs.Utf8.{utf8}
 use Rattle.wing_node.specs.Refusal.{Fault, definition_not_utf8, no_fault, because, is_refused}
 use Rattle.wing_node.specs.Field.{big}
-use Rattle.wing_node.specs.declared.cursor.Cursor.{Cursor}
+use Rattle.wing_node.specs.Result.{Result}
 use Rattle.wing_node.specs.declared.cursor.FieldRead.{FieldRead}
 use Rattle.wing_node.specs.declared.cursor.ShortRead.{ShortRead}
 use Rattle.wing_node.specs.declared.refusal.Refusal.TheVariants.{DefinitionShort}
@@ -49,6 +49,10 @@ content_at (number w) at = at
 content_at string at = at + 1
 
 -- a cursor: the place reached, and the refusal met, if any
+pub record Cursor : Type 0 where
+  pub at : ℕ
+  pub fault : Fault
+
 abbrev pub cursor : ℕ → Fault → Cursor
 cursor at why = record { at = at; fault = why }
 
@@ -65,26 +69,27 @@ abbrev pub from : List ℕ → Cursor → List ℕ
 from body c = drop c.at body
 
 -- what a field says: its number or length, where its bytes start, and the cursor after it
-abbrev pub field_read : ℕ → ℕ → Cursor → FieldRead
+pub record Reading : Type 0 where
+  pub value : ℕ
+  pub start : ℕ
+  pub next : Cursor
+
+abbrev pub field_read : ℕ → ℕ → Cursor → Reading
 field_read value start next = record { value = value; start = start; next = next }
 
 -- what a field says after a refusal
-abbrev pub nothing : Cursor → FieldRead
+abbrev pub nothing : Cursor → Reading
 nothing c = field_read 0 0 c
 
--- the same without the start
-abbrev pub short_of : FieldRead → ShortRead
-short_of r = record { value = r.value; next = r.next }
-
 -- the field at a cursor. 01: the first failing field counts, so after a refusal nothing is read
-unfoldable pub read_at : Field → List ℕ → Cursor → FieldRead
+unfoldable pub read_at : Field → List ℕ → Cursor → Reading
 read_at f body c =
     if (is_refused c.fault) (nothing c)
     (if (is_refused (fault f (from body c))) (nothing (stopped c (fault f (from body c))))
     (field_read (value_of f (from body c)) (content_at f c.at) (cursor (c.at + size f (from body c)) no_fault)))
 
 -- fields one after the other
-unfoldable pub reads : List Field → List ℕ → Cursor → List FieldRead
+unfoldable pub reads : List Field → List ℕ → Cursor → List Reading
 reads [] body c = []
 reads (f ∷ fs) body c = read_at f body c ∷ reads fs body (read_at f body c).next
 
@@ -92,3 +97,20 @@ reads (f ∷ fs) body c = read_at f body c ∷ reads fs body (read_at f body c).
 unfoldable pub after : List Field → List ℕ → Cursor → Cursor
 after [] body c = c
 after (f ∷ fs) body c = after fs body (read_at f body c).next
+
+-- what is answered at a cursor: the refusal that it met, if any
+abbrev pub unless : {A : Type 0} → Fault → A → Result A
+unless (Ok u) a = Ok a
+unless (Err why) a = Err why
+
+-- the place of a cursor, or its refusal
+abbrev pub place_of : Cursor → Result ℕ
+place_of c = unless c.fault c.at
+
+-- what a field says, or why it is refused
+abbrev pub field_of : Reading → Result FieldRead
+field_of r = unless r.next.fault (record { value = r.value; start = r.start; next = r.next.at })
+
+-- the same without the start
+abbrev pub short_of : Reading → Result ShortRead
+short_of r = unless r.next.fault (record { value = r.value; next = r.next.at })

@@ -2,10 +2,8 @@
 use Rattle.std.specs.Prelude.{ℕ, zero, suc, ◌/◌, ◌%◌, List, [], ◌∷◌, ◌++◌, map, eqb, get_or, Option, Some, None, Ok, Err}
 use Rattle.wing_node.specs.Bool.{if}
 use Rattle.wing_node.specs.Signed.{signed}
-use Rattle.wing_node.specs.Cursor.{Field, number, string, start, nothing, read_at, reads, after}
+use Rattle.wing_node.specs.Cursor.{Field, number, string, Cursor, Reading, start, nothing, read_at, reads, after, unless}
 use Rattle.wing_node.specs.Types.{type_of, unit_of}
-use Rattle.wing_node.specs.declared.cursor.Cursor.{Cursor}
-use Rattle.wing_node.specs.declared.cursor.FieldRead.{FieldRead}
 use Rattle.wing_node.specs.declared.node_type.NodeType.{NodeType}
 use Rattle.wing_node.specs.declared.node_type.NodeType.TheVariants.{Node, LinearFloat, LogarithmicFloat, FaderLevel, Integer, StringEnum, FloatEnum, String}
 use Rattle.wing_node.specs.declared.definition.Span.{Span}
@@ -83,8 +81,12 @@ abbrev pub items_of : NodeType → ℕ → List Field
 items_of t count = times count (item_of t)
 
 -- where a string lies: start and length in the body
-abbrev pub span_of : FieldRead → Span
-span_of r = record { start = r.start; len = r.value }
+abbrev pub span_at : ℕ → ℕ → Span
+span_at start len = record { start = start; len = len }
+
+-- where the string of a field lies
+abbrev pub span_of : Reading → Span
+span_of r = span_at r.start r.value
 
 -- the number of a field among the names
 abbrev pub name_number : FieldName → ℕ
@@ -101,13 +103,13 @@ name_number Count = 9
 name_number MaxLen = 10
 
 -- the field of a name among those that were read: nothing if it is not among them
-abbrev pub look : List FieldName → List FieldRead → FieldName → FieldRead
+abbrev pub look : List FieldName → List Reading → FieldName → Reading
 look [] rs k = nothing start
 look (j ∷ js) [] k = nothing start
 look (j ∷ js) (r ∷ rs) k = if (eqb (name_number j) (name_number k)) r (look js rs k)
 
 -- the fields of these names, read one after the other from a cursor on
-abbrev pub named : List FieldName → List ℕ → Cursor → FieldName → FieldRead
+abbrev pub named : List FieldName → List ℕ → Cursor → FieldName → Reading
 named ks body c = look ks (reads (map form ks) body c)
 
 -- the cursor after named fields
@@ -115,11 +117,11 @@ abbrev pub past : List FieldName → List ℕ → Cursor → Cursor
 past ks body c = after (map form ks) body c
 
 -- the k-th field that was read
-abbrev pub nth : List FieldRead → ℕ → FieldRead
+abbrev pub nth : List Reading → ℕ → Reading
 nth rs k = get_or rs k (nothing start)
 
 -- what an item's fields say
-abbrev pub item_from : NodeType → List FieldRead → Option Item
+abbrev pub item_from : NodeType → List Reading → Option Item
 item_from Node rs = None
 item_from LinearFloat rs = None
 item_from LogarithmicFloat rs = None
@@ -129,13 +131,22 @@ item_from StringEnum rs = Some (Strings (span_of (nth rs 0)) (span_of (nth rs 1)
 item_from FloatEnum rs = Some (Float (nth rs 0).value (span_of (nth rs 1)))
 item_from String rs = None
 
+-- an item, and the cursor after it
+pub record ItemReading : Type 0 where
+  pub item : Option Item
+  pub next : Cursor
+
+-- the item, or why it is refused
+abbrev pub item_of_read : ItemReading → Result ItemRead
+item_of_read r = unless r.next.fault (record { item = r.item; next = r.next.at })
+
 -- the item at a cursor, and the cursor after it
-unfoldable pub item_at : NodeType → List ℕ → Cursor → ItemRead
+unfoldable pub item_at : NodeType → List ℕ → Cursor → ItemReading
 item_at t body c = record { item = item_from t (reads (item_of t) body c); next = after (item_of t) body c }
 
 -- what the fields that a type adds say; `first` is the place after them, where the items begin.
 -- Steps and integer limits are signed, float limits are their bits
-abbrev pub details_from : NodeType → (FieldName → FieldRead) → ℕ → Details
+abbrev pub details_from : NodeType → (FieldName → Reading) → ℕ → Details
 details_from Node f first = no_details
 details_from LinearFloat f first = Floats (f Min).value (f Max).value (signed 31 (f Steps).value)
 details_from LogarithmicFloat f first = Floats (f Min).value (f Max).value (signed 31 (f Steps).value)
@@ -145,25 +156,34 @@ details_from StringEnum f first = Items (f Count).value first
 details_from FloatEnum f first = Items (f Count).value first
 details_from String f first = max_len (f MaxLen).value
 
+-- what a type adds, and the cursor after it
+pub record DetailsReading : Type 0 where
+  pub details : Details
+  pub next : Cursor
+
+-- what it adds, or why that is refused
+abbrev pub details_of_read : DetailsReading → Result DetailsRead
+details_of_read r = unless r.next.fault (record { details = r.details; next = r.next.at })
+
 -- what stands after the flags, with the items passed: none without a count
-unfoldable pub details_at : NodeType → List ℕ → Cursor → DetailsRead
+unfoldable pub details_at : NodeType → List ℕ → Cursor → DetailsReading
 details_at t body c =
     let f = named (added t) body c in
     let first = past (added t) body c in
     record { details = details_from t f first.at; next = after (items_of t (f Count).value) body first }
 
 -- the same for a type with a count
-unfoldable pub listed_at : NodeType → List ℕ → Cursor → DetailsRead
+unfoldable pub listed_at : NodeType → List ℕ → Cursor → DetailsReading
 listed_at t body c =
     let count = read_at (number 2) body c in
     record { details = Items count.value count.next.at; next = after (items_of t count.value) body count.next }
 
 -- 01: type = flags div 16 mod 16
-abbrev pub kind_from : (FieldName → FieldRead) → NodeType
+abbrev pub kind_from : (FieldName → Reading) → NodeType
 kind_from f = type_of ((f Flags).value / 16 % 16)
 
 -- what the fields of the header say, with the details that follow them. 01: unit = flags mod 16, read-only is bit 9
-abbrev pub definition_from : (FieldName → FieldRead) → Details → Definition
+abbrev pub definition_from : (FieldName → Reading) → Details → Definition
 definition_from f details =
     record {
       parent_id = signed 31 (f ParentId).value;

@@ -3,10 +3,9 @@ use Rattle.std.specs.Prelude.{ℕ, ◌-◌, List, eqb, leb, Ok, Err, Option, Non
 use Rattle.wing_node.specs.Bool.{if}
 use Rattle.wing_node.specs.Cursor.{cursor, after}
 use Rattle.wing_node.specs.Types.{has_items}
-use Rattle.wing_node.specs.Definition.{item_at, items_of, definition_of}
+use Rattle.wing_node.specs.Definition.{ItemReading, item_at, items_of, definition_of}
 use Rattle.wing_node.specs.declared.node_type.NodeType.{NodeType}
 use Rattle.wing_node.specs.declared.definition.Item.{Item}
-use Rattle.wing_node.specs.declared.definition.ItemRead.{ItemRead}
 use Rattle.wing_node.specs.declared.definition.Details.{Details}
 use Rattle.wing_node.specs.declared.definition.Details.TheVariants.{None as no_details, Floats, Integers, Items, String as max_len}
 use Rattle.wing_node.specs.declared.items.Walk.{Walk}
@@ -42,12 +41,12 @@ unfoldable pub begin_of : List ℕ → Result Walk
 begin_of body = begin_from (definition_of body)
 
 -- by the fault that was met: an item that was read moves the walk; a refused one does not
-abbrev pub step_by : Fault → ItemRead → ℕ → ℕ → NodeType → Step
+abbrev pub step_by : Fault → ItemReading → ℕ → ℕ → NodeType → Step
 step_by (Ok u) r at left kind = stayed (Ok r.item) r.next.at (left - 1) kind
 step_by (Err why) r at left kind = stayed (Err why) at left kind
 
 -- the walk after what was read there
-abbrev pub step_from : ItemRead → ℕ → ℕ → NodeType → Step
+abbrev pub step_from : ItemReading → ℕ → ℕ → NodeType → Step
 step_from r at left kind = step_by r.next.fault r at left kind
 
 -- 01: a step gives none when no items are left or the type has none, else the item there, or 4 or 5

@@ -1,9 +1,8 @@
 // A body read and written anew (02): the parser's answer as the writer's fields, and what of the body is lent to the writer.
 ghost use Rattle.std.specs.Prelude.{◌≡◌, ◌-◌, ◌≤◌, length, take, drop};
 ghost use Rattle.wing_node.specs.Writer.{body_effect, body_of_fields};
-ghost use Rattle.wing_node.specs.Anew.{fields_with, fields_of, item_bytes, lent_from, anew_of};
+ghost use Rattle.wing_node.specs.Anew.{fields_with, fields_of, items_read, item_bytes, lent_from, anew_of};
 
-use crate::cursor::Cursor;
 use crate::definition::{Definition, Details, from_bytes, past_items};
 use crate::node_type::NodeType;
 use crate::refusal::Refusal;
@@ -33,22 +32,15 @@ fn distance(from: usize, to: usize) -> usize
     if from < to { to - from } else { 0 }
 }
 
-// The bytes of the items.
+// The bytes of the items, which the parser has read.
 fn items_part(body: &[u8], kind: NodeType, details: Details) -> Part
+    requires { items_read body.now kind details }
     ensures { (result.start ≤ result.end) × (result.end ≤ length body.now) × (take (result.end - result.start) (drop result.start body.now) ≡ item_bytes body.now kind details) }
 {
     match details {
         Details::Items { count, first } => {
-            let end = past_items(
-                body,
-                kind,
-                count,
-                Cursor {
-                    at: first,
-                    fault: Ok(()),
-                },
-            );
-            part_of(body, first, distance(first, end.at))
+            let end = past_items(body, kind, count, first).unwrap_or(first);
+            part_of(body, first, distance(first, end))
         }
         _ => part_of(body, 0, 0),
     }
@@ -101,6 +93,7 @@ pub fn fields_of(d: Definition) -> Fields
 
 // A definition that was read of a body, written.
 fn write_read(body: &[u8], d: Definition, out: &mut [u8]) -> Result<usize, Refusal>
+    requires { items_read body.now d.node_type d.details }
     ensures { body_effect result out.new ≡ body_of_fields (fields_of d) (lent_from body.now d) out.old }
 {
     let name = part_of(body, d.name.start, d.name.len as usize);

@@ -1,10 +1,11 @@
 // A node's definition, read from the body that a console sends (libwing's WingNodeDef::from_bytes):
 // field by field in the order of the wire, nothing copied out of the body.
 ghost use Rattle.std.specs.Prelude.{◌≡◌};
-ghost use Rattle.wing_node.specs.Cursor.{after};
-ghost use Rattle.wing_node.specs.Definition.{span_of, item_at, items_of, listed_at, details_at, parsed_from, definition_of};
+ghost use Rattle.wing_node.specs.Refusal.{no_fault};
+ghost use Rattle.wing_node.specs.Cursor.{cursor, after, place_of};
+ghost use Rattle.wing_node.specs.Definition.{span_at, item_at, item_of_read, items_of, listed_at, details_at, details_of_read, definition_of};
 
-use crate::cursor::{Cursor, FieldRead, read_16, read_32, read_string};
+use crate::cursor::{FieldRead, read_16, read_32, read_string};
 use crate::node_type::{NodeType, NodeUnit};
 use crate::refusal::Refusal;
 
@@ -16,7 +17,7 @@ pub struct Span {
 }
 
 fn span_of(r: FieldRead) -> Span
-    ensures { result ≡ span_of r }
+    ensures { result ≡ span_at r.start r.value }
 {
     Span {
         start: r.start,
@@ -34,7 +35,7 @@ pub enum Item {
 #[derive(Clone, Copy)]
 pub struct ItemRead {
     pub item: Option<Item>,
-    pub next: Cursor,
+    pub next: usize,
 }
 
 // What a type adds to a definition. Floats are their 32 bits.
@@ -50,7 +51,7 @@ pub enum Details {
 #[derive(Clone, Copy)]
 pub struct DetailsRead {
     pub details: Details,
-    pub next: Cursor,
+    pub next: usize,
 }
 
 #[derive(Clone, Copy)]
@@ -66,131 +67,137 @@ pub struct Definition {
     pub details: Details,
 }
 
-fn string_item(body: &[u8], c: Cursor) -> ItemRead
-    ensures { result ≡ item_at NodeType.StringEnum body.now c }
+fn string_item(body: &[u8], at: usize) -> Result<ItemRead, Refusal>
+    ensures { result ≡ item_of_read (item_at NodeType.StringEnum body.now (cursor at no_fault)) }
 {
-    let item = read_string(body, c);
-    let long_item = read_string(body, item.next);
+    let item = read_string(body, at)?;
+    let long_item = read_string(body, item.next)?;
     let next = long_item.next;
-    ItemRead {
+    Ok(ItemRead {
         item: Some(Item::Strings {
             item: span_of(item),
             long_item: span_of(long_item),
         }),
         next,
-    }
+    })
 }
 
-fn float_item(body: &[u8], c: Cursor) -> ItemRead
-    ensures { result ≡ item_at NodeType.FloatEnum body.now c }
+fn float_item(body: &[u8], at: usize) -> Result<ItemRead, Refusal>
+    ensures { result ≡ item_of_read (item_at NodeType.FloatEnum body.now (cursor at no_fault)) }
 {
-    let item = read_32(body, c);
-    let long_item = read_string(body, item.next);
+    let item = read_32(body, at)?;
+    let long_item = read_string(body, item.next)?;
     let next = long_item.next;
-    ItemRead {
+    Ok(ItemRead {
         item: Some(Item::Float {
             item: item.value,
             long_item: span_of(long_item),
         }),
         next,
-    }
+    })
 }
 
-pub(crate) fn read_item(body: &[u8], kind: NodeType, c: Cursor) -> ItemRead
-    ensures { result ≡ item_at kind body.now c }
+pub(crate) fn read_item(body: &[u8], kind: NodeType, at: usize) -> Result<ItemRead, Refusal>
+    ensures { result ≡ item_of_read (item_at kind body.now (cursor at no_fault)) }
 {
     match kind {
-        NodeType::StringEnum => string_item(body, c),
-        NodeType::FloatEnum => float_item(body, c),
-        _ => ItemRead {
+        NodeType::StringEnum => string_item(body, at),
+        NodeType::FloatEnum => float_item(body, at),
+        _ => Ok(ItemRead {
             item: None,
-            next: c,
-        },
+            next: at,
+        }),
     }
 }
 
-// The cursor past a number of items. It stops at the first that is refused.
-pub(crate) fn past_items(body: &[u8], kind: NodeType, count: u16, first: Cursor) -> Cursor
-    ensures { result ≡ after (items_of kind count) body.now first }
+// The place past a number of items, unless one is refused.
+pub(crate) fn past_items(
+    body: &[u8],
+    kind: NodeType,
+    count: u16,
+    first: usize,
+) -> Result<usize, Refusal>
+    ensures { result ≡ place_of (after (items_of kind count) body.now (cursor first no_fault)) }
 {
-    let mut c = first;
+    let mut at = first;
     for _ in 0..count {
-        let fault = c.fault;
-        if fault.is_err() {
-            return c;
-        }
-        let read = read_item(body, kind, c);
-        c = read.next;
+        let read = read_item(body, kind, at)?;
+        at = read.next;
     }
-    c
+    Ok(at)
 }
 
-fn floats(body: &[u8], c: Cursor) -> DetailsRead
-    ensures { result ≡ details_at NodeType.LinearFloat body.now c }
+fn floats(body: &[u8], at: usize) -> Result<DetailsRead, Refusal>
+    ensures { result ≡ details_of_read (details_at NodeType.LinearFloat body.now (cursor at no_fault)) }
 {
-    let min = read_32(body, c);
-    let max = read_32(body, min.next);
-    let steps = read_32(body, max.next);
+    let min = read_32(body, at)?;
+    let max = read_32(body, min.next)?;
+    let steps = read_32(body, max.next)?;
     let next = steps.next;
-    DetailsRead {
+    Ok(DetailsRead {
         details: Details::Floats {
             min: min.value,
             max: max.value,
             steps: steps.value.cast_signed(),
         },
         next,
-    }
+    })
 }
 
-fn integers(body: &[u8], c: Cursor) -> DetailsRead
-    ensures { result ≡ details_at NodeType.Integer body.now c }
+fn integers(body: &[u8], at: usize) -> Result<DetailsRead, Refusal>
+    ensures { result ≡ details_of_read (details_at NodeType.Integer body.now (cursor at no_fault)) }
 {
-    let min = read_32(body, c);
-    let max = read_32(body, min.next);
+    let min = read_32(body, at)?;
+    let max = read_32(body, min.next)?;
     let next = max.next;
-    DetailsRead {
+    Ok(DetailsRead {
         details: Details::Integers {
             min: min.value.cast_signed(),
             max: max.value.cast_signed(),
         },
         next,
-    }
+    })
 }
 
-fn listed(body: &[u8], kind: NodeType, c: Cursor) -> DetailsRead
-    ensures { result ≡ listed_at kind body.now c }
+fn listed(body: &[u8], kind: NodeType, at: usize) -> Result<DetailsRead, Refusal>
+    ensures { result ≡ details_of_read (listed_at kind body.now (cursor at no_fault)) }
 {
-    let count = read_16(body, c);
-    DetailsRead {
+    let count = read_16(body, at)?;
+    let next = past_items(body, kind, count.value, count.next)?;
+    Ok(DetailsRead {
         details: Details::Items {
             count: count.value,
-            first: count.next.at,
+            first: count.next,
         },
-        next: past_items(body, kind, count.value, count.next),
-    }
+        next,
+    })
 }
 
-fn read_details(body: &[u8], kind: NodeType, c: Cursor) -> DetailsRead
-    ensures { result ≡ details_at kind body.now c }
+fn longest(body: &[u8], at: usize) -> Result<DetailsRead, Refusal>
+    ensures { result ≡ details_of_read (details_at NodeType.String body.now (cursor at no_fault)) }
+{
+    let max = read_16(body, at)?;
+    let next = max.next;
+    Ok(DetailsRead {
+        details: Details::String { max_len: max.value },
+        next,
+    })
+}
+
+fn read_details(body: &[u8], kind: NodeType, at: usize) -> Result<DetailsRead, Refusal>
+    ensures { result ≡ details_of_read (details_at kind body.now (cursor at no_fault)) }
 {
     match kind {
-        NodeType::LinearFloat | NodeType::LogarithmicFloat => floats(body, c),
-        NodeType::Integer => integers(body, c),
+        NodeType::LinearFloat | NodeType::LogarithmicFloat => floats(body, at),
+        NodeType::Integer => integers(body, at),
         // An arm each, so that the loop over the items is compiled for its one type.
-        NodeType::StringEnum => listed(body, kind, c),
-        NodeType::FloatEnum => listed(body, kind, c),
-        NodeType::String => {
-            let max = read_16(body, c);
-            let next = max.next;
-            DetailsRead {
-                details: Details::String { max_len: max.value },
-                next,
-            }
-        }
-        NodeType::Node | NodeType::FaderLevel => DetailsRead {
+        NodeType::StringEnum => listed(body, kind, at),
+        NodeType::FloatEnum => listed(body, kind, at),
+        NodeType::String => longest(body, at),
+        NodeType::Node | NodeType::FaderLevel => Ok(DetailsRead {
             details: Details::None,
-            next: c,
-        },
+            next: at,
+        }),
     }
 }
 
@@ -198,21 +205,15 @@ fn read_details(body: &[u8], kind: NodeType, c: Cursor) -> DetailsRead
 pub fn from_bytes(body: &[u8]) -> Result<Definition, Refusal>
     ensures { result ≡ definition_of body.now }
 {
-    let parent_id = read_32(
-        body,
-        Cursor {
-            at: 0,
-            fault: Ok(()),
-        },
-    );
-    let id = read_32(body, parent_id.next);
-    let index = read_16(body, id.next);
-    let name = read_string(body, index.next);
-    let long_name = read_string(body, name.next);
-    let flags = read_16(body, long_name.next);
+    let parent_id = read_32(body, 0)?;
+    let id = read_32(body, parent_id.next)?;
+    let index = read_16(body, id.next)?;
+    let name = read_string(body, index.next)?;
+    let long_name = read_string(body, name.next)?;
+    let flags = read_16(body, long_name.next)?;
     let bits = flags.value;
     let kind = NodeType::from(bits / 16 % 16);
-    let found = read_details(body, kind, flags.next);
+    let found = read_details(body, kind, flags.next)?;
     let details = found.details;
     let d = Definition {
         parent_id: parent_id.value.cast_signed(),
@@ -225,7 +226,5 @@ pub fn from_bytes(body: &[u8]) -> Result<Definition, Refusal>
         read_only: bits / 512 % 2 == 1,
         details,
     };
-    let next = found.next;
-    next.fault?;
     Ok(d)
 }

@@ -1,8 +1,7 @@
 // The items of a definition, one after the other or by number, on a plain slice with numbers.
-ghost use Rattle.std.specs.Prelude.{◌≡◌};
+ghost use Rattle.std.specs.Prelude.{◌≡◌, Ok};
 ghost use Rattle.wing_node.specs.Items.{walk_from, begin_of, stayed, step_at, numbered_from, item_numbered};
 
-use crate::cursor::Cursor;
 use crate::definition::{Details, Item, from_bytes, past_items, read_item};
 use crate::node_type::{NodeType, has_items};
 use crate::refusal::Refusal;
@@ -61,19 +60,11 @@ pub fn item_step(body: &[u8], walk: Walk) -> Step
         return stay(Ok(None), walk);
     }
     if has_items(walk.kind) {
-        let read = read_item(
-            body,
-            walk.kind,
-            Cursor {
-                at: walk.at,
-                fault: Ok(()),
-            },
-        );
-        return match read.next.fault {
-            Ok(()) => stay(
+        return match read_item(body, walk.kind, walk.at) {
+            Ok(read) => stay(
                 Ok(read.item),
                 Walk {
-                    at: read.next.at,
+                    at: read.next,
                     left: walk.left - 1,
                     kind: walk.kind,
                 },
@@ -84,24 +75,18 @@ pub fn item_step(body: &[u8], walk: Walk) -> Step
     stay(Ok(None), walk)
 }
 
+// Of a body that the parser takes, so the items before it are not refused.
 fn numbered(body: &[u8], number: usize, first: Walk) -> Result<Option<Item>, Refusal>
+    requires { begin_of body.now ≡ Ok first }
     ensures { result ≡ numbered_from body.now number first }
 {
     if first.left as usize <= number {
         return Err(Refusal::NumberOver);
     }
     let before = number as u16;
-    let c = past_items(
-        body,
-        first.kind,
-        before,
-        Cursor {
-            at: first.at,
-            fault: Ok(()),
-        },
-    );
+    let at = past_items(body, first.kind, before, first.at)?;
     let there = Walk {
-        at: c.at,
+        at,
         left: first.left - before,
         kind: first.kind,
     };

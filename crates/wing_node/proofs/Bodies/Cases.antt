@@ -10,9 +10,8 @@ use lib.Seq.{get_or-drop, drop-drop, length-take-le}
 use borrow.Author.Tests.{lt-ltb, le-ltb, eq-eqb, ne_eqb}
 use Rattle.wing_node.specs.Refusal.{no_fault, because, is_refused}
 use Rattle.wing_node.specs.Utf8.{good, utf8}
-use Rattle.wing_node.specs.Cursor.{Field, string, size, content, held_fault, right, fault, value_of, content_at, stopped, cursor, from, field_read, nothing, read_at}
+use Rattle.wing_node.specs.Cursor.{Cursor, Field, string, size, content, held_fault, right, fault, value_of, content_at, stopped, cursor, from, field_read, nothing, read_at}
 use Rattle.wing_node.specs.declared.refusal.Refusal.TheVariants.{DefinitionNotUtf8, DefinitionShort}
-use Rattle.wing_node.specs.declared.cursor.Cursor.{Cursor}
 use Rattle.wing_node.proofs.Characters.Grammar.{good-le}
 
 pub first_byte : (s : List ℕ) (i : ℕ) → get_or (drop i s) 0 0 ≡ get_or s i 0

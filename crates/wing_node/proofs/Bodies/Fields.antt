@@ -5,9 +5,8 @@ use mathlib.Core.List.{List, [], ◌∷◌, ◌++◌}
 use Prim.Native.Nat.{ℕ, zero, suc, ◌-◌, ◌≤◌, ◌<◌}
 use native.Mathlib.Omega.{arith}
 use Rattle.wing_node.specs.Refusal.{is_refused}
-use Rattle.wing_node.specs.Cursor.{Field, read_at, after}
+use Rattle.wing_node.specs.Cursor.{Cursor, Field, read_at, after}
 use Rattle.wing_node.specs.Definition.{times, item_of, items_of, item_at}
-use Rattle.wing_node.specs.declared.cursor.Cursor.{Cursor}
 use Rattle.wing_node.specs.declared.node_type.NodeType.{NodeType}
 use Rattle.wing_node.proofs.Bodies.Cases.{read-refused}
 

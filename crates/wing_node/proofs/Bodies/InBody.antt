@@ -11,13 +11,11 @@ use borrow.Author.Tests.{eqb-true}
 use Rattle.wing_node.specs.Refusal.{no_fault, is_refused, Fault}
 use Rattle.wing_node.specs.Bool.{if}
 use Rattle.wing_node.specs.Types.{type_of}
-use Rattle.wing_node.specs.Cursor.{Field, string, size, content, value_of, content_at, cursor, start, field_read, reads, after}
+use Rattle.wing_node.specs.Cursor.{Cursor, Reading, Field, string, size, content, value_of, content_at, cursor, start, field_read, reads, after}
 use Rattle.wing_node.specs.Definition.{FieldName, ParentId, Id, Index, Name, LongName, Flags, Min, Max, Steps, Count, MaxLen, name_number, form, named, past, header, added, items_of, span_of, kind_from, details_at, fields_in}
 use Rattle.wing_node.specs.Standing.{extent, beyond, Stand, more}
 use Rattle.wing_node.specs.Answers.{bytes_at}
 use Rattle.wing_node.specs.InBody.{number_named, bytes_named, type_in, count_in, all_fields}
-use Rattle.wing_node.specs.declared.cursor.Cursor.{Cursor}
-use Rattle.wing_node.specs.declared.cursor.FieldRead.{FieldRead}
 use Rattle.wing_node.specs.declared.node_type.NodeType.{NodeType}
 use Rattle.wing_node.proofs.Bodies.Fields.{after-append, after-refused}
 use Rattle.wing_node.proofs.Bodies.Standing.{one-read, onward, passes, stands}
@@ -50,7 +48,7 @@ has [] k = false
 has (j ∷ js) k = if (eqb (name_number j) (name_number k)) true (has js k)
 
 -- what the field of a name was read as is what it holds there
-pick : (b : Bool) (r r' : FieldRead) (n n' : ℕ) → r.value ≡ n → r'.value ≡ n' → (if {A = FieldRead} b r r').value ≡ if b n n'
+pick : (b : Bool) (r r' : Reading) (n n' : ℕ) → r.value ≡ n → r'.value ≡ n' → (if {A = Reading} b r r').value ≡ if b n n'
 pick true r r' n n' e e' = e
 pick false r r' n n' e e' = e'
 
@@ -63,7 +61,7 @@ named-number (j ∷ js) k body at (more w r h) =
     let rest : (named js body (cursor (at + n) no_fault) k).value ≡ number_named js k (drop (at + n) body) = named-number js k body (at + n) (onward (form j) (map form js) body at h) in
     rw (one-read (form j) body at w r, drop-drop) (pick (eqb (name_number j) (name_number k)) _ _ _ _ refl rest)
 
-pick-bytes : (body : List ℕ) (b : Bool) (r r' : FieldRead) (s s' : List ℕ) → (b ≡ true → bytes_at body (span_of r) ≡ s) → bytes_at body (span_of r') ≡ s' →
+pick-bytes : (body : List ℕ) (b : Bool) (r r' : Reading) (s s' : List ℕ) → (b ≡ true → bytes_at body (span_of r) ≡ s) → bytes_at body (span_of r') ≡ s' →
     bytes_at body (span_of (if b r r')) ≡ if b s s'
 pick-bytes body true r r' s s' e e' = e refl
 pick-bytes body false r r' s s' e e' = e'

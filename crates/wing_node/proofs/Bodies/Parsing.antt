@@ -7,7 +7,7 @@ use Prim.Native.Nat.{ℕ}
 use native.Mathlib.Omega.{arith}
 use Rattle.wing_node.specs.Refusal.{no_fault, because, is_refused, Fault}
 use Rattle.wing_node.specs.Result.{ok, refused}
-use Rattle.wing_node.specs.Cursor.{cursor, start, after}
+use Rattle.wing_node.specs.Cursor.{Cursor, Reading, cursor, start, after}
 use Rattle.wing_node.specs.Definition.{FieldName, ParentId, Id, Index, Name, LongName, Flags, Min, Max, Steps, Count, MaxLen, form, named, past, header, added, items_of, kind_from, details_from, details_at, definition_from, parsed_from, definition_of}
 use Rattle.wing_node.specs.Standing.{extent, beyond, Stand}
 use Rattle.wing_node.specs.Answers.{DefinitionValues, values_of, parsed_result, details_by}
@@ -15,8 +15,6 @@ use Rattle.wing_node.specs.InBody.{number_named, bytes_named, type_in, names_in,
 use Rattle.wing_node.specs.Parsing.{parser_says, Takes, Parsing}
 use Rattle.wing_node.specs.declared.refusal.Refusal.{Refusal}
 use Rattle.wing_node.specs.declared.refusal.Refusal.TheVariants.{DefinitionNotUtf8, DefinitionShort}
-use Rattle.wing_node.specs.declared.cursor.Cursor.{Cursor}
-use Rattle.wing_node.specs.declared.cursor.FieldRead.{FieldRead}
 use Rattle.wing_node.specs.declared.node_type.NodeType.{NodeType}
 use Rattle.wing_node.specs.declared.node_type.NodeType.TheVariants.{Node, LinearFloat, LogarithmicFloat, FaderLevel, Integer, StringEnum, FloatEnum, String}
 use Rattle.wing_node.specs.declared.definition.Definition.{Definition}
@@ -36,7 +34,7 @@ module _ (body : List ℕ) (d : Definition) where
   good-with (Err why) v h = absurd (let z : ◌≡◌ {A = ℕ} 0 1 = cc in omega arith)
 
 -- what a type adds, by the numbers of its fields
-same-details : (t : NodeType) (f : FieldName → FieldRead) (v : FieldName → ℕ) (first : ℕ) → ((k : FieldName) → has header k ≡ false → (f k).value ≡ v k) →
+same-details : (t : NodeType) (f : FieldName → Reading) (v : FieldName → ℕ) (first : ℕ) → ((k : FieldName) → has header k ≡ false → (f k).value ≡ v k) →
     details_from t f first ≡ details_by t v first
 same-details Node f v first h = refl
 same-details LinearFloat f v first h = rw (h Min refl, h Max refl, h Steps refl)
@@ -48,7 +46,7 @@ same-details FloatEnum f v first h = rw (h Count refl)
 same-details String f v first h = rw (h MaxLen refl)
 
 module _ (body : List ℕ) where
-  abbrev pub fields : FieldName → FieldRead
+  abbrev pub fields : FieldName → Reading
   fields = named header body start
 
   abbrev end : Fault

@@ -12,13 +12,12 @@ use borrow.Author.Tests.{le-ltb, ltb-true, ltb-false}
 use Rattle.wing_node.specs.Utf8.{good}
 use Rattle.wing_node.specs.Refusal.{refusal_number, good_beside, no_fault, because, is_refused, Fault}
 use Rattle.wing_node.specs.Bool.{if}
-use Rattle.wing_node.specs.Cursor.{Field, size, content, held_fault, right, fault, value_of, content_at, cursor, from, field_read, read_at, after}
+use Rattle.wing_node.specs.Cursor.{Cursor, Field, size, content, held_fault, right, fault, value_of, content_at, cursor, from, field_read, read_at, after}
 use Rattle.wing_node.specs.Definition.{times}
 use Rattle.wing_node.specs.Standing.{Whole, PastEnd, NotUtf8, extent, beyond, Stand, empty, more, StopsAt}
 use Rattle.wing_node.specs.Parsing.{FourOrFive}
 use Rattle.wing_node.specs.declared.refusal.Refusal.{Refusal}
 use Rattle.wing_node.specs.declared.refusal.Refusal.TheVariants.{DefinitionNotUtf8, DefinitionShort}
-use Rattle.wing_node.specs.declared.cursor.Cursor.{Cursor}
 use Rattle.wing_node.proofs.Refusals.{reason_of}
 use Rattle.wing_node.proofs.Bodies.Cases.{read-there}
 use Rattle.wing_node.proofs.Bodies.Fields.{after-append, after-refused}

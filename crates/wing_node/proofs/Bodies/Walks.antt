@@ -1,6 +1,6 @@
 -- Walks over a body: how they begin, where steps lead, and the item of a number.
 use mathlib.Core.Path.{◌≡◌, refl, ◌∙◌, ap, sym}
-use mathlib.Core.Bool.{Bool, true, false}
+use mathlib.Core.Bool.{Bool, true, false, true≢false}
 use mathlib.Core.Logic.{◌↔◌, ◌⊎◌, inl, inr}
 use mathlib.Core.List.{List, ◌++◌, map}
 use Prim.Native.Nat.{ℕ, zero, suc, ◌+◌, ◌-◌, ◌≤◌, ◌<◌}
@@ -10,12 +10,15 @@ use lib.ListN.{drop}
 use lib.Seq.{drop-drop}
 use borrow.Author.Tests.{le-leb, lt-leb, leb-true, leb-false}
 use Rattle.wing_node.specs.Bool.{if}
+use Rattle.wing_node.specs.Refusal.{no_fault}
+use Rattle.wing_node.specs.Cursor.{Cursor, cursor, after}
+use Rattle.wing_node.specs.Anew.{items_read}
 use Rattle.wing_node.specs.Result.{Result, ok, refused}
 use Rattle.wing_node.specs.Types.{has_items}
 use Rattle.wing_node.specs.Definition.{FieldName, Count, form, header, added, times, item_of, items_of, definition_of}
 use Rattle.wing_node.specs.Items.{walk, walk_from, begin_from, begin_of, numbered_from, numbered_in, item_numbered}
 use Rattle.wing_node.specs.Standing.{extent, beyond, Stand}
-use Rattle.wing_node.specs.Answers.{DefinitionValues, none, details_by, parsed_result, item_result}
+use Rattle.wing_node.specs.Answers.{DefinitionValues, values_of, none, details_by, parsed_result, item_result}
 use Rattle.wing_node.specs.InBody.{number_named, type_in, names_in, count_in, all_fields, first_in, walk_in, item_in, item_in_body}
 use Rattle.wing_node.specs.Parsing.{parser_says, Takes, Beginning, step_of, step_says, number_says, Left, IsItem, ByNumber, walked, Walking, Definitions}
 use Rattle.wing_node.specs.declared.refusal.Refusal.{Refusal}
@@ -25,12 +28,13 @@ use Rattle.wing_node.specs.declared.node_type.NodeType.TheVariants.{Node, Linear
 use Rattle.wing_node.specs.declared.items.Walk.{Walk}
 use Rattle.wing_node.specs.declared.items.Step.{Step}
 use Rattle.wing_node.proofs.Refusals.{reason}
+use Rattle.wing_node.proofs.Bodies.Fails.{value}
 use Rattle.wing_node.proofs.Bodies.Standing.{passes, stand-parts, extent-parts, times-stand}
 use Rattle.wing_node.proofs.Bodies.InBody.{number-later, same-type}
-use Rattle.wing_node.proofs.Bodies.Parsing.{taken, parsing, header-stands, details-said, parsed-good}
+use Rattle.wing_node.proofs.Bodies.Parsing.{found, taken, parsing, header-stands, details-said, parsed-good}
 use Rattle.wing_node.proofs.Bodies.Steps.{moves, stepping, mark, item-mark}
 use Rattle.wing_node.specs.declared.definition.Definition.{Definition}
-use Rattle.std.specs.Prelude.{Ok, Err}
+use Rattle.std.specs.Prelude.{Ok, Err, is_err}
 
 begun-refused : (body : List ℕ) (p : Result Definition) (why : Refusal) → (begin_from p ≡ refused why) ↔ (parsed_result body p ≡ refused why)
 begun-refused body (Ok d) why = (λ e. absurd (let z : ◌≡◌ {A = ℕ} 0 1 = cc in omega arith), λ e. absurd (let z : ◌≡◌ {A = ℕ} 0 1 = cc in omega arith))
@@ -217,3 +221,46 @@ module _ (body : List ℕ) where
 -- the parser and the item calls, on every body
 pub definitions : Definitions
 definitions = record { parsing = parsing; beginning = beginning; stepping = stepping; by_number = by_number_lem; walking = walking }
+
+-- a body of which a walk begins is taken
+taken-by : (body : List ℕ) (d : Definition) → definition_of body ≡ Ok d → Takes body
+taken-by body d e = record { definition = values_of body d; says = ap (parsed_result body) e }
+
+module _ (body : List ℕ) where
+  walk-taken : (w : Walk) → begin_of body ≡ Ok w → Takes body
+  unfolding begin_of
+  walk-taken w e = go (definition_of body) refl e
+    where
+      go : (p : Result Definition) → definition_of body ≡ p → begin_from p ≡ Ok w → Takes body
+      go (Ok d) q h = taken-by body d q
+      go (Err why) q h = absurd (true≢false (ap is_err h))
+
+  -- the items before one of a walk that begins are not refused
+  pub items-pass : (w : Walk) (n : ℕ) → begin_of body ≡ Ok w → n < w.left → (after (items_of w.kind n) body (cursor w.at no_fault)).fault ≡ no_fault
+  items-pass w n e l =
+      let k = walk-taken w e in
+      let h = (taken body).0 k in
+      let same : walk_in body ≡ w = ap (value w) (sym (begun-at body k) ∙ e) in
+      let below : n < count_in body = omega (arith, l, ap (λ (v : Walk). v.left) same, begins-with body) in
+      let there : w ≡ walk (first_in body) (count_in body) (type_in body) = sym same ∙ first_walk body h n below in
+      ap (λ (v : Walk). (after (items_of v.kind n) body (cursor v.at no_fault)).fault) there ∙
+      ap (λ (c : Cursor). c.fault) (passes (items_of (type_in body) n) body (first_in body) (parts body h n below).0)
+
+  read-by : (t : NodeType) (v : FieldName → ℕ) (first : ℕ) → (after (items_of t (v Count)) body (cursor first no_fault)).fault ≡ no_fault → items_read body t (details_by t v first)
+  read-by Node v first h = tt
+  read-by LinearFloat v first h = tt
+  read-by LogarithmicFloat v first h = tt
+  read-by FaderLevel v first h = tt
+  read-by Integer v first h = tt
+  read-by StringEnum v first h = h
+  read-by FloatEnum v first h = h
+  read-by String v first h = tt
+
+  -- nor is any of a definition's
+  pub items-read : (d : Definition) → definition_of body ≡ Ok d → items_read body d.node_type d.details
+  items-read d e =
+      let h = (taken body).0 (taken-by body d e) in
+      let same : d ≡ found body = sym (ap (value d) (sym (parsed-good body h) ∙ e)) in
+      let all = (stand-parts (map form (names_in body)) (items_of (type_in body) (count_in body)) body h).1 in
+      rw (same, details-said body h, same-type body (header-stands body h))
+      (read-by (type_in body) (λ n. number_named (names_in body) n body) (first_in body) (ap (λ (c : Cursor). c.fault) (passes (items_of (type_in body) (count_in body)) body (first_in body) all)))

@@ -1,8 +1,9 @@
 -- The contract of the parser says which of the two it is.
-use mathlib.Core.Path.{◌∙◌, ap}
+use mathlib.Core.Path.{◌∙◌, ap, sym}
 use Rattle.wing_node.specs.Anew.{anew_from, anew_of}
 use Rattle.wing_node.specs.Writer.{body_effect}
 use Rattle.wing_node.proofs.Refusals.{handed-on}
+use Rattle.wing_node.proofs.Bodies.Walks.{items-read}
 use Rattle.wing_node.proofs.anew.write_anew.Goals as goal
 
 pub returns-in_err-d : goal.returns-in_err-d
@@ -14,3 +15,6 @@ returns-in_err-d c =
 pub returns : goal.returns
 unfolding anew_of
 returns c = c.write_read.ensures ∙ simp (← c.in_ok-d.ensures)
+
+pub write_read-requires : goal.write_read-requires
+write_read-requires c = items-read c.args.body.now _ (sym c.in_ok-d.ensures)

@@ -1,77 +1,112 @@
--- `definition_of` opened is the code's reads one after the other: the contract of each call gives its field, and that of `finish` the refusal or the
--- definition.
+-- `definition_of` opened is the code's reads one after the other: the contract of each call gives its field, or the refusal that is handed on.
 use mathlib.Core.Path.{◌≡◌, refl, ◌∙◌, ap, sym}
+use mathlib.Core.List.{[], ◌∷◌}
 use mir.Syntax.{w32}
 use mir.Val.{to_z, of_z}
 use Prim.Native.Nat.{◌/◌, ◌%◌}
 use lib.Dec.{eqb}
 use Rattle.wing_node.specs.Signed.{signed}
 use Rattle.wing_node.specs.Types.{type_of, unit_of}
-use Rattle.wing_node.specs.Cursor.{number, string, start, read_at, reads, after, short_of}
-use Rattle.wing_node.specs.Definition.{ParentId, Id, Index, Name, LongName, Flags, header, named, past, kind_from, span_of, details_at, parsed_from, definition_of}
-use Rattle.wing_node.specs.declared.cursor.FieldRead.{FieldRead}
-use Rattle.wing_node.specs.declared.cursor.ShortRead.{ShortRead}
-use Rattle.std.specs.Prelude.{Ok, Err}
-use Rattle.wing_node.specs.Refusal.{Fault}
-use Rattle.wing_node.specs.declared.refusal.Refusal.{Refusal}
-use Rattle.wing_node.specs.declared.definition.Definition.{Definition}
-use Rattle.wing_node.specs.declared.definition.DetailsRead.{DetailsRead}
+use Rattle.wing_node.specs.Cursor.{number, string, Cursor, Reading, start, read_at, reads, after}
+use Rattle.wing_node.specs.Definition.{header, named, kind_from, span_of, details_at, parsed_from, definition_of}
 use Rattle.wing_node.proofs.Refusals.{handed-on}
 use borrow.Author.Rules.{rules}
 use Rattle.wing_node.proofs.Numerals.Signs.{reads as read}
+use Rattle.wing_node.proofs.Bodies.Fails.{field-read, field-next, field-fault, short-value, short-next, short-fault, details-read, details-fault, stop, on, parsed-refused, header-stops}
 use Rattle.wing_node.proofs.definition.from_bytes.Goals as goal
 
-taken : (x : Fault) (u : Unit {0}) (d : Definition) → x ≡ Ok u → Ok d ≡ parsed_from x d
-taken x u d e = ap (λ y. parsed_from y d) (sym e)
+pub returns-in_err-parent_id : goal.returns-in_err-parent_id
+returns-in_err-parent_id c =
+    handed-on _ _ c.from_residual.ensures.1 ∙ header-stops _ _
+    (stop (number 4) (number 4 ∷ number 2 ∷ string ∷ string ∷ number 2 ∷ []) _ _ _ (field-fault _ _ c.in_err-parent_id.ensures))
 
-stopped : (x : Fault) (why : Refusal) (d : Definition) → x ≡ Err why → Err why ≡ parsed_from x d
-stopped x why d e = ap (λ y. parsed_from y d) (sym e)
+pub returns-in_err-id : goal.returns-in_err-id
+returns-in_err-id c =
+    handed-on _ _ c.from_residual-in_err-id.ensures.1 ∙ header-stops _ _
+    (on (number 4) (number 4 ∷ number 2 ∷ string ∷ string ∷ number 2 ∷ []) _ _ _ _ (field-next _ _ c.in_ok-parent_id.ensures)
+    (stop (number 4) (number 2 ∷ string ∷ string ∷ number 2 ∷ []) _ _ _ (field-fault _ _ c.in_err-id.ensures)))
 
-pub returns-in_err-next : goal.returns-in_err-next
+pub returns-in_err-index : goal.returns-in_err-index
+returns-in_err-index c =
+    handed-on _ _ c.from_residual-in_err-index.ensures.1 ∙ header-stops _ _
+    (on (number 4) (number 4 ∷ number 2 ∷ string ∷ string ∷ number 2 ∷ []) _ _ _ _ (field-next _ _ c.in_ok-parent_id.ensures)
+    (on (number 4) (number 2 ∷ string ∷ string ∷ number 2 ∷ []) _ _ _ _ (field-next _ _ c.in_ok-id.ensures)
+    (stop (number 2) (string ∷ string ∷ number 2 ∷ []) _ _ _ (short-fault _ _ _ _ c.in_err-index.ensures))))
+
+pub returns-in_err-name : goal.returns-in_err-name
+returns-in_err-name c =
+    handed-on _ _ c.from_residual-in_err-name.ensures.1 ∙ header-stops _ _
+    (on (number 4) (number 4 ∷ number 2 ∷ string ∷ string ∷ number 2 ∷ []) _ _ _ _ (field-next _ _ c.in_ok-parent_id.ensures)
+    (on (number 4) (number 2 ∷ string ∷ string ∷ number 2 ∷ []) _ _ _ _ (field-next _ _ c.in_ok-id.ensures)
+    (on (number 2) (string ∷ string ∷ number 2 ∷ []) _ _ _ _ (short-next _ _ _ _ c.in_ok-index.ensures)
+    (stop string (string ∷ number 2 ∷ []) _ _ _ (field-fault _ _ c.in_err-name.ensures)))))
+
+pub returns-in_err-long_name : goal.returns-in_err-long_name
+returns-in_err-long_name c =
+    handed-on _ _ c.from_residual-in_err-long_name.ensures.1 ∙ header-stops _ _
+    (on (number 4) (number 4 ∷ number 2 ∷ string ∷ string ∷ number 2 ∷ []) _ _ _ _ (field-next _ _ c.in_ok-parent_id.ensures)
+    (on (number 4) (number 2 ∷ string ∷ string ∷ number 2 ∷ []) _ _ _ _ (field-next _ _ c.in_ok-id.ensures)
+    (on (number 2) (string ∷ string ∷ number 2 ∷ []) _ _ _ _ (short-next _ _ _ _ c.in_ok-index.ensures)
+    (on string (string ∷ number 2 ∷ []) _ _ _ _ (field-next _ _ c.in_ok-name.ensures)
+    (stop string (number 2 ∷ []) _ _ _ (field-fault _ _ c.in_err-long_name.ensures))))))
+
+pub returns-in_err-flags : goal.returns-in_err-flags
+returns-in_err-flags c =
+    handed-on _ _ c.from_residual-in_err-flags.ensures.1 ∙ header-stops _ _
+    (on (number 4) (number 4 ∷ number 2 ∷ string ∷ string ∷ number 2 ∷ []) _ _ _ _ (field-next _ _ c.in_ok-parent_id.ensures)
+    (on (number 4) (number 2 ∷ string ∷ string ∷ number 2 ∷ []) _ _ _ _ (field-next _ _ c.in_ok-id.ensures)
+    (on (number 2) (string ∷ string ∷ number 2 ∷ []) _ _ _ _ (short-next _ _ _ _ c.in_ok-index.ensures)
+    (on string (string ∷ number 2 ∷ []) _ _ _ _ (field-next _ _ c.in_ok-name.ensures)
+    (on string (number 2 ∷ []) _ _ _ _ (field-next _ _ c.in_ok-long_name.ensures)
+    (stop (number 2) [] _ _ _ (short-fault _ _ _ _ c.in_err-flags.ensures)))))))
+
+pub returns-in_err-found : goal.returns-in_err-found
 unfolding definition_of reads after
-returns-in_err-next c =
+returns-in_err-found c =
     let body = c.args.body.now in
     let f = named header body start in
-    let parent : c.read_32-parent_id.result ≡ f ParentId = c.read_32-parent_id.ensures in
-    let id : c.read_32-id.result ≡ f Id = c.read_32-id.ensures ∙ ap (λ (r : FieldRead). read_at (number 4) body r.next) parent in
-    let index : c.read_16-index.result ≡ short_of (f Index) = c.read_16-index.ensures ∙ ap (λ (r : FieldRead). short_of (read_at (number 2) body r.next)) id in
-    let name : c.read_string-name.result ≡ f Name = c.read_string-name.ensures ∙ ap (λ (r : ShortRead). read_at string body r.next) index in
-    let long : c.read_string-long_name.result ≡ f LongName = c.read_string-long_name.ensures ∙ ap (λ (r : FieldRead). read_at string body r.next) name in
-    let flags : c.read_16-flags.result ≡ short_of (f Flags) = c.read_16-flags.ensures ∙ ap (λ (r : FieldRead). short_of (read_at (number 2) body r.next)) long in
-    let kind : c.from-kind.result ≡ kind_from f = c.from-kind.ensures ∙ ap (λ (r : ShortRead). type_of (r.value / 16 % 16)) flags in
-    let found : c.read_details-found.result ≡ details_at (kind_from f) body (past header body start) =
-    c.read_details-found.ensures ∙ (λ j. details_at (kind j) body (flags j).next) in
-    handed-on _ _ c.from_residual.ensures.1 ∙ stopped _ _ _ (ap (λ (r : DetailsRead). r.next.fault) (sym found) ∙ c.in_err-next.was)
+    let parent = field-read _ _ c.in_ok-parent_id.ensures in
+    let id = ap (λ (r : Reading). read_at (number 4) body r.next) parent ∙ field-read _ _ c.in_ok-id.ensures in
+    let index = ap (λ (r : Reading). (read_at (number 2) body r.next).value) id ∙ short-value _ _ _ _ c.in_ok-index.ensures in
+    let after-index = ap (λ (r : Reading). (read_at (number 2) body r.next).next) id ∙ short-next _ _ _ _ c.in_ok-index.ensures in
+    let name = ap (λ (k : Cursor). read_at string body k) after-index ∙ field-read _ _ c.in_ok-name.ensures in
+    let long = ap (λ (r : Reading). read_at string body r.next) name ∙ field-read _ _ c.in_ok-long_name.ensures in
+    let flags = ap (λ (r : Reading). (read_at (number 2) body r.next).value) long ∙ short-value _ _ _ _ c.in_ok-flags.ensures in
+    let after-flags = ap (λ (r : Reading). (read_at (number 2) body r.next).next) long ∙ short-next _ _ _ _ c.in_ok-flags.ensures in
+    let kind : kind_from f ≡ c.from-kind.result = ap (λ v. type_of (v / 16 % 16)) flags ∙ sym c.from-kind.ensures in
+    handed-on _ _ c.from_residual-in_err-found.ensures.1 ∙
+    parsed-refused _ _ _ ((λ j. (details_at (kind j) body (after-flags j)).next.fault) ∙ details-fault _ _ c.in_err-found.ensures)
 
 pub returns : goal.returns
 unfolding definition_of reads after
 returns c =
     let body = c.args.body.now in
     let f = named header body start in
-    let parent : c.read_32-parent_id.result ≡ f ParentId = c.read_32-parent_id.ensures in
-    let id : c.read_32-id.result ≡ f Id = c.read_32-id.ensures ∙ ap (λ (r : FieldRead). read_at (number 4) body r.next) parent in
-    let index : c.read_16-index.result ≡ short_of (f Index) = c.read_16-index.ensures ∙ ap (λ (r : FieldRead). short_of (read_at (number 2) body r.next)) id in
-    let name : c.read_string-name.result ≡ f Name = c.read_string-name.ensures ∙ ap (λ (r : ShortRead). read_at string body r.next) index in
-    let long : c.read_string-long_name.result ≡ f LongName = c.read_string-long_name.ensures ∙ ap (λ (r : FieldRead). read_at string body r.next) name in
-    let flags : c.read_16-flags.result ≡ short_of (f Flags) = c.read_16-flags.ensures ∙ ap (λ (r : FieldRead). short_of (read_at (number 2) body r.next)) long in
-    let kind : c.from-kind.result ≡ kind_from f = c.from-kind.ensures ∙ ap (λ (r : ShortRead). type_of (r.value / 16 % 16)) flags in
-    let found : c.read_details-found.result ≡ details_at (kind_from f) body (past header body start) =
-    c.read_details-found.ensures ∙ (λ j. details_at (kind j) body (flags j).next) in
+    let parent = field-read _ _ c.in_ok-parent_id.ensures in
+    let id = ap (λ (r : Reading). read_at (number 4) body r.next) parent ∙ field-read _ _ c.in_ok-id.ensures in
+    let index = ap (λ (r : Reading). (read_at (number 2) body r.next).value) id ∙ short-value _ _ _ _ c.in_ok-index.ensures in
+    let after-index = ap (λ (r : Reading). (read_at (number 2) body r.next).next) id ∙ short-next _ _ _ _ c.in_ok-index.ensures in
+    let name = ap (λ (k : Cursor). read_at string body k) after-index ∙ field-read _ _ c.in_ok-name.ensures in
+    let long = ap (λ (r : Reading). read_at string body r.next) name ∙ field-read _ _ c.in_ok-long_name.ensures in
+    let flags = ap (λ (r : Reading). (read_at (number 2) body r.next).value) long ∙ short-value _ _ _ _ c.in_ok-flags.ensures in
+    let after-flags = ap (λ (r : Reading). (read_at (number 2) body r.next).next) long ∙ short-next _ _ _ _ c.in_ok-flags.ensures in
+    let kind : kind_from f ≡ c.from-kind.result = ap (λ v. type_of (v / 16 % 16)) flags ∙ sym c.from-kind.ensures in
+    let found = (λ j. details_at (kind j) body (after-flags j)) ∙ details-read _ _ c.in_ok-found.ensures in
     let back : to_z w32 (of_z w32 c.cast_signed.result) ≡ c.cast_signed.result = search rules in
     let back2 : to_z w32 (of_z w32 c.cast_signed-2.result) ≡ c.cast_signed-2.result = search rules in
-    let parent-id : to_z w32 (of_z w32 c.cast_signed.result) ≡ signed 31 (f ParentId).value = back ∙ (c.cast_signed.ensures ∙ read w32 refl _) ∙ ap (λ (r : FieldRead). signed 31 r.value) parent in
-    let own-id : to_z w32 (of_z w32 c.cast_signed-2.result) ≡ signed 31 (f Id).value = back2 ∙ (c.cast_signed-2.ensures ∙ read w32 refl _) ∙ ap (λ (r : FieldRead). signed 31 r.value) id in
-    let name-span : c.span_of.result ≡ span_of (f Name) = c.span_of.ensures ∙ ap span_of name in
-    let long-span : c.span_of-2.result ≡ span_of (f LongName) = c.span_of-2.ensures ∙ ap span_of long in
-    let unit : c.from.result ≡ unit_of ((f Flags).value % 16) = c.from.ensures ∙ ap (λ (r : ShortRead). unit_of (r.value % 16)) flags in
-    taken _ _ _ c.in_ok-next.was ∙ (λ j. parsed_from (found j).next.fault (record {
+    let parent-id = ap (λ (r : Reading). signed 31 r.value) parent ∙ sym (back ∙ (c.cast_signed.ensures ∙ read w32 refl _)) in
+    let own-id = ap (λ (r : Reading). signed 31 r.value) id ∙ sym (back2 ∙ (c.cast_signed-2.ensures ∙ read w32 refl _)) in
+    let name-span = ap span_of name ∙ sym c.span_of.ensures in
+    let long-span = ap span_of long ∙ sym c.span_of-2.ensures in
+    let unit = ap (λ v. unit_of (v % 16)) flags ∙ sym c.from.ensures in
+    sym (λ j. parsed_from (found j).next.fault (record {
       parent_id = parent-id j;
       id = own-id j;
-      index = (index j).value;
+      index = index j;
       name = name-span j;
       long_name = long-span j;
       node_type = kind j;
       unit = unit j;
-      read_only = eqb ((flags j).value / 512 % 2) 1;
+      read_only = eqb (flags j / 512 % 2) 1;
       details = (found j).details;
     }))
