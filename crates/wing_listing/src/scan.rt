@@ -23,9 +23,8 @@ fn scan_lines(text: &[u8]) -> Loaded
     let mut number = 2;
     let mut before = None;
     for ended in text.split_inclusive(|b| *b == b'\n') {
-        let line = match ended.strip_suffix(b"\n") {
-            Some(line) => line,
-            None => return bad(Refusal::LineWrong, number),
+        let Some(line) = ended.strip_suffix(b"\n") else {
+            return bad(Refusal::LineWrong, number);
         };
         match judge(line, before) {
             Ok(id) => before = Some(id),

@@ -26,11 +26,11 @@ loop-ended-init c =
     let e : split_inclusive_rest c.into_iter-ended-iterator.result ≡ text = ap split_inclusive_rest c.into_iter-ended-iterator.ensures.into_iter_gives ∙ c.split_inclusive-ended-items.ensures.rest in
     (omega arith, omega (arith, ap length e), ap (λ t. counted 0 (lines_from 2 nothing (parted newline t))) e ∙ counted-all (lines_from 2 nothing (parted newline text)))
 
-pub returns-in-None-strip_suffix : goal.returns-in-None-strip_suffix
-returns-in-None-strip_suffix c =
+pub returns-in_default : goal.returns-in_default
+returns-in_default c =
     let s = c.in-Some.ensures.steps in
     let first = (s.1.2 (λ (a : ℕ). eqb a newline) (always_returns_same _ _ _ (λ x r q k. search (rules, tests)))).1 in
-    let u = turn-unended _ _ _ s.1.0 s.0 s.1.1 first s.2 c.in-None-strip_suffix.ensures.cases c.loop-ended.number (id_before c.loop-ended.before) in
+    let u = turn-unended _ _ _ s.1.0 s.0 s.1.1 first s.2 c.in_default.ensures.cases c.loop-ended.number (id_before c.loop-ended.before) in
     c.bad.ensures ∙ ap (counted (c.loop-ended.number - 2)) (sym u) ∙ c.loop-ended.invariant.2
 
 pub returns-in-Err : goal.returns-in-Err
