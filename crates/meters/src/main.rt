@@ -40,8 +40,8 @@ fn print(
     if INPUT < text.len() {
         return Err(Complaint::TooLong);
     }
-    let rows = packets::by_id(alloc, &text)?;
-    strips::print(alloc, to, fresh, rows)
+    let all = packets::by_id(alloc, text)?;
+    strips::print(alloc, to, fresh, all)
 }
 
 fn run(rt: &HostRuntime) -> Result<(), Complaint> {

@@ -31,7 +31,7 @@ impl<'a, P: Print> Page<'a, P> {
         written.map_err(|_| Complaint::Unwritten)
     }
 
-    pub fn line(&mut self, id: u16, strip: usize, f: Figures) -> Result<(), Complaint> {
+    pub fn line(&mut self, id: u16, strip: u16, f: Figures) -> Result<(), Complaint> {
         if PAGE - LINE < self.text.len() {
             self.flush()?;
         }
@@ -40,7 +40,7 @@ impl<'a, P: Print> Page<'a, P> {
     }
 }
 
-fn put(text: &mut String, id: u16, strip: usize, f: Figures) -> Result<(), AllocError> {
+fn put(text: &mut String, id: u16, strip: u16, f: Figures) -> Result<(), AllocError> {
     let Figures {
         held,
         sum,

@@ -372,7 +372,8 @@ fn readings(text: &mut String, id: u16, count: usize, lent: &[i16]) -> Answered 
 
 // Whether the output is as it was from a place on.
 fn kept_readings(text: &mut String, from: usize, lent: &[i16]) -> Answered {
-    let kept = lent.iter().skip(from).all(|x| *x == READING_MARK) as u8;
+    let past = lent.get(from..).unwrap_or(&[]);
+    let kept = past.iter().all(|x| *x == READING_MARK) as u8;
     write!(text, "{kept}")?;
     Ok(())
 }

@@ -23,6 +23,9 @@ use std::io::{BufRead, BufReader, ErrorKind, Read};
 // The longest line.
 const LINE: usize = 16384;
 
+// One byte more, which tells a longer one.
+const KEPT: u64 = 16385;
+
 // How much of the input is read at once.
 const BUFFER: usize = 65536;
 
@@ -70,6 +73,17 @@ fn print(
     }
 }
 
+// The next line and its newline, if it has one. Of a line that is too long only so much is kept as tells it, and it ends there.
+fn read_line(input: &mut impl BufRead, line: &mut Vec<u8>) -> io::Result<()> {
+    line.clear();
+    input.by_ref().take(KEPT).read_until(b'\n', line)?;
+    if LINE < line.len() && !line.ends_with(b"\n") {
+        input.skip_until(b'\n')?;
+        line.push(b'\n')?;
+    }
+    Ok(())
+}
+
 // Every line of the input. The last one needs no newline.
 fn run(
     alloc: Global,
@@ -82,8 +96,7 @@ fn run(
     let mut line = Vec::new(alloc);
     let mut text = String::new(alloc);
     for _ in 0..u64::MAX {
-        line.clear();
-        let read = input.read_until(b'\n', &mut line);
+        let read = read_line(&mut input, &mut line);
         if read.is_err() {
             println!(stderr; "shell: standard input was not read to its end")?;
         }

@@ -193,9 +193,8 @@ impl Mirror {
         if !table::is_sound(self.table(), count) {
             return tell_refused(text, Refusal::TableUnsound);
         }
-        let fill = self.fill;
         let records = count.saturating_mul(PLACE);
-        let clean = show::clean(self.memory.iter().skip(records).all(|b| *b == fill));
+        let clean = show::clean(show::all_same(&self.memory, records, self.fill));
         write!(text, "{count} records {clean}")?;
         for place in self.table().chunks(PLACE).take(count) {
             text.push(' ')?;

@@ -29,7 +29,8 @@ fn set_good(s: &[u8]) -> Option<usize> {
 
 // 01: d1, the length minus 1, and the bytes, each df followed by de.
 fn token_of(alloc: Global, s: &[u8]) -> Result<Vec<u8>, AllocError> {
-    let mut token = vec![in alloc; 0xd1, 0xff]?;
+    let mut token = Vec::with_capacity(alloc, 2 + 2 * STRING)?;
+    token.extend_from_slice(&[0xd1, 0xff])?;
     for b in s {
         token.push(*b)?;
         if *b == 0xdf {

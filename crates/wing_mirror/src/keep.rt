@@ -14,9 +14,10 @@ ghost use Rattle.wing_mirror.specs.Tally.{tally_of};
 use crate::answer::Counts;
 use crate::counts::{Mark, body_mark, refusal_mark, tick};
 use crate::origin::Origin;
-use crate::record::record_of;
+use crate::record::lay_record;
 use crate::store::put;
 use wing_node::value::Value;
+use wing_wire::state::State;
 use wing_wire::unit::Answer;
 
 // The number of records and the counts of a feed so far.
@@ -26,12 +27,15 @@ pub struct Tally {
     pub counts: Counts,
 }
 
-// 01: a value is stored at its node, or has no place. 02: it came from the console.
+// 01: a value is stored at its node, or has no place. 02: it came from the console. A function of its own in the compiled code too: inside the
+// feed's loop the search's loop ran slower.
+#[inline(never)]
 fn keep_value(table: &mut [u8], t: &mut Tally, node: i32, value: Value, string: &[u8])
     requires { (usable full (table_of table.old t.old.count) ≡ true) × (total t.old.counts < 4294967295) × (too_long (node_value value string.now) ≡ false) }
     ensures { tally_of t.new table.new ≡ keep_event full node (value_event (node_value value string.now)) (tally_of t.old table.old) }
 {
-    let rec = record_of(node, value, string, Origin::Console);
+    let mut rec = [0u8; State::PLACE_WIDTH];
+    lay_record(&mut rec, node, value, string, Origin::Console);
     match put(table, t.count, &rec) {
         Some(count) => {
             t.count = count;

@@ -37,24 +37,21 @@ fn search_down<const W: usize>(table: &[u8], count: usize, key: u32) -> Counted
     requires { InOrder W (table_of table.now count) }
     ensures { result ≡ counted_of key_of key (records W count table.now) }
 {
+    let mut position = Err(count);
+    let mut reads = 0;
     for number in (0..count).rev() {
         let last = key_at::<W>(table, number);
-        if last == key {
-            return Counted {
-                position: Ok(number),
-                reads: count - number,
-            };
-        }
+        reads += 1;
         if last < key {
-            let position = Err(number + 1);
-            let reads = count - number;
             return Counted { position, reads };
         }
+        if last == key {
+            let position = Ok(number);
+            return Counted { position, reads };
+        }
+        position = Err(number);
     }
-    Counted {
-        position: Err(0),
-        reads: count,
-    }
+    Counted { position, reads }
 }
 
 // Where a key stands; callers have no use for the count.

@@ -1,11 +1,11 @@
 // A record of the table, 264 bytes: where it stands in the order, whether it has 01's form, what it holds, and how one is laid.
-ghost use Rattle.std.specs.Prelude.{◌≡◌, false, ◌≤◌, length, take};
+ghost use Rattle.std.specs.Prelude.{◌≡◌, false, ◌≤◌, length, take, replicate};
 ghost use Rattle.wing_node.specs.Field.{bytes_of};
 ghost use Rattle.wing_node.specs.Value.{node_value};
 ghost use Rattle.wing_mirror.specs.Entry.{flipped, rank_of, entry};
 ghost use Rattle.wing_mirror.specs.Call.{too_long};
 ghost use Rattle.wing_mirror.specs.Origin.{origin_of};
-ghost use Rattle.wing_mirror.specs.Record.{key_of, string_kept, well_kept, well_formed, id_in, payload_in, value_in, origin_byte, record_of, head_from, laid_from};
+ghost use Rattle.wing_mirror.specs.Record.{width, key_of, string_kept, well_kept, well_formed, id_in, payload_in, value_in, origin_byte, record_of, head_from, laid_from};
 
 use crate::bytes;
 use crate::origin::Origin;
@@ -129,17 +129,16 @@ fn lay_head(out: &mut Record, id: i32, origin: Origin)
     out[5] = u8::from(origin);
 }
 
-// The record of an id, a value and its origin; a string's bytes stand beside its length.
-pub(crate) fn record_of(id: i32, value: Value, string: &[u8], origin: Origin) -> Record
-    requires { too_long (node_value value string.now) ≡ false }
-    ensures { result ≡ record_of (entry id (node_value value string.now) origin) }
+// The record of an id, a value and its origin, laid over zeros; a string's bytes stand beside its length. Into an array that is lent: by value it
+// was copied twice for each value of a feed.
+pub(crate) fn lay_record(out: &mut Record, id: i32, value: Value, string: &[u8], origin: Origin)
+    requires { (out.old ≡ replicate width 0) × (too_long (node_value value string.now) ≡ false) }
+    ensures { out.new ≡ record_of (entry id (node_value value string.now) origin) }
 {
-    let mut out = [0u8; State::PLACE_WIDTH];
-    lay_head(&mut out, id, origin);
+    lay_head(out, id, origin);
     match value {
-        Value::Integer(x) => lay_number(&mut out, 0, x.cast_unsigned()),
-        Value::Float(bits) => lay_number(&mut out, 1, bits),
-        Value::String(n) => lay_string(&mut out, string, n),
+        Value::Integer(x) => lay_number(out, 0, x.cast_unsigned()),
+        Value::Float(bits) => lay_number(out, 1, bits),
+        Value::String(n) => lay_string(out, string, n),
     }
-    out
 }

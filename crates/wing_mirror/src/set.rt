@@ -11,12 +11,13 @@ ghost use Rattle.wing_node.specs.declared.refusal.Refusal.TheVariants.{TableUnso
 
 use crate::answer::SetReply;
 use crate::origin::Origin;
-use crate::record::{Record, record_of};
+use crate::record::{Record, lay_record};
 use crate::send::send;
 use crate::store::{has_room, put};
 use crate::table::is_usable;
 use wing_node::refusal::{Refusal, string_fault};
 use wing_node::value::Value;
+use wing_wire::state::State;
 
 fn refused(why: Refusal, count: usize) -> SetReply
     ensures { result ≡ refused_set_reply why count }
@@ -38,10 +39,13 @@ fn keep_written(
     ensures { replied result table.new ≡ kept_of full written rec.now (table_of table.old count) }
 {
     match written {
-        Ok(n) => SetReply {
-            answer: Ok(n),
-            count: put(table, count, rec).unwrap_or(count),
-        },
+        Ok(n) => {
+            let kept = put(table, count, rec).unwrap_or(count);
+            SetReply {
+                answer: Ok(n),
+                count: kept,
+            }
+        }
         Err(why) => refused(why, count),
     }
 }
@@ -59,7 +63,8 @@ fn set_value(
     ensures { set_effect result out.new table.new ≡ mirror_set full id (node_value value string.now) (table_of table.old count) out.old }
 {
     if is_usable(table, count) {
-        let rec = record_of(id, value, string, Origin::SetOrder);
+        let mut rec = [0u8; State::PLACE_WIDTH];
+        lay_record(&mut rec, id, value, string, Origin::SetOrder);
         if has_room(table, count, &rec) {
             let written = send(out, id, value, string);
             return keep_written(table, count, &rec, written);

@@ -18,13 +18,13 @@ pub trait BigEndian: Copy + Default {
 
     const WIDTH: usize;
 
+    // The value in the first bytes, that of 0 where they are fewer.
     fn of_bytes(bytes: &[u8]) -> Self
-        requires { length bytes.now ≡ WIDTH }
-        ensures { result ≡ value (big bytes.now) };
+        ensures { result ≡ value (field_at WIDTH bytes.now 0) };
 
+    // Over the first bytes; where they are fewer, nothing is laid.
     fn lay_over(self, out: &mut [u8])
-        requires { length out.old ≡ WIDTH }
-        ensures { out.new ≡ bytes_of WIDTH (bits self) };
+        ensures { out.new ≡ (put_at (bytes_of WIDTH (bits self)) 0 out.old).bytes };
 
     ghost takes_bytes: { 0 < WIDTH };
 
@@ -41,11 +41,16 @@ impl BigEndian for u16 {
     const WIDTH: usize = 2;
 
     fn of_bytes(bytes: &[u8]) -> u16 {
+        if bytes.len() < 2 {
+            return 0;
+        }
         u16::from_be_bytes([bytes[0], bytes[1]])
     }
 
     fn lay_over(self, out: &mut [u8]) {
-        out.copy_from_slice(&self.to_be_bytes());
+        if 2 <= out.len() {
+            out[..2].copy_from_slice(&self.to_be_bytes());
+        }
     }
 
     ghost takes_bytes = { Prim.search rules };
@@ -63,11 +68,16 @@ impl BigEndian for u32 {
     const WIDTH: usize = 4;
 
     fn of_bytes(bytes: &[u8]) -> u32 {
+        if bytes.len() < 4 {
+            return 0;
+        }
         u32::from_be_bytes([bytes[0], bytes[1], bytes[2], bytes[3]])
     }
 
     fn lay_over(self, out: &mut [u8]) {
-        out.copy_from_slice(&self.to_be_bytes());
+        if 4 <= out.len() {
+            out[..4].copy_from_slice(&self.to_be_bytes());
+        }
     }
 
     ghost takes_bytes = { Prim.search rules };

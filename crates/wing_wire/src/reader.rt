@@ -25,7 +25,10 @@ pub fn copy_front(out: &mut [u8], s: &[u8], n: usize)
     ensures { out.new ≡ over (take n s.now) out.old }
 {
     let most = n.min(s.len()).min(out.len());
-    out[..most].copy_from_slice(&s[..most]);
+    // By a loop: a slice's own copy would make the archive for C need memmove.
+    for i in 0..most {
+        out[i] = s[i];
+    }
 }
 
 // The first n bytes of the store, zero-filled.

@@ -1,28 +1,28 @@
 -- The library's big-endian bytes of a number are its digits in base 256.
-use mathlib.Core.Path.{◌≡◌, refl}
+use mathlib.Core.Path.{◌≡◌, refl, sym, ◌∙◌, ap}
 use mathlib.Core.List.{List, [], ◌∷◌}
-use Prim.Native.Nat.{ℕ, ◌/◌}
+use Prim.Native.Nat.{ℕ, ◌/◌, ◌≤◌}
 use native.Mathlib.Omega.{arith}
 use lib.ListN.{length, get_or}
 use Rattle.std.specs.Int.{w16, w32, from_be_bytes, to_be_bytes}
 use Rattle.wing_node.specs.Digits.{number_in, number_from, digits_in}
-use Rattle.wing_node.specs.Field.{big, bytes_of}
+use Rattle.wing_node.specs.Field.{big, bytes_of, field_at}
+use Rattle.wing_node.proofs.Numerals.Placed.{field-whole, two_bytes, four_bytes}
 
-pub from_two : (s : List ℕ) → length s ≡ 2 → from_be_bytes w16 (get_or s 0 0 ∷ get_or s 1 0 ∷ []) ≡ big s
+-- the number of the first bytes, of which there are enough
+pub from_two : (s : List ℕ) → 2 ≤ length s → from_be_bytes w16 (get_or s 0 0 ∷ get_or s 1 0 ∷ []) ≡ field_at 2 s 0
 unfolding number_in number_from
-from_two [] h = absurd (omega arith)
-from_two (a ∷ []) h = absurd (omega arith)
-from_two (a ∷ b ∷ []) h = omega arith
-from_two (a ∷ b ∷ c ∷ s) h = absurd (omega arith)
+from_two s h =
+    let e : from_be_bytes w16 (get_or s 0 0 ∷ get_or s 1 0 ∷ []) ≡ big (get_or s 0 0 ∷ get_or s 1 0 ∷ []) = omega arith in
+    e ∙ sym (field-whole 2 s 0 (omega arith) ∙ ap big (two_bytes s 0 (omega arith)))
 
-pub from_four : (s : List ℕ) → length s ≡ 4 → from_be_bytes w32 (get_or s 0 0 ∷ get_or s 1 0 ∷ get_or s 2 0 ∷ get_or s 3 0 ∷ []) ≡ big s
+pub from_four : (s : List ℕ) → 4 ≤ length s →
+    from_be_bytes w32 (get_or s 0 0 ∷ get_or s 1 0 ∷ get_or s 2 0 ∷ get_or s 3 0 ∷ []) ≡ field_at 4 s 0
 unfolding number_in number_from
-from_four [] h = absurd (omega arith)
-from_four (a ∷ []) h = absurd (omega arith)
-from_four (a ∷ b ∷ []) h = absurd (omega arith)
-from_four (a ∷ b ∷ c ∷ []) h = absurd (omega arith)
-from_four (a ∷ b ∷ c ∷ d ∷ []) h = omega arith
-from_four (a ∷ b ∷ c ∷ d ∷ e ∷ s) h = absurd (omega arith)
+from_four s h =
+    let bs = get_or s 0 0 ∷ get_or s 1 0 ∷ get_or s 2 0 ∷ get_or s 3 0 ∷ [] in
+    let e : from_be_bytes w32 bs ≡ big bs = omega arith in
+    e ∙ sym (field-whole 4 s 0 (omega arith) ∙ ap big (four_bytes s 0 (omega arith)))
 
 pub to_two : (n : ℕ) → to_be_bytes w16 n ≡ bytes_of 2 n
 unfolding digits_in

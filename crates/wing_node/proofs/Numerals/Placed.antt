@@ -1,14 +1,14 @@
 -- Fields at places: what reading and writing give, case by case, at any width.
 use mathlib.Core.Path.{◌≡◌, refl, ◌∙◌, ap, sym}
 use mathlib.Core.Bool.{Bool, true, false}
-use mathlib.Core.List.{List, [], ◌∷◌, ◌++◌, append_assoc}
+use mathlib.Core.List.{List, [], ◌∷◌, ◌++◌, append_assoc, append-nil}
 use Prim.Native.Nat.{ℕ, suc, ◌+◌, ◌-◌, ◌^◌, ◌≤◌, ◌<◌}
 use native.Mathlib.Omega.{arith}
 use native.Mathlib.Nat.{add-zero}
 use native.Mathlib.Numerals.{add-one}
 use lib.Dec.{ltb}
 use lib.ListN.{length, take, drop, get_or, set, length-append, length-drop, take-append-drop}
-use lib.Seq.{take-suc, drop-cons, sets, sets-eq, drop_at, drop-drop, length-take-le, take-append_seam}
+use lib.Seq.{take-suc, drop-cons, sets, sets-eq, drop_at, drop-drop, drop-length, length-take-le, take_all, take-append_seam}
 use borrow.Author.Tests.{lt-ltb, le-ltb, ltb-false}
 use borrow.Rule.Slice.PartMut.{put_mid}
 use Rattle.wing_node.specs.Bytes.{placed}
@@ -39,6 +39,36 @@ take_more n s i h = rw (add-one i, drop-cons s i 0 h)
 
 pub two_bytes : (s : List ℕ) (i : ℕ) → 2 ≤ length s - i → take 2 (drop i s) ≡ get_or s i 0 ∷ get_or s (i + 1) 0 ∷ []
 two_bytes s i h = rw (take_more 1 s i (omega arith), take_more 0 s (i + 1) (omega arith))
+
+pub four_bytes : (s : List ℕ) (i : ℕ) → 4 ≤ length s - i →
+    take 4 (drop i s) ≡ get_or s i 0 ∷ get_or s (i + 1) 0 ∷ get_or s (i + 2) 0 ∷ get_or s (i + 3) 0 ∷ []
+four_bytes s i h =
+    let e : i + 1 + 1 ≡ i + 2 = omega arith in
+    let e' : i + 2 + 1 ≡ i + 3 = omega arith in
+    rw (take_more 3 s i (omega arith), take_more 2 s (i + 1) (omega arith), e, take_more 1 s (i + 2) (omega arith), e', take_more 0 s (i + 3) (omega arith))
+
+-- bytes in the place of a part of the output that is as long
+pub part-sets : (d s : List ℕ) (at n : ℕ) → n ≡ length s → at + n ≤ length d → put_mid at n d s ≡ sets d at s
+part-sets d s at n e h = rw (drop-drop, e) (sym (sets-eq s d at (omega arith) ∙ append_assoc (take at d) s (drop (at + length s) d)))
+
+-- a number in the part that it takes
+pub field-there : (w at k : ℕ) (s : List ℕ) → k ≡ w → w ≤ length s - at → field_at w (take k (drop at s)) 0 ≡ field_at w s at
+field-there w at k s e h =
+    let l : length (take w (drop at s)) ≡ w = length-take-le w (drop at s) (omega (arith, length-drop at s)) in
+    rw e (field-whole w (take w (drop at s)) 0 (omega (arith, l)) ∙ ap big (take_all w (take w (drop at s)) (omega (arith, l))) ∙ sym (field-whole w s at h))
+
+-- a number laid over a part that is as long, and over the front of more
+pub put-over : (bs s : List ℕ) → 0 < length bs → length s ≡ length bs → (put_at bs 0 s).bytes ≡ bs
+put-over bs s some h =
+    let z : 0 + length bs ≡ length s = omega (arith, h) in
+    ap (λ p. p.bytes) (put_whole bs 0 s some (omega arith)) ∙ sets-eq bs s 0 (omega arith) ∙
+    ap (λ r. bs ++ r) (ap (λ k. drop k s) z ∙ drop-length s) ∙ append-nil bs
+
+pub put-front : (w n : ℕ) (s : List ℕ) → 0 < w → w ≤ length s → put_mid 0 w s (bytes_of w n) ≡ (put_at (bytes_of w n) 0 s).bytes
+put-front w n s some h =
+    let bs = bytes_of w n in
+    let l : length bs ≡ w = length-digits_in 256 w n in
+    part-sets s bs 0 w (sym l) (omega arith) ∙ sym (ap (λ p. p.bytes) (put_whole bs 0 s (omega (arith, l)) (omega (arith, l))))
 
 -- the bytes written from a place on, read from there
 placed-read : (s : List ℕ) (at : ℕ) (bs : List ℕ) → at ≤ length s → take (length bs) (drop at (placed s at bs)) ≡ bs
@@ -83,10 +113,6 @@ sets-append [] ws l i = rw (add-zero i)
 sets-append (v ∷ vs) ws l i =
     let z : i + suc (length vs) ≡ suc i + length vs = omega arith in
     rw z (sets-append vs ws (set l i v) (suc i))
-
--- bytes in the place of a part of the output that is as long
-pub part-sets : (d s : List ℕ) (at n : ℕ) → n ≡ length s → at + n ≤ length d → put_mid at n d s ≡ sets d at s
-part-sets d s at n e h = rw (drop-drop, e) (sym (sets-eq s d at (omega arith) ∙ append_assoc (take at d) s (drop (at + length s) d)))
 
 -- a turn of a loop that lays bytes
 pub lay-more : (out src : List ℕ) (at i : ℕ) → i < length src → set (sets out at (take i src)) (at + i) (get_or src i 0) ≡ sets out at (take (i + 1) src)

@@ -1,4 +1,4 @@
--- The contract of `record_of` gives the value's record and that of `put` whether it was taken, which are the two branches of `keep_event`
+-- The contract of `lay_record` gives the value's record and that of `put` whether it was taken, which are the two branches of `keep_event`
 -- (`put-kept`).
 use mathlib.Core.Path.{refl, ◌∙◌, ap}
 use mathlib.Core.Bool.{true, false}
@@ -23,13 +23,13 @@ put-requires c =
 pub returns-in-Some : goal.returns-in-Some
 returns-in-Some c =
     let v = node_value c.args.value c.args.string.now in
-    let e = c.record_of-rec.ensures ∙ ap (λ (x : ℤ). record_of (entry x v Console)) (to_z-of_z c.ranges.node) in
+    let e = c.lay_record.ensures ∙ ap (λ (x : ℤ). record_of (entry x v Console)) (to_z-of_z c.ranges.node) in
     let t = table c.args.table.now c.args.t.now.count in
-    rw c.tick.ensures (put-kept full c.args.node v t c.args.t.now.counts c.record_of-rec.result (record { after = table c.put.new.table c.in-Some.count; taken = true }) refl e (◌∙◌ {b = put_row 264 c.record_of-rec.result t} c.in-Some.ensures (put_is c.record_of-rec.result t)))
+    rw c.tick.ensures (put-kept full c.args.node v t c.args.t.now.counts c.lay_record.new.out (record { after = table c.put.new.table c.in-Some.count; taken = true }) refl e (◌∙◌ {b = put_row 264 c.lay_record.new.out t} c.in-Some.ensures (put_is c.lay_record.new.out t)))
 
 pub returns-in-None : goal.returns-in-None
 returns-in-None c =
     let v = node_value c.args.value c.args.string.now in
-    let e = c.record_of-rec.ensures ∙ ap (λ (x : ℤ). record_of (entry x v Console)) (to_z-of_z c.ranges.node) in
+    let e = c.lay_record.ensures ∙ ap (λ (x : ℤ). record_of (entry x v Console)) (to_z-of_z c.ranges.node) in
     let t = table c.args.table.now c.args.t.now.count in
-    rw c.tick-in-None.ensures (put-kept full c.args.node v t c.args.t.now.counts c.record_of-rec.result (record { after = table c.put.new.table c.args.t.now.count; taken = false }) refl e (◌∙◌ {b = put_row 264 c.record_of-rec.result t} c.in-None.ensures (put_is c.record_of-rec.result t)))
+    rw c.tick-in-None.ensures (put-kept full c.args.node v t c.args.t.now.counts c.lay_record.new.out (record { after = table c.put.new.table c.args.t.now.count; taken = false }) refl e (◌∙◌ {b = put_row 264 c.lay_record.new.out t} c.in-None.ensures (put_is c.lay_record.new.out t)))

@@ -1,4 +1,5 @@
 -- Each arm is the line of `kept_of` with that variant, by the contracts of `put` and `refused`.
+use Prim.Native.Nat.{ℕ}
 use Rattle.wing_mirror.specs.Sets.{kept_of}
 use Rattle.wing_mirror.specs.Puts.{PutEffect}
 use Rattle.wing_mirror.specs.Table.{table}
@@ -18,9 +19,11 @@ put-requires c =
 pub returns-in-Ok : goal.returns-in-Ok
 unfolding kept_of
 returns-in-Ok c =
-    let u : c.unwrap_or.result ≡ unwrap_or c.put.result c.args.count = search rules in
+    let u : c.unwrap_or-kept.result ≡ unwrap_or c.put.result c.args.count = search rules in
     let d = effect-count c.args.count c.put.result c.put.new.table in
-    rw (c.in-Ok.is, u) (ap (λ (t : Table). record { answer = Ok c.in-Ok.n; after = t }) (d ∙ ap (λ (d : PutEffect). d.after) (c.put.ensures ∙ put_is c.args.rec.now (table c.args.table.now c.args.count))))
+    rw c.in-Ok.is
+    (ap (λ (k : ℕ). record { answer = Ok c.in-Ok.n; after = table c.put.new.table k }) u ∙
+    ap (λ (t : Table). record { answer = Ok c.in-Ok.n; after = t }) (d ∙ ap (λ (e : PutEffect). e.after) (c.put.ensures ∙ put_is c.args.rec.now (table c.args.table.now c.args.count))))
 
 pub returns-in-Err : goal.returns-in-Err
 unfolding kept_of

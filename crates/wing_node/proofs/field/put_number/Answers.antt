@@ -1,13 +1,14 @@
--- Without room nothing is put (`put-short`); else the number's bytes stand in the place of that part (`part-sets`).
+-- Without room nothing is put (`put-short`); else the number's bytes stand (`put-over`) in the place of that part (`part-sets`).
 use mathlib.Core.Path.{◌≡◌, sym, ◌∙◌, ap}
 use mathlib.Core.Bool.{true}
 use Prim.Native.Nat.{◌+◌, ◌-◌}
 use native.Mathlib.Omega.{arith}
-use lib.ListN.{length}
+use lib.ListN.{length, take, drop, length-drop}
+use lib.Seq.{length-take-le}
 use borrow.Rule.Slice.PartMut.{put_mid}
 use Rattle.wing_node.specs.Field.{bytes_of, put}
 use Rattle.wing_node.proofs.Numerals.Numbers.{length-digits_in}
-use Rattle.wing_node.proofs.Numerals.Placed.{put-short, put_whole, part-sets}
+use Rattle.wing_node.proofs.Numerals.Placed.{put-short, put_whole, put-over, part-sets}
 use Rattle.wing_node.proofs.field.put_number.Goals as goal
 
 pub returns-then-left-WIDTH : goal.returns-then-left-WIDTH
@@ -25,6 +26,8 @@ returns g c =
     let l : length bs ≡ w = length-digits_in 256 w (g.T.BigEndian.bits c.args.n) in
     let some = g.met.T.BigEndian.takes_bytes in
     let k : at + c.WIDTH-2.result - at ≡ length bs = omega (arith, c.WIDTH-2.ensures, l) in
-    ap (λ x. put true (put_mid at (at + c.WIDTH-2.result - at) out x)) c.lay_over.ensures ∙
+    let e : length (take (at + c.WIDTH-2.result - at) (drop at out)) ≡ length bs =
+    length-take-le _ (drop at out) (omega (arith, c.WIDTH.ensures, k, l, length-drop at out)) ∙ k in
+    ap (λ x. put true (put_mid at (at + c.WIDTH-2.result - at) out x)) (c.lay_over.ensures ∙ put-over bs _ (omega (arith, some, l)) e) ∙
     ap (put true) (part-sets out bs at _ k (omega (arith, c.WIDTH.ensures, c.WIDTH-2.ensures, some))) ∙
     sym (put_whole bs at out (omega (arith, some, l)) (omega (arith, c.WIDTH.ensures, l)))

@@ -1,14 +1,12 @@
--- The part of the output at that place becomes the bytes (`part-sets`).
-use mathlib.Core.Path.{◌≡◌, refl, ◌∙◌, ap}
-use Prim.Native.Nat.{◌+◌, ◌-◌}
+-- The invariant: the first i bytes of src stand from the place on; a turn lays one more (`lay-more`).
+use mathlib.Core.Path.{◌∙◌}
 use native.Mathlib.Omega.{arith}
-use lib.ListN.{length}
-use borrow.Rule.Slice.PartMut.{put_mid}
-use Rattle.wing_node.proofs.Numerals.Placed.{part-sets}
+use lib.ListN.{length-set}
+use Rattle.wing_node.proofs.Numerals.Placed.{lay-more}
 use Rattle.wing_node.proofs.writer.lay.Goals as goal
 
-pub returns : goal.returns
-returns c =
+pub loop-i-preserved : goal.loop-i-preserved
+loop-i-preserved c =
     let args = c.args in
-    let n : args.at + length args.src.now - args.at ≡ length args.src.now = omega arith in
-    (refl, ap (put_mid args.at (args.at + length args.src.now - args.at) args.out.now) c.copy_from_slice.ensures.after ∙ part-sets args.out.now args.src.now args.at _ n (omega arith))
+    let i = c.loop-i.i in
+    (simp length-set c.loop-i.invariant.0, rw c.loop-i.invariant.1 (lay-more args.out.now args.src.now args.at i c.loop-i-test.true))
