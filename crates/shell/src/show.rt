@@ -27,7 +27,7 @@ impl<T: Drop> From<AllocFailed<T>> for Unanswered {
 
 pub type Answered = Result<(), Unanswered>;
 
-// How many bytes are spelled at a time: with a write! for each, spelling took nine times as long.
+// How many bytes are spelled at a time: with a write! for each, spelling took over ten times as long.
 const SPELLED: usize = 32;
 
 const DIGITS: &[u8; 16] = b"0123456789abcdef";

@@ -100,7 +100,7 @@ impl<'a> Words<'a> {
             return Err(Unanswered::Form);
         }
         all.truncate(most);
-        // What is there is doubled at each turn: a copy for each time would take twice as long where the bytes are few.
+        // What is there is doubled at each turn: a copy for each time takes far longer where the bytes are few.
         for _ in 0..usize::BITS {
             let more = most.saturating_sub(all.len());
             all.extend_from_within(..more.min(all.len()))?;

@@ -15,7 +15,7 @@ pub(crate) fn open_gap(buf: &mut [u8], from: usize, end: usize, w: usize)
     requires { (from ≤ end) × (end + w ≤ length buf.old) }
     ensures { buf.new ≡ take (from + w) buf.old ++ (take (end - from) (drop from buf.old) ++ drop (end + w) buf.old) }
 {
-    // A loop, since a slice's own move took some 1.7 times as long: it is not told the width.
+    // A loop: with a slice's own move a feed of falling ids took more instructions.
     for i in (from..end).rev() {
         buf[i + w] = buf[i];
     }

@@ -3,7 +3,7 @@
 ghost use Rattle.std.specs.Prelude.{ℕ, ◌≡◌, ◌-◌, ◌<◌, ◌^◌, length, refl};
 ghost use Rattle.std.proofs.Common.{rules};
 ghost use Rattle.wing_node.specs.Signed.{signed, unsigned};
-ghost use Rattle.wing_node.specs.Field.{big, bytes_of, field_at, put, put_at};
+ghost use Rattle.wing_node.specs.Field.{bytes_of, field_at, put, put_at};
 
 // A number that stands in bytes, the most significant first.
 pub trait BigEndian: Copy + Default {

@@ -1,6 +1,4 @@
 -- The invariant: the first i bytes of src stand from the place on; a turn lays one more (`lay-more`).
-use mathlib.Core.Path.{◌∙◌}
-use native.Mathlib.Omega.{arith}
 use lib.ListN.{length-set}
 use Rattle.wing_node.proofs.Numerals.Placed.{lay-more}
 use Rattle.wing_node.proofs.writer.lay.Goals as goal
